@@ -1,5 +1,5 @@
 //! The polygon of a face.
-ghost use Rattle.std.specs.Prelude.{◌≡◌, [], ◌∷◌};
+ghost use Rattle.std.specs.Prelude.{◌≡◌, ◌<◌, ◌^◌, [], ◌∷◌, length};
 ghost use Rattle.qh_model.specs.contract.ClosedPolygons.{steps_round};
 ghost use Rattle.qh_model.specs.contract.FaceTriangles.{face_triangles};
 
@@ -70,7 +70,8 @@ impl Polygon {
 
     /// Returns the sides, from the one between the first two ids on. The last side ends at the first id.
     pub fn sides(&self) -> Sides<'_>
-        ensures { result ≡ steps_round self.now }
+        ensures sides { result ≡ steps_round self.now }
+        ensures few { length (steps_round self.now) < 2 ^ 64 }
     {
         Sides::of(self.ids())
     }

@@ -1,5 +1,5 @@
 //! The walk along the sides of a polygon.
-ghost use Rattle.std.specs.Prelude.{◌≡◌};
+ghost use Rattle.std.specs.Prelude.{◌≡◌, ◌<◌, ◌^◌, length};
 ghost use Rattle.std.specs.Iterator.{YieldsFirst, item_count};
 ghost use Rattle.qh_model.specs.contract.ClosedPolygons.{steps_round};
 
@@ -28,9 +28,11 @@ impl<'a> Model for Sides<'a> {
 }
 
 impl<'a> Sides<'a> {
-    /// Returns the sides of the polygon of a list of ids: as many as there are ids.
+    /// Returns the sides of the polygon of a list of ids: one for each id.
+    #[tactic(auto, using(crate::proofs::polygons::Steps::length_steps))]
     pub fn of(ids: &'a [Id]) -> Sides<'a>
-        ensures { result ≡ steps_round ids.now }
+        ensures sides { result ≡ steps_round ids.now }
+        ensures few { length (steps_round ids.now) < 2 ^ 64 }
     {
         match ids {
             [first, along @ ..] => Sides {

@@ -1,12 +1,12 @@
 -- Each supporting plane of a set is spanned by extreme ids.
-use Rattle.std.proofs.Common.{◌≡◌, ℕ, sym, ◌∙◌, ◌⊎◌, inl, inr, List}
+use Rattle.std.proofs.Common.{◌≡◌, ℕ, sym, ◌∙◌, ◌⊎◌, inl, inr}
 use Rattle.std.specs.Prelude.{pos, ◌*ℤ◌}
 use Rattle.qh_model.specs.headline.{Dimension.HasTriangle, Extreme.Extreme, Predicates.cross, Predicates.vol, Predicates.AreInLine, Sets.Members}
 use Rattle.qh_model.specs.headline.{SupportingPlane.Supports, SupportingPlane.OnPlane, Vector.Vector}
 use Rattle.qh_model.specs.laws.FaceLaws.{IsAlong, SpannedByExtremes, PlanesOfExtremes}
 use Rattle.qh_model.proofs.algebra.{Order.zero_or_not, VectorIdentities.vol-first, VectorIdentities.vol-second, VectorIdentities.vol-third}
 use Rattle.qh_model.proofs.extremes.{Dimensions.triangle_of, Directions.at_most_along, Directions.zero_along, Directions.normal_along, Directions.in_line-flip}
-use Rattle.qh_model.proofs.extremes.{Directions.from_plane, Directions.vol_along, ExtremeIds.Listed, ExtremeIds.listed_itself, ExtremeIds.listed_part}
+use Rattle.qh_model.proofs.extremes.{Directions.from_plane, Directions.vol_along, ExtremeIds.listed_itself, ExtremeIds.listed_part}
 use Rattle.qh_model.proofs.extremes.{ExtremeIds.combination_of_extremes, Faces.extremes_of_face}
 
 -- a triangle of extremes in the plane, with its direction, spans it

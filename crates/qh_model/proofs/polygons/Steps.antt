@@ -1,5 +1,5 @@
 -- The faces of a solid close up: one face takes each step along an edge, and another the step back.
-use Rattle.std.proofs.Common.{◌≡◌, ℕ, ◌≤◌, arith, refl, sym, ap, subst, ◌∙◌, inl, inr, List, [], ◌∷◌}
+use Rattle.std.proofs.Common.{◌≡◌, ℕ, suc, ◌≤◌, length, arith, refl, sym, ap, subst, ◌∙◌, inl, inr, List, [], ◌∷◌}
 use Rattle.std.specs.{List.flat_map, Prelude.◌↔◌}
 use Rattle.qh_model.specs.contract.{ClosedPolygons.steps_along, ClosedPolygons.steps_round, ClosedPolygons.step_count, ClosedSurface.is_edge}
 use Rattle.qh_model.specs.headline.{Polygon.FollowsAlong, Polygon.Follows, Polygons.ComesBefore, Sets.In, Sets.Once}
@@ -7,6 +7,15 @@ use Rattle.qh_model.specs.laws.ClosedFaceLaws.{FacesClose}
 use Rattle.qh_model.proofs.{closed_surfaces.SignedVolume.back, closed_surfaces.SignedVolume.is_edge-back, lists.Counts.count_twins, lists.Joined.once_append}
 use Rattle.qh_model.proofs.lists.{Joined.in_flat_map, Joined.of_flat_map, Lexicographic.before-asymmetric, Lexicographic.rising-ordered, Ordered.Ordered}
 use Rattle.qh_model.proofs.polygons.{Edges.one_face_each_way, Neighbours.along_members, OtherFace.other_face}
+
+-- there is a step for each corner
+pub length_steps : (q : List ℕ) → length (steps_round q) ≡ length q
+length_steps [] = refl
+length_steps (t ∷ r) = along t r t
+  where
+    along : (t : ℕ) (r : List ℕ) (e : ℕ) → length (steps_along t r e) ≡ suc (length r)
+    along t [] e = refl
+    along t (w ∷ r) e = ap suc (along w r e)
 
 abbrev Has : ℕ → ℕ → List (ℕ × ℕ) → Type 0
 Has u v ps = In {X = ℕ × ℕ} (u, v) ps

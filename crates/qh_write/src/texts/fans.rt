@@ -18,11 +18,7 @@ use qh_model::{Body, Id, Point, Polygon};
 use std::alloc::{AllocError, Global};
 
 /// Appends a face as a fan of triangles, or as it is where it has fewer than three corners.
-fn push_fan(
-    text: &mut Vec<u8>,
-    numbers: &VertexNumbers,
-    face: &Polygon,
-) -> Result<(), AllocError>
+fn push_fan(text: &mut Vec<u8>, numbers: &VertexNumbers, face: &Polygon) -> Result<(), AllocError>
     requires { AreNumbered numbers.now face.now }
     ensures { OnOk result (text.new.items ≡ text.old.items ++ flat_map (face_by_numbers numbers.now) (fan face.now)) }
 {
