@@ -76,8 +76,7 @@ impl Polygon {
         Sides::of(self.ids())
     }
 
-    /// Returns the triangles of the fan: each of the first id and two neighbours. There are none of fewer than three
-    /// ids.
+    /// Returns the triangles of the fan: each of the first id and two neighbours. Fewer than three ids have no triangle.
     pub fn fan(&self) -> Fan<'_>
         ensures { result ≡ face_triangles self.now }
     {
