@@ -155,13 +155,13 @@ impl Run {
 
     /// Makes the point at a position, which is above a facet, a corner: its cone replaces the
     /// facets that see it.
-    fn add(&mut self, alloc: Global, facet: FacetNo, apex: u32) -> Result<(), Memory>
+    fn add(&mut self, alloc: Global, facet: FacetNo, apex: Id) -> Result<(), Memory>
         requires { IsPicked (state_of self.old) facet apex }
         ensures points { self.new.points.items ≡ self.old.points.items }
         ensures under_way { OnOk result (IsUnderWay (state_of self.new)) }
         ensures listed { OnOk result (listed self.new.sets ≤ listed self.old.sets) }
     {
-        let point = self.points[apex as usize];
+        let point = self.points[apex.index()];
         self.walk.find(&self.mesh, &self.planes, facet, point)?;
         let visible = self.walk.visible().len();
         make_ready(
@@ -174,7 +174,7 @@ impl Run {
         release(&mut self.sets, self.walk.visible());
         let made = self
             .mesh
-            .replace(alloc, &self.points, self.walk.visible(), Id::new(apex))?;
+            .replace(alloc, &self.points, self.walk.visible(), apex)?;
         self.settle(&made)?;
         self.mesh.take_room(made);
         Ok(())

@@ -8,6 +8,7 @@ ghost use Rattle.qh_surface.specs.steps.Runs.{RunState, with_waiting, AreDone, I
 use crate::quickhull::outside_sets::OutsideSets;
 use crate::quickhull::turns::Turns;
 use qh_mesh::FacetNo;
+use qh_model::Id;
 use std::alloc::AllocError;
 
 /// Adds a facet if it has an outside set. It is pushed, then popped if it has none;
@@ -50,7 +51,7 @@ pub fn next_apex(
     pending: &mut Vec<FacetNo>,
     turns: &mut Turns,
     sets: &mut OutsideSets,
-) -> Option<(FacetNo, u32)>
+) -> Option<(FacetNo, Id)>
     requires { All (λ f. f < length sets.old.sets) pending.old.items }
     ensures done { IfNone result ((s : RunState)
         → IsUnderWay (with_waiting s sets.old pending.old.items) → AreDone s.points s.mesh) }
