@@ -33,7 +33,7 @@ use qh_surface::walk::walk;
 use qh_surface::{NamedMesh, plane_of};
 use std::alloc::{AllocError, Global};
 
-/// Scratch for the facets of a plane and for their corners, used again from plane to plane.
+/// Scratch for live facets of a plane and for their corners, used again from plane to plane.
 #[derive(Drop)]
 pub struct Scratch {
     facets: Vec<FacetNo>,
@@ -48,38 +48,41 @@ fn no_marks(alloc: Global, count: usize) -> Result<Vec<bool>, AllocError>
     vec![in alloc; false; count]
 }
 
-/// Lists the corners of live facets, facet by facet.
-fn list_corners(
-    surface: &NamedMesh,
-    facets: &[FacetNo],
-    corners: &mut Vec<Id>,
-) -> Result<(), AllocError>
-    requires positions { AreCornersBelow (length surface.now.ids.items) surface.now.mesh }
-    requires live { All (IsLive surface.now.mesh) facets.now }
-    ensures { OnOk result (corners.new.items ≡ corners_of (named surface.now) facets.now) }
-{
-    corners.clear();
-    for f in facets {
-        corners.extend_from_slice(&surface.corners(*f))?;
+impl Scratch {
+    /// Creates a scratch without memory.
+    fn new(alloc: Global) -> Scratch {
+        Scratch {
+            facets: Vec::new(alloc),
+            corners: Vec::new(alloc),
+        }
     }
-    Ok(())
-}
 
-/// Lists the corners of live facets, rising, each once.
-fn gather_corners(
-    surface: &NamedMesh,
-    facets: &[FacetNo],
-    corners: &mut Vec<Id>,
-) -> Result<(), AllocError>
-    requires positions { AreCornersBelow (length surface.now.ids.items) surface.now.mesh }
-    requires live { All (IsLive surface.now.mesh) facets.now }
-    ensures rising { OnOk result (IsStrictlyIncreasing corners.new.items) }
-    ensures members { OnOk result ((i : ℕ) → In i corners.new.items ↔ IsListedCorner (named surface.now) facets.now i) }
-{
-    list_corners(surface, facets, corners)?;
-    corners.sort_unstable();
-    corners.dedup();
-    Ok(())
+    /// Lists the corners of the facets, facet by facet.
+    fn list_corners(&mut self, surface: &NamedMesh) -> Result<(), AllocError>
+        requires positions { AreCornersBelow (length surface.now.ids.items) surface.now.mesh }
+        requires live { All (IsLive surface.now.mesh) self.old.facets.items }
+        ensures { OnOk result (self.new.corners.items ≡ corners_of (named surface.now) self.old.facets.items) }
+    {
+        let Scratch { facets, corners } = self;
+        corners.clear();
+        for f in facets.iter() {
+            corners.extend_from_slice(&surface.corners(*f))?;
+        }
+        Ok(())
+    }
+
+    /// Lists the corners of the facets, rising, each once.
+    fn gather_corners(&mut self, surface: &NamedMesh) -> Result<(), AllocError>
+        requires positions { AreCornersBelow (length surface.now.ids.items) surface.now.mesh }
+        requires live { All (IsLive surface.now.mesh) self.old.facets.items }
+        ensures rising { OnOk result (IsStrictlyIncreasing self.new.corners.items) }
+        ensures members { OnOk result ((i : ℕ) → In i self.new.corners.items ↔ IsListedCorner (named surface.now) self.old.facets.items i) }
+    {
+        self.list_corners(surface)?;
+        self.corners.sort_unstable();
+        self.corners.dedup();
+        Ok(())
+    }
 }
 
 /// Returns the polygon of ids in the plane of a live facet, seen from its outer side.
@@ -147,7 +150,7 @@ fn new_face(
     if room.facets.len() == 1 {
         return Ok(lone_triangle(surface, f));
     }
-    gather_corners(surface, &room.facets, &mut room.corners)?;
+    room.gather_corners(surface)?;
     facet_polygon(alloc, pts, surface, f, &room.corners)
 }
 
@@ -164,10 +167,7 @@ pub(crate) fn faces(
 {
     let mut places = no_marks(alloc, surface.mesh.places())?;
     let marks = places.as_mut_slice();
-    let mut room = Scratch {
-        facets: Vec::new(alloc),
-        corners: Vec::new(alloc),
-    };
+    let mut room = Scratch::new(alloc);
     let mut faces = Vec::with_capacity(alloc, surface.mesh.places())?;
     for f in surface.mesh.live() {
         if !marks[f.index()] {
@@ -217,10 +217,7 @@ pub fn parted_faces(
 {
     let mut places = no_marks(alloc, surface.mesh.places())?;
     let marks = places.as_mut_slice();
-    let mut room = Scratch {
-        facets: Vec::new(alloc),
-        corners: Vec::new(alloc),
-    };
+    let mut room = Scratch::new(alloc);
     let mut own = UnsortedFaces::none(alloc);
     let mut others = Vec::new(alloc);
     for f in surface.mesh.live() {

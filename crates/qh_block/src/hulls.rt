@@ -28,7 +28,7 @@ fn extremes_in_place(alloc: Global, set: IdSet) -> Result<Vec<Id>, Memory>
     ensures { IfOk result (λ v. AreExtremesOf set.entry v.items) }
 {
     if let Shape::Solid(i, j, k, l) = rank(set.pts, set.ids) {
-        let surface = solid_mesh(alloc, set.pts, set.ids, Simplex { i, j, k, l })?;
+        let surface = solid_mesh(alloc, set, Simplex { i, j, k, l })?;
         return solid_extremes(alloc, set.pts, &surface);
     }
     let body = hull_of_all(alloc, set)?;
@@ -60,7 +60,7 @@ fn hull_of_all(alloc: Global, set: IdSet) -> Result<Body, Memory>
         Shape::Segment(i, j) => segment_hull(alloc, set, i, j),
         Shape::Flat(i, j, k) => polygon_hull(alloc, set, i, j, k),
         Shape::Solid(i, j, k, l) => {
-            let surface = solid_mesh(alloc, set.pts, set.ids, Simplex { i, j, k, l })?;
+            let surface = solid_mesh(alloc, set, Simplex { i, j, k, l })?;
             solid_body(alloc, set.pts, &surface)
         }
     }

@@ -17,6 +17,7 @@ ghost use Rattle.qh_surface.specs.contract.NamedMeshes.{named, IsNamedMesh};
 
 use crate::face_order::sort_faces;
 use crate::faces::faces;
+use crate::id_set::IdSet;
 use crate::solid_edges::edge_count;
 use qh_model::{Body, Id, Memory, Point, Polygon};
 use qh_plane::rising_ids;
@@ -24,20 +25,15 @@ use qh_surface::{NamedMesh, Simplex, surface_from};
 use std::alloc::{AllocError, Global};
 
 /// Returns the finished mesh of a set whose first ids off a point, a line and a plane are those of `first`.
-pub fn solid_mesh(
-    alloc: Global,
-    pts: &[Point],
-    ids: &[Id],
-    first: Simplex,
-) -> Result<NamedMesh, Memory>
-    requires indices { AreIndices pts.now ids.now }
-    requires two { AreFirstTwo ids.now first.i first.j }
-    requires off_line { IsFirstNot (IsInLine pts.now first.i first.j) ids.now first.k }
-    requires off_plane { IsFirstNot (IsInPlane pts.now first.i first.j first.k) ids.now first.l }
-    ensures finished { IfOk result (λ m. Once ids.now → IsFinished (place pts.now) ids.now (surface_of (named m))) }
-    ensures named { IfOk result (λ m. IsNamedMesh pts.now m) }
+pub(crate) fn solid_mesh(alloc: Global, set: IdSet, first: Simplex) -> Result<NamedMesh, Memory>
+    requires two { AreFirstTwo set.ids.now first.i first.j }
+    requires off_line { IsFirstNot (IsInLine set.pts.now first.i first.j) set.ids.now first.k }
+    requires off_plane { IsFirstNot (IsInPlane set.pts.now first.i first.j first.k) set.ids.now first.l }
+    ensures finished { let pts = set.entry.pts.now in let ids = set.entry.ids.now in
+        IfOk result (λ m. Once ids → IsFinished (place pts) ids (surface_of (named m))) }
+    ensures named { IfOk result (λ m. IsNamedMesh set.entry.pts.now m) }
 {
-    surface_from(alloc, pts, ids, first)
+    surface_from(alloc, set.pts, set.ids, first)
 }
 
 /// Returns the ids of all polygons, one after the other.

@@ -5,6 +5,7 @@ pub mod Horizons
 pub mod Cones
 pub mod Places
 pub mod Rebuilt
+pub mod Rooms
 pub mod Surfaces
 pub mod Twins
 pub mod Writes

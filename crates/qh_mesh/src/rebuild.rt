@@ -1,8 +1,9 @@
 //! A replacement, once there is room for it.
-ghost use Rattle.std.specs.Prelude.{◌≡◌, ◌+◌, ◌*◌, ◌-◌, ◌<◌, ◌≤◌, ◌^◌, length, reverse, [], vec_len, vec_capacity};
+ghost use Rattle.std.specs.Prelude.{◌≡◌, ◌+◌, ◌*◌, ◌≤◌, length, reverse, [], vec_len, vec_capacity};
 ghost use Rattle.qh_mesh.specs.contract.Replacement.{AreFacets};
 ghost use Rattle.qh_mesh.specs.steps.Places.{IsPool};
 ghost use Rattle.qh_mesh.specs.steps.Rebuilt.{IsCleared, IsConed, IsPrepared, IsReady, IsRebuilt};
+ghost use Rattle.qh_mesh.specs.steps.Rooms.{HasRoom, IsBlank};
 ghost use Rattle.qh_mesh.specs.steps.Surfaces.{IsSurface};
 
 use crate::cone::{join_outer, write_cone};
@@ -54,13 +55,8 @@ fn prepare(
 )
     requires surface { IsSurface facets.old.items free.old.items }
     requires facets { AreFacets facets.old.items visible.now }
-    requires horizon_empty { scratch.old.horizon.items ≡ [] }
-    requires horizon_room { 3 * length visible.now ≤ vec_capacity scratch.old.horizon }
-    requires made_empty { scratch.old.made.items ≡ [] }
-    requires made_room { 3 * length visible.now ≤ vec_capacity scratch.old.made }
-    requires free_room { vec_len free.old + length visible.now ≤ vec_capacity free.old }
-    requires spare { vec_len facets.old + 2 * length visible.now ≤ vec_capacity facets.old + vec_len free.old }
-    requires small { 3 * (vec_len facets.old + (2 * length visible.now - vec_len free.old)) < 2 ^ 32 }
+    requires blank { IsBlank scratch.old }
+    requires room { HasRoom facets.old free.old scratch.old (length visible.now) }
     ensures { IsPrepared facets.old.items facets.new.items free.new.items visible.now scratch.new.horizon.items
         scratch.new.made.items }
 {
@@ -85,13 +81,8 @@ pub fn rebuild(
 )
     requires surface { IsSurface facets.old.items free.old.items }
     requires facets { AreFacets facets.old.items visible.now }
-    requires horizon_empty { scratch.old.horizon.items ≡ [] }
-    requires horizon_room { 3 * length visible.now ≤ vec_capacity scratch.old.horizon }
-    requires made_empty { scratch.old.made.items ≡ [] }
-    requires made_room { 3 * length visible.now ≤ vec_capacity scratch.old.made }
-    requires free_room { vec_len free.old + length visible.now ≤ vec_capacity free.old }
-    requires spare { vec_len facets.old + 2 * length visible.now ≤ vec_capacity facets.old + vec_len free.old }
-    requires small { 3 * (vec_len facets.old + (2 * length visible.now - vec_len free.old)) < 2 ^ 32 }
+    requires blank { IsBlank scratch.old }
+    requires room { HasRoom facets.old free.old scratch.old (length visible.now) }
     ensures { IsRebuilt facets.old.items facets.new.items free.new.items visible.now apex scratch.new.made.items }
 {
     prepare(facets, free, scratch, visible);

@@ -1,6 +1,7 @@
 //! Room for a replacement, which is made before the mesh changes.
-ghost use Rattle.std.specs.Prelude.{◌≡◌, ◌↔◌, IsTrue, ◌+◌, ◌*◌, ◌-◌, ◌/◌, ◌^◌, ◌≤◌, ◌<◌, OnOk, [], vec_len, vec_capacity};
+ghost use Rattle.std.specs.Prelude.{◌≡◌, ◌↔◌, IsTrue, ◌+◌, ◌*◌, ◌^◌, ◌≤◌, ◌<◌, OnOk};
 ghost use Rattle.qh_model.specs.declared.limits.TheConstants.{POINT_LIMIT};
+ghost use Rattle.qh_mesh.specs.steps.Rooms.{HasRoom, IsBlank};
 
 use crate::facets::{Facet, FacetNo, FacetSide};
 use crate::slots::Slot;
@@ -52,13 +53,8 @@ pub fn make_room(
 ) -> Result<(), AllocError>
     ensures facets { facets.new.items ≡ facets.old.items }
     ensures free { free.new.items ≡ free.old.items }
-    ensures horizon { scratch.new.horizon.items ≡ [] }
-    ensures horizon_room { OnOk result (3 * count ≤ vec_capacity scratch.new.horizon) }
-    ensures made { scratch.new.made.items ≡ [] }
-    ensures made_room { OnOk result (3 * count ≤ vec_capacity scratch.new.made) }
-    ensures free_room { OnOk result (vec_len free.new + count ≤ vec_capacity free.new) }
-    ensures spare { OnOk result (vec_len facets.new + 2 * count ≤ vec_capacity facets.new + vec_len free.new) }
-    ensures small { OnOk result (3 * (vec_len facets.new + (2 * count - vec_len free.new)) < 2 ^ 32) }
+    ensures blank { IsBlank scratch.new }
+    ensures room { OnOk result (HasRoom facets.new free.new scratch.new count) }
 {
     scratch.horizon.clear();
     scratch.made.clear();

@@ -8,10 +8,11 @@ ghost use Rattle.std.specs.Prelude.{◌≡◌, ◌≤◌, ◌<◌, ◌↔◌, If
 ghost use Rattle.qh_model.specs.headline.DistinctIds.{AreDistinctIds};
 ghost use Rattle.qh_plane.specs.steps.CloseBoxes.{slot_of};
 
+use crate::finders::FoundIds;
 use crate::place_keys::biased;
 use qh_model::{Id, POINT_LIMIT, Point};
 use qh_pred::in_line;
-use std::alloc::{AllocError, Global};
+use std::alloc::Global;
 
 /// The greatest number of slots of a box for each point.
 const SLOTS_FOR_EACH: u64 = 2;
@@ -218,6 +219,40 @@ impl CloseBox {
             .wrapping_mul(self.z_factor);
         x.wrapping_add(y).wrapping_add(z)
     }
+
+    /// Returns the distinct ids of points, rising, each of which has a slot of its place; `None` if different points have
+    /// the same slot, or a point has no slot.
+    pub fn distinct_ids(self, alloc: Global, pts: &[Point]) -> FoundIds
+        requires { length pts.now ≤ POINT_LIMIT }
+        ensures { IfOk result (λ found. IfSome found (λ v. AreDistinctIds pts.now v.items)) }
+    {
+        let mut slots = vec![in alloc; NO_ID; self.slots as usize]?;
+        let mut ids = Vec::with_capacity(alloc, pts.len().min(slots.len()))?;
+        for number in 0..pts.len() {
+            let slot = self.slot(pts[number]) as usize;
+            if slot >= slots.len() {
+                return Ok(None);
+            }
+            if slots[slot] == NO_ID {
+                slots[slot] = number as u32;
+                ids.push(Id::new(number as u32))?;
+            } else if !same_point(pts[slots[slot] as usize], pts[number]) {
+                return Ok(None);
+            }
+        }
+        Ok(Some(ids))
+    }
+
+    /// Returns [`distinct_ids`](CloseBox::distinct_ids) of a box with fewer than `SHARED_SLOTS` slots; `None` of others.
+    pub fn distinct_if_small(self, alloc: Global, pts: &[Point]) -> FoundIds
+        requires { length pts.now ≤ POINT_LIMIT }
+        ensures { IfOk result (λ found. IfSome found (λ v. AreDistinctIds pts.now v.items)) }
+    {
+        if self.slots >= SHARED_SLOTS {
+            return Ok(None);
+        }
+        self.distinct_ids(alloc, pts)
+    }
 }
 
 /// Returns true if two points are one.
@@ -225,67 +260,4 @@ pub fn same_point(p: Point, q: Point) -> bool
     ensures { IsTrue result ↔ p ≡ q }
 {
     p.x() == q.x() && p.y() == q.y() && p.z() == q.z()
-}
-
-/// Returns the distinct ids of points, rising, each of which has a slot of its place; `None` if different points have
-/// the same slot, or a point has no slot.
-pub fn distinct_by_slots(
-    alloc: Global,
-    pts: &[Point],
-    close: CloseBox,
-) -> Result<Option<Vec<Id>>, AllocError>
-    requires few { length pts.now ≤ POINT_LIMIT }
-    ensures { IfOk result (λ found. IfSome found (λ v. AreDistinctIds pts.now v.items)) }
-{
-    let mut slots = vec![in alloc; NO_ID; close.slots as usize]?;
-    let mut ids = Vec::with_capacity(alloc, pts.len().min(slots.len()))?;
-    for number in 0..pts.len() {
-        let slot = close.slot(pts[number]) as usize;
-        if slot >= slots.len() {
-            return Ok(None);
-        }
-        if slots[slot] == NO_ID {
-            slots[slot] = number as u32;
-            ids.push(Id::new(number as u32))?;
-        } else if !same_point(pts[slots[slot] as usize], pts[number]) {
-            return Ok(None);
-        }
-    }
-    Ok(Some(ids))
-}
-
-/// Returns the distinct ids of points that the box around the first ones tells, rising, where it is small; `None` if it
-/// is not, or if others lie outside of it.
-///
-/// The points of a lattice or a grid mostly lie all within that box, so that no pass over them looks for a larger one.
-pub fn distinct_in_first_box(
-    alloc: Global,
-    pts: &[Point],
-    close: CloseBox,
-) -> Result<Option<Vec<Id>>, AllocError>
-    requires few { length pts.now ≤ POINT_LIMIT }
-    ensures { IfOk result (λ found. IfSome found (λ v. AreDistinctIds pts.now v.items)) }
-{
-    if close.slots >= SHARED_SLOTS {
-        return Ok(None);
-    }
-    distinct_by_slots(alloc, pts, close)
-}
-
-/// Returns the distinct ids of points that lie close together or in one line, rising; `None` if they
-/// do not.
-pub fn distinct_in_box(alloc: Global, pts: &[Point]) -> Result<Option<Vec<Id>>, AllocError>
-    requires few { length pts.now ≤ POINT_LIMIT }
-    ensures { IfOk result (λ found. IfSome found (λ v. AreDistinctIds pts.now v.items)) }
-{
-    let Some(first) = CloseBox::around_first(pts) else {
-        return Ok(None);
-    };
-    if let Some(ids) = distinct_in_first_box(alloc, pts, first)? {
-        return Ok(Some(ids));
-    }
-    match CloseBox::around(pts) {
-        Some(close) => distinct_by_slots(alloc, pts, close),
-        None => Ok(None),
-    }
 }

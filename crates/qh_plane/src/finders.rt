@@ -4,13 +4,16 @@ ghost use Rattle.std.specs.Thread.{IsSync};
 ghost use Rattle.qh_model.specs.headline.DistinctIds.{AreDistinctIds};
 ghost use Rattle.qh_plane.specs.steps.Repeats.{AreAllRepeats};
 
-use crate::close_points::distinct_in_box;
+use crate::close_points::{CloseBox, SHARED_SLOTS};
 use crate::hash_parts::repeats_by_hash;
 use crate::repeats::{repeats_by_sort, repeats_of_all};
-use crate::slot_ranges::distinct_in_ranges;
+use crate::slot_ranges::distinct_by_ranges;
 use qh_model::{Id, POINT_LIMIT, Point};
 use std::alloc::{AllocError, Global};
 use std::thread::Threads;
+
+/// The ids that a search found, or `None` where it does not tell them.
+pub type FoundIds = Result<Option<Vec<Id>>, AllocError>;
 
 /// The least number of points that keeps a thread busy.
 ///
@@ -22,14 +25,18 @@ pub trait Finder {
     /// What is known of one that finds them.
     ghost ready: { Self → Type 0 };
 
-    /// Returns the distinct ids of points that lie close together or in one line, rising; `None` if they do not.
-    fn distinct_in_box(&self, alloc: Global, pts: &[Point]) -> Result<Option<Vec<Id>>, AllocError>
+    /// Returns the distinct ids of points, rising, each of which has a slot of its place; `None` if different points have
+    /// the same slot, or a point has no slot.
+    fn by_slots(&self, alloc: Global, pts: &[Point], close: CloseBox) -> FoundIds
         requires ready { ready self.now }
         requires few { length pts.now ≤ POINT_LIMIT }
-        ensures { IfOk result (λ found. IfSome found (λ v. AreDistinctIds pts.now v.items)) };
+        ensures { IfOk result (λ found. IfSome found (λ v. AreDistinctIds pts.now v.items)) }
+    {
+        close.distinct_ids(alloc, pts)
+    }
 
     /// Returns the ids of all points that stand before; `None` if too many have one hash.
-    fn repeats(&self, alloc: Global, pts: &[Point]) -> Result<Option<Vec<Id>>, AllocError>
+    fn repeats(&self, alloc: Global, pts: &[Point]) -> FoundIds
         requires ready { ready self.now }
         requires few { length pts.now ≤ POINT_LIMIT }
         ensures { IfOk result (λ found. IfSome found (λ v. AreAllRepeats pts.now v.items)) };
@@ -42,11 +49,7 @@ pub struct Alone;
 impl Finder for Alone {
     ghost ready = { λ _. Unit {0} };
 
-    fn distinct_in_box(&self, alloc: Global, pts: &[Point]) -> Result<Option<Vec<Id>>, AllocError> {
-        distinct_in_box(alloc, pts)
-    }
-
-    fn repeats(&self, alloc: Global, pts: &[Point]) -> Result<Option<Vec<Id>>, AllocError> {
+    fn repeats(&self, alloc: Global, pts: &[Point]) -> FoundIds {
         repeats_of_all(alloc, pts)
     }
 }
@@ -58,11 +61,7 @@ pub struct BySort<'a, R>(pub &'a R);
 impl<R: Threads + Sync> Finder for BySort<'_, R> {
     ghost ready = { λ _. IsSync R.row };
 
-    fn distinct_in_box(&self, alloc: Global, pts: &[Point]) -> Result<Option<Vec<Id>>, AllocError> {
-        distinct_in_box(alloc, pts)
-    }
-
-    fn repeats(&self, alloc: Global, pts: &[Point]) -> Result<Option<Vec<Id>>, AllocError> {
+    fn repeats(&self, alloc: Global, pts: &[Point]) -> FoundIds {
         repeats_by_sort(self.0, alloc, pts)
     }
 }
@@ -86,15 +85,15 @@ impl<R> InThreads<'_, R> {
 impl<R: Threads + Sync> Finder for InThreads<'_, R> {
     ghost ready = { λ _. IsSync R.row };
 
-    fn distinct_in_box(&self, alloc: Global, pts: &[Point]) -> Result<Option<Vec<Id>>, AllocError> {
+    fn by_slots(&self, alloc: Global, pts: &[Point], close: CloseBox) -> FoundIds {
         let count = self.for_points(pts);
-        if count < 2 {
-            return distinct_in_box(alloc, pts);
+        if count < 2 || close.slots < SHARED_SLOTS {
+            return close.distinct_ids(alloc, pts);
         }
-        distinct_in_ranges(self.rt, alloc, pts, count)
+        distinct_by_ranges(self.rt, alloc, pts, close, count)
     }
 
-    fn repeats(&self, alloc: Global, pts: &[Point]) -> Result<Option<Vec<Id>>, AllocError> {
+    fn repeats(&self, alloc: Global, pts: &[Point]) -> FoundIds {
         let count = self.for_points(pts);
         if count < 2 {
             return repeats_of_all(alloc, pts);

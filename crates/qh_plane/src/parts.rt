@@ -5,6 +5,7 @@ ghost use Rattle.std.specs.Thread.{IsSync};
 ghost use Rattle.qh_model.specs.headline.Vector.{Vector};
 ghost use Rattle.qh_plane.specs.steps.Repeats.{Ids, AreRepeats, PartsBelow};
 
+use crate::finders::FoundIds;
 use qh_model::{Id, POINT_LIMIT, Point};
 use std::alloc::{AllocError, Global};
 use std::thread::{self, Threads};
@@ -18,24 +19,14 @@ pub trait Parts {
     ghost ids_of: { Self → List Vector → ℕ → Ids };
 
     /// Returns the ids of the points that stand before, of those of a part. `None` if the part does not tell them.
-    fn repeats(
-        &self,
-        alloc: Global,
-        pts: &[Point],
-        number: usize,
-    ) -> Result<Option<Vec<Id>>, AllocError>
+    fn repeats(&self, alloc: Global, pts: &[Point], number: usize) -> FoundIds
         requires ready { ready self.now }
         requires few { length pts.now ≤ POINT_LIMIT }
         ensures { IfOk result (λ found. IfSome found (λ v. AreRepeats pts.now (ids_of self.now pts.now number) v.items)) };
 }
 
 /// Returns what was found in parts, one after the other.
-fn joined<P: Parts>(
-    alloc: Global,
-    pts: &[Point],
-    parts: &P,
-    found: &[Result<Option<Vec<Id>>, AllocError>],
-) -> Result<Option<Vec<Id>>, AllocError>
+fn joined<P: Parts>(alloc: Global, pts: &[Point], parts: &P, found: &[FoundIds]) -> FoundIds
     requires { (i : ℕ) (d : Result (Option (Vec Id Global)) AllocError) → i < length found.now → IfOk (slice_index_or found.now i d)
         (λ some. IfSome some (λ v. AreRepeats pts.now (P.ids_of parts.now pts.now i) v.items)) }
     ensures { IfOk result (λ some. IfSome some (λ v.
@@ -63,7 +54,7 @@ pub fn repeats_in_parts<R: Threads + Sync, P: Parts + Sync>(
     pts: &[Point],
     parts: &P,
     count: usize,
-) -> Result<Option<Vec<Id>>, AllocError>
+) -> FoundIds
     requires ready { P.ready parts.now }
     requires few { length pts.now ≤ POINT_LIMIT }
     ensures { IfOk result (λ some. IfSome some (λ v. AreRepeats pts.now (PartsBelow (P.ids_of parts.now pts.now) count) v.items)) }
@@ -72,7 +63,7 @@ pub fn repeats_in_parts<R: Threads + Sync, P: Parts + Sync>(
         rt,
         alloc,
         count,
-        &move |number: usize| -> Result<Option<Vec<Id>>, AllocError>
+        &move |number: usize| -> FoundIds
             requires { IsSync P.row × (length pts.now ≤ POINT_LIMIT) × P.ready parts.now }
             ensures { IfOk result (λ some. IfSome some (λ v.
                 AreRepeats pts.entry.now (P.ids_of parts.entry.now pts.entry.now number) v.items)) }

@@ -5,12 +5,13 @@ ghost use Rattle.std.specs.List.Sorted.{IsNonDecreasing};
 ghost use Rattle.qh_plane.specs.steps.HashedKeys.{PartHashes, WithHashes, AreHashedKeys, RepeatsTold};
 ghost use Rattle.qh_plane.specs.steps.Repeats.{AreRepeats, AreAllRepeats};
 
+use crate::finders::FoundIds;
 use crate::hash_parts::Part;
 use crate::hashed_keys::{ID_ROOM, hash_in, hashed_keys, id_in, is_repeat};
 use crate::shared_slots::{keys_in_slots, shared_slots};
-use qh_model::{Id, POINT_LIMIT, Point};
+use qh_model::{POINT_LIMIT, Point};
 use rayon::slice::par_sort_unstable;
-use std::alloc::{AllocError, Global};
+use std::alloc::Global;
 use std::thread::Threads;
 
 /// The least number of points from which on a table saves time, if few of them share a slot.
@@ -23,7 +24,7 @@ const TABLE_TO: usize = 65_536;
 /// different points past its first two keys.
 ///
 /// So points that differ meet, among the keys of one hash, at most in its first two.
-fn repeats_told(alloc: Global, pts: &[Point], keys: &[u64]) -> Result<Option<Vec<Id>>, AllocError>
+fn repeats_told(alloc: Global, pts: &[Point], keys: &[u64]) -> FoundIds
     requires { All (λ k. k % ID_ROOM < length pts.now) keys.now }
     ensures { IfOk result (λ found. IfSome found (λ v. RepeatsTold pts.now keys.now (length keys.now) v.items)) }
 {
@@ -40,7 +41,7 @@ fn repeats_told(alloc: Global, pts: &[Point], keys: &[u64]) -> Result<Option<Vec
 
 /// Returns the ids of all points that stand before, by a sort of all keys; `None` if too many have
 /// one hash.
-fn repeats_of_keys(alloc: Global, pts: &[Point]) -> Result<Option<Vec<Id>>, AllocError>
+fn repeats_of_keys(alloc: Global, pts: &[Point]) -> FoundIds
     requires { length pts.now ≤ POINT_LIMIT }
     ensures { IfOk result (λ found. IfSome found (λ v. AreAllRepeats pts.now v.items)) }
 {
@@ -51,7 +52,7 @@ fn repeats_of_keys(alloc: Global, pts: &[Point]) -> Result<Option<Vec<Id>>, Allo
 
 /// Returns the ids of all points that stand before, by a sort of the keys that share a slot of a table; none
 /// where too many have one hash.
-fn repeats_in_slots(alloc: Global, pts: &[Point]) -> Result<Option<Vec<Id>>, AllocError>
+fn repeats_in_slots(alloc: Global, pts: &[Point]) -> FoundIds
     requires some { 0 < length pts.now }
     requires few { length pts.now ≤ TABLE_TO }
     ensures { IfOk result (λ found. IfSome found (λ v. AreAllRepeats pts.now v.items)) }
@@ -63,7 +64,7 @@ fn repeats_in_slots(alloc: Global, pts: &[Point]) -> Result<Option<Vec<Id>>, All
 }
 
 /// Returns the ids of all points that stand before; `None` if too many have one hash.
-pub fn repeats_of_all(alloc: Global, pts: &[Point]) -> Result<Option<Vec<Id>>, AllocError>
+pub fn repeats_of_all(alloc: Global, pts: &[Point]) -> FoundIds
     requires { length pts.now ≤ POINT_LIMIT }
     ensures { IfOk result (λ found. IfSome found (λ v. AreAllRepeats pts.now v.items)) }
 {
@@ -77,11 +78,7 @@ pub fn repeats_of_all(alloc: Global, pts: &[Point]) -> Result<Option<Vec<Id>>, A
 
 /// Returns the ids of all points that stand before, by a sort of all keys by the threads of a runtime; none where
 /// too many have one hash.
-pub fn repeats_by_sort<R: Threads + Sync>(
-    rt: &R,
-    alloc: Global,
-    pts: &[Point],
-) -> Result<Option<Vec<Id>>, AllocError>
+pub fn repeats_by_sort<R: Threads + Sync>(rt: &R, alloc: Global, pts: &[Point]) -> FoundIds
     requires { length pts.now ≤ POINT_LIMIT }
     ensures { IfOk result (λ found. IfSome found (λ v. AreAllRepeats pts.now v.items)) }
 {
@@ -92,11 +89,7 @@ pub fn repeats_by_sort<R: Threads + Sync>(
 
 /// Returns the ids of the points that stand before and have hashes of a part; `None` if too many have
 /// one hash.
-pub fn repeats_of_part(
-    alloc: Global,
-    pts: &[Point],
-    part: Part,
-) -> Result<Option<Vec<Id>>, AllocError>
+pub fn repeats_of_part(alloc: Global, pts: &[Point], part: Part) -> FoundIds
     requires few { length pts.now ≤ POINT_LIMIT }
     requires some { 0 < part.parts }
     requires parts { part.parts ≤ ID_ROOM }

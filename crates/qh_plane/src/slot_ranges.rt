@@ -5,13 +5,12 @@ ghost use Rattle.qh_model.specs.headline.DistinctIds.{AreDistinctIds};
 ghost use Rattle.qh_plane.specs.steps.CloseBoxes.{IdsOfRange};
 ghost use Rattle.qh_plane.specs.steps.Repeats.{AreRepeats};
 
-use crate::close_points::{
-    CloseBox, NO_ID, SHARED_SLOTS, distinct_by_slots, distinct_in_first_box, same_point,
-};
+use crate::close_points::{CloseBox, NO_ID, same_point};
 use crate::distinct_points::distinct_without;
+use crate::finders::FoundIds;
 use crate::parts::{Parts, repeats_in_parts};
 use qh_model::{Id, POINT_LIMIT, Point};
-use std::alloc::{AllocError, Global};
+use std::alloc::Global;
 use std::thread::Threads;
 
 /// All ranges of the slots of a box, of one size.
@@ -28,12 +27,7 @@ pub struct SlotRanges {
 impl SlotRanges {
     /// Returns the ids of the points that stand before, of those whose slot is one of the `size` slots from `first` on;
     /// `None` if different points have the same slot, or a point has no slot.
-    fn repeats_from(
-        &self,
-        alloc: Global,
-        pts: &[Point],
-        first: u64,
-    ) -> Result<Option<Vec<Id>>, AllocError>
+    fn repeats_from(&self, alloc: Global, pts: &[Point], first: u64) -> FoundIds
         requires { length pts.now ≤ POINT_LIMIT }
         ensures { IfOk result (λ found. IfSome found (λ v. AreRepeats pts.now (IdsOfRange self.now pts.now first) v.items)) }
     {
@@ -65,12 +59,7 @@ impl Parts for SlotRanges {
 
     ghost ids_of = { λ self pts number. IdsOfRange self pts (number * self.size) };
 
-    fn repeats(
-        &self,
-        alloc: Global,
-        pts: &[Point],
-        number: usize,
-    ) -> Result<Option<Vec<Id>>, AllocError> {
+    fn repeats(&self, alloc: Global, pts: &[Point], number: usize) -> FoundIds {
         let Some(first) = (number as u64).checked_mul(self.size) else {
             return Ok(None);
         };
@@ -80,13 +69,13 @@ impl Parts for SlotRanges {
 
 /// Returns the distinct ids of points, rising, each of which has a slot of its place, by a number of threads, each at a
 /// range of the slots; `None` if different points have the same slot, or a point has no slot.
-fn distinct_by_ranges<R: Threads + Sync>(
+pub fn distinct_by_ranges<R: Threads + Sync>(
     rt: &R,
     alloc: Global,
     pts: &[Point],
     close: CloseBox,
     threads: usize,
-) -> Result<Option<Vec<Id>>, AllocError>
+) -> FoundIds
     requires few { length pts.now ≤ POINT_LIMIT }
     requires some { 0 < threads }
     ensures { IfOk result (λ found. IfSome found (λ v. AreDistinctIds pts.now v.items)) }
@@ -100,31 +89,4 @@ fn distinct_by_ranges<R: Threads + Sync>(
         return Ok(None);
     };
     Ok(Some(distinct_without(alloc, pts, &repeats)?))
-}
-
-/// Returns the distinct ids of points that lie close together or in one line, rising, by a number of threads, each at
-/// a range of the slots; `None` if they do not.
-pub fn distinct_in_ranges<R: Threads + Sync>(
-    rt: &R,
-    alloc: Global,
-    pts: &[Point],
-    threads: usize,
-) -> Result<Option<Vec<Id>>, AllocError>
-    requires few { length pts.now ≤ POINT_LIMIT }
-    requires some { 0 < threads }
-    ensures { IfOk result (λ found. IfSome found (λ v. AreDistinctIds pts.now v.items)) }
-{
-    let Some(first) = CloseBox::around_first(pts) else {
-        return Ok(None);
-    };
-    if let Some(ids) = distinct_in_first_box(alloc, pts, first)? {
-        return Ok(Some(ids));
-    }
-    let Some(close) = CloseBox::around(pts) else {
-        return Ok(None);
-    };
-    if close.slots < SHARED_SLOTS {
-        return distinct_by_slots(alloc, pts, close);
-    }
-    distinct_by_ranges(rt, alloc, pts, close, threads)
 }

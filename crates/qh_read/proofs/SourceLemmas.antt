@@ -63,12 +63,13 @@ pub Gives-all : (form : Form) (start reader : Reading) (old new : Option (List �
 Gives-all form start reader old new h f = (f.given, f.took, f.fed form [] h)
 
 -- all that the source gave was fed, and this is what the reader then finds
-pub AnswersSource-fed : (form : Form) (reader : Reading) (old new : Option (List ℕ)) (failures failures_after : ℕ)
-    (answer : Result (Vec Vector Global) ReadFault) → GivesAll old new (Fed form reader) → failures_after ≡ failures
+pub AnswersSource-fed : {S : Type 0} (form : Form) (reader : Reading) (remaining : S → Option (List ℕ)) (failure_count : S → ℕ) (old new : S)
+    (answer : Result (Vec Vector Global) ReadFault) → GivesAll (remaining old) (remaining new) (Fed form reader)
+    → failure_count new ≡ failure_count old
     → IfOk answer (λ points. (f : Form) (bytes : List ℕ) → Fed f reader bytes → ReadsIn f bytes points.items)
     → IfErr answer (λ e. (f : Form) (bytes : List ℕ) → Fed f reader bytes → IsFirstFault f bytes e)
-    → IfErr answer IsTextFault → AnswersSource form old new failures failures_after answer
-AnswersSource-fed form reader old new failures failures_after (Ok points) all same read fault text = record {
+    → IfErr answer IsTextFault → AnswersSource form remaining failure_count old new answer
+AnswersSource-fed form reader remaining failure_count old new (Ok points) all same read fault text = record {
   read = (all.0, (all.1.0, all.1.1, read form all.1.0 all.1.2));
   text = tt;
   big = λ e. cc;
@@ -76,7 +77,7 @@ AnswersSource-fed form reader old new failures failures_after (Ok points) all sa
   device = λ e. cc;
   no_device = λ e. same;
 }
-AnswersSource-fed form reader old new failures failures_after (Err e) all same read fault text = record {
+AnswersSource-fed form reader remaining failure_count old new (Err e) all same read fault text = record {
   read = tt;
   text = λ is_text. (all.0, (all.1.0, all.1.1, fault form all.1.0 all.1.2));
   big = λ h. absurd (text.2 cc);
@@ -86,9 +87,10 @@ AnswersSource-fed form reader old new failures failures_after (Err e) all same r
 }
 
 -- why reading stops from the start
-pub AnswersSource-stopped : (form : Form) (e : ReadFault) (before : ℕ) (old new : Option (List ℕ)) (failures failures_after : ℕ) → before ≡ 0
-    → Stops e before old new failures failures_after → AnswersSource form old new failures failures_after (Err e)
-AnswersSource-stopped form e before old new failures failures_after none s = record {
+pub AnswersSource-stopped : {S : Type 0} (form : Form) (e : ReadFault) (before : ℕ) (remaining : S → Option (List ℕ)) (failure_count : S → ℕ)
+    (old new : S) → before ≡ 0 → Stops e before (remaining old) (remaining new) (failure_count old) (failure_count new)
+    → AnswersSource form remaining failure_count old new (Err e)
+AnswersSource-stopped form e before remaining failure_count old new none s = record {
   read = tt;
   text = λ is_text. absurd (s.no_text is_text);
   big = λ h. let given = s.big cc in (given.0, given.1, (omega (arith, none, given.2.0), omega (arith, none, given.2.1)));

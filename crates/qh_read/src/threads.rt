@@ -151,8 +151,7 @@ pub fn read_form_sizes<R: Threads + Sync, S: Source>(
     sizes: Sizes,
 ) -> Result<Vec<Point>, ReadFault>
     requires { S.failure_count source.old < 2 ^ 64 - 1 }
-    ensures { AnswersSource form (S.remaining source.old) (S.remaining source.new)
-        (S.failure_count source.old) (S.failure_count source.new) result }
+    ensures { AnswersSource form S.remaining S.failure_count source.old source.new result }
 {
     let mut reader = Reader::of_form(alloc, form);
     if !feed_from(alloc, &mut reader, source, sizes.start)? {
@@ -175,8 +174,7 @@ pub fn read_form_threads<R: Threads + Sync, S: Source>(
     source: &mut S,
 ) -> Result<Vec<Point>, ReadFault>
     requires { S.failure_count source.old < 2 ^ 64 - 1 }
-    ensures { AnswersSource form (S.remaining source.old) (S.remaining source.new)
-        (S.failure_count source.old) (S.failure_count source.new) result }
+    ensures { AnswersSource form S.remaining S.failure_count source.old source.new result }
 {
     if threads < 2 {
         return read_form_from(alloc, form, source);

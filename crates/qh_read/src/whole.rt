@@ -102,8 +102,7 @@ pub fn read_form_from<S: Source>(
     source: &mut S,
 ) -> Result<Vec<Point>, ReadFault>
     requires { S.failure_count source.old < 2 ^ 64 - 1 }
-    ensures { AnswersSource form (S.remaining source.old) (S.remaining source.new)
-        (S.failure_count source.old) (S.failure_count source.new) result }
+    ensures { AnswersSource form S.remaining S.failure_count source.old source.new result }
 {
     let mut reader = Reader::of_form(alloc, form);
     feed_from(alloc, &mut reader, source, u32::MAX)?;
@@ -114,8 +113,7 @@ pub fn read_form_from<S: Source>(
 /// errors of [`read_form_from`].
 pub fn read_from<S: Source>(alloc: Global, source: &mut S) -> Result<Vec<Point>, ReadFault>
     requires { S.failure_count source.old < 2 ^ 64 - 1 }
-    ensures { AnswersSource forms.Qhull (S.remaining source.old) (S.remaining source.new)
-        (S.failure_count source.old) (S.failure_count source.new) result }
+    ensures { AnswersSource forms.Qhull S.remaining S.failure_count source.old source.new result }
 {
     read_form_from(alloc, Form::Qhull, source)
 }
@@ -124,8 +122,7 @@ pub fn read_from<S: Source>(alloc: Global, source: &mut S) -> Result<Vec<Point>,
 /// first fault, with the errors of [`read_form_from`].
 pub fn read_off_from<S: Source>(alloc: Global, source: &mut S) -> Result<Vec<Point>, ReadFault>
     requires { S.failure_count source.old < 2 ^ 64 - 1 }
-    ensures { AnswersSource forms.Off (S.remaining source.old) (S.remaining source.new)
-        (S.failure_count source.old) (S.failure_count source.new) result }
+    ensures { AnswersSource forms.Off S.remaining S.failure_count source.old source.new result }
 {
     read_form_from(alloc, Form::Off, source)
 }

@@ -5,5 +5,6 @@ pub mod OutsideSets
 pub mod Planes
 pub mod PositionChains
 pub mod Positions
+pub mod RunStates
 pub mod Runs
 pub mod Settling

@@ -24,6 +24,15 @@ pub struct Columns {
     pub cells: Vec<Cell>,
 }
 
+/// Planes, and the grid of the columns whose cells lie between them.
+#[derive(Clone, Copy, Drop)]
+pub struct Plan<'a> {
+    pub planes: &'a [CoarsePlane],
+    pub grid: &'a Grid,
+    /// Along each axis the grid has 2 to this power of columns.
+    pub side_bits: u32,
+}
+
 /// Returns the part of a cell between these heights.
 fn cell_at(
     alloc: Global,
@@ -83,59 +92,48 @@ fn push_cells(
 /// Adds the cells of all columns of a square to a list, of which one cell is known.
 fn push_square(
     alloc: Global,
-    planes: &[CoarsePlane],
-    grid: &Grid,
+    plan: Plan,
     square: &Square,
     whole: &Cell,
     cells: &mut Vec<Cell>,
 ) -> Result<(), AllocError>
-    ensures { IfOk result (λ _. IsCellOf planes.now whole.now → All (IsCellOf planes.now) cells.old.items → All (IsCellOf planes.now) cells.new.items) }
+    ensures { let is_cell = IsCellOf plan.entry.planes.now in
+        IfOk result (λ _. is_cell whole.now → All is_cell cells.old.items → All is_cell cells.new.items) }
 {
     let Some(bits) = square.bits.checked_sub(1) else {
-        return push_cells(alloc, planes, whole, cells);
+        return push_cells(alloc, plan.planes, whole, cells);
     };
     for number in 0..4u32 {
         let quarter = square.quarter(bits, number);
-        let part = cell_over(alloc, planes, whole, &grid.bounds(&quarter))?;
-        push_square(alloc, planes, grid, &quarter, &part, cells)?;
+        let part = cell_over(alloc, plan.planes, whole, &plan.grid.bounds(&quarter))?;
+        push_square(alloc, plan, &quarter, &part, cells)?;
     }
     Ok(())
 }
 
-/// Returns the cells of all columns of a grid, 2 to a power along each axis, quarter by quarter.
-pub fn cells_between(
-    alloc: Global,
-    planes: &[CoarsePlane],
-    grid: &Grid,
-    side_bits: u32,
-) -> Result<Vec<Cell>, Memory>
-    ensures { IfOk result (λ v. All (IsCellOf planes.now) v.items) }
+/// Returns the cells of all columns, quarter by quarter.
+pub fn cells_between(alloc: Global, plan: Plan) -> Result<Vec<Cell>, Memory>
+    ensures { IfOk result (λ v. All (IsCellOf plan.entry.planes.now) v.items) }
 {
-    let whole = Cell::whole(alloc, planes.len())?;
-    let square = Square::whole(side_bits);
+    let whole = Cell::whole(alloc, plan.planes.len())?;
+    let square = Square::whole(plan.side_bits);
     let mut cells = Vec::with_capacity(alloc, square.columns().saturating_mul(3))?;
-    push_square(alloc, planes, grid, &square, &whole, &mut cells)?;
+    push_square(alloc, plan, &square, &whole, &mut cells)?;
     Ok(cells)
 }
 
-/// Returns the cells of those quarters of a grid that have these numbers, one quarter after the other.
-pub fn cells_of_quarters(
-    alloc: Global,
-    planes: &[CoarsePlane],
-    grid: &Grid,
-    side_bits: u32,
-    numbers: &[u32],
-) -> Result<Vec<Cell>, Memory>
-    ensures { IfOk result (λ v. All (IsCellOf planes.now) v.items) }
+/// Returns the cells of those quarters of the grid that have these numbers, one quarter after the other.
+pub fn cells_of_quarters(alloc: Global, plan: Plan, numbers: &[u32]) -> Result<Vec<Cell>, Memory>
+    ensures { IfOk result (λ v. All (IsCellOf plan.entry.planes.now) v.items) }
 {
-    let whole = Cell::whole(alloc, planes.len())?;
-    let square = Square::whole(side_bits);
-    let bits = side_bits.saturating_sub(1);
+    let whole = Cell::whole(alloc, plan.planes.len())?;
+    let square = Square::whole(plan.side_bits);
+    let bits = plan.side_bits.saturating_sub(1);
     let mut cells = Vec::new(alloc);
     for number in numbers {
         let quarter = square.quarter(bits, *number);
-        let part = cell_over(alloc, planes, &whole, &grid.bounds(&quarter))?;
-        push_square(alloc, planes, grid, &quarter, &part, &mut cells)?;
+        let part = cell_over(alloc, plan.planes, &whole, &plan.grid.bounds(&quarter))?;
+        push_square(alloc, plan, &quarter, &part, &mut cells)?;
     }
     Ok(cells)
 }
@@ -155,7 +153,12 @@ impl Columns {
         ensures cells { IfOk result (λ c. All (IsCellOf c.planes.items) c.cells.items) }
     {
         let grid = Grid::over(set, side_bits);
-        let cells = sieve.cells(alloc, &planes, &grid, side_bits)?;
+        let plan = Plan {
+            planes: &planes,
+            grid: &grid,
+            side_bits,
+        };
+        let cells = sieve.cells(alloc, plan)?;
         Ok(Columns {
             grid,
             planes,

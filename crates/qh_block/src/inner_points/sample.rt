@@ -70,7 +70,7 @@ pub fn inner_columns<S: Sieve>(
     if !rise(sample.ids) {
         return Ok(None);
     }
-    let mesh = solid_mesh(alloc, sample.pts, sample.ids, Simplex { i, j, k, l })?.renamed();
+    let mesh = solid_mesh(alloc, sample, Simplex { i, j, k, l })?.renamed();
     let planes = planes_of(alloc, sample.pts, &mesh)?;
     if !sample_pays(planes.len(), sample.ids.len()) {
         return Ok(None);

@@ -9,9 +9,8 @@ ghost use Rattle.qh_block.specs.steps.InnerPoints.{HoldsPoint, IsCellOf, KeepsEx
 use crate::blocking::{SHARED_COLUMNS, SHARED_FROM};
 use crate::id_set::IdSet;
 use crate::inner_points::cells::Cell;
-use crate::inner_points::coarse_planes::CoarsePlane;
-use crate::inner_points::columns::{Columns, cells_between, cells_of_quarters};
-use crate::inner_points::grid::{Grid, Square};
+use crate::inner_points::columns::{Columns, Plan, cells_between, cells_of_quarters};
+use crate::inner_points::grid::Square;
 use crate::inner_points::regions::Region;
 use qh_model::{Id, Memory};
 use qh_pred::point_at;
@@ -23,16 +22,10 @@ pub trait Sieve {
     /// What is known of one that goes over ids.
     ghost ready: { Self → Type 0 };
 
-    /// Returns the cells of all columns of a grid, 2 to a power along each axis, quarter by quarter.
-    fn cells(
-        &self,
-        alloc: Global,
-        planes: &[CoarsePlane],
-        grid: &Grid,
-        side_bits: u32,
-    ) -> Result<Vec<Cell>, Memory>
+    /// Returns the cells of all columns, quarter by quarter.
+    fn cells(&self, alloc: Global, plan: Plan) -> Result<Vec<Cell>, Memory>
         requires { ready self.now }
-        ensures { IfOk result (λ v. All (IsCellOf planes.now) v.items) };
+        ensures { IfOk result (λ v. All (IsCellOf plan.entry.planes.now) v.items) };
 
     /// Returns the ids that the columns don't hold, in their order.
     fn outside(&self, alloc: Global, set: IdSet, columns: &Columns) -> Result<Vec<Id>, AllocError>
@@ -131,20 +124,17 @@ fn joined_cells(alloc: Global, parts: Vec<Result<Vec<Cell>, Memory>>) -> Result<
     Ok(cells)
 }
 
-/// Returns the cells of all columns of a grid, 2 to a power along each axis, quarter by quarter, by a number of
-/// threads, each at some of the quarters.
+/// Returns the cells of all columns, quarter by quarter, by a number of threads, each at some of the quarters.
 fn cells_in_threads<R: Threads + Sync>(
     rt: &R,
     alloc: Global,
-    planes: &[CoarsePlane],
-    grid: &Grid,
-    side_bits: u32,
+    plan: Plan,
     threads: usize,
 ) -> Result<Vec<Cell>, Memory>
-    ensures { IfOk result (λ v. All (IsCellOf planes.now) v.items) }
+    ensures { IfOk result (λ v. All (IsCellOf plan.entry.planes.now) v.items) }
 {
-    if threads < 2 || Square::whole(side_bits).columns() < SHARED_COLUMNS {
-        return cells_between(alloc, planes, grid, side_bits);
+    if threads < 2 || Square::whole(plan.side_bits).columns() < SHARED_COLUMNS {
+        return cells_between(alloc, plan);
     }
     let quarters = [0, 1, 2, 3];
     let parts = thread::map_chunks(
@@ -153,8 +143,8 @@ fn cells_in_threads<R: Threads + Sync>(
         &quarters,
         quarters.len().div_ceil(threads),
         &move |_start: usize, numbers: &[u32]| -> Result<Vec<Cell>, Memory>
-            ensures { IfOk result (λ v. All (IsCellOf planes.entry.now) v.items) }
-        { cells_of_quarters(alloc, planes, grid, side_bits, numbers) },
+            ensures { IfOk result (λ v. All (IsCellOf plan.entry.planes.now) v.items) }
+        { cells_of_quarters(alloc, plan, numbers) },
     )?;
     joined_cells(alloc, parts)
 }
@@ -166,14 +156,8 @@ pub struct Alone;
 impl Sieve for Alone {
     ghost ready = { λ _. Unit {0} };
 
-    fn cells(
-        &self,
-        alloc: Global,
-        planes: &[CoarsePlane],
-        grid: &Grid,
-        side_bits: u32,
-    ) -> Result<Vec<Cell>, Memory> {
-        cells_between(alloc, planes, grid, side_bits)
+    fn cells(&self, alloc: Global, plan: Plan) -> Result<Vec<Cell>, Memory> {
+        cells_between(alloc, plan)
     }
 
     fn outside(&self, alloc: Global, set: IdSet, columns: &Columns) -> Result<Vec<Id>, AllocError> {
@@ -191,14 +175,8 @@ pub struct InThreads<'a, R> {
 impl<R: Threads + Sync> Sieve for InThreads<'_, R> {
     ghost ready = { λ _. IsSync R.row };
 
-    fn cells(
-        &self,
-        alloc: Global,
-        planes: &[CoarsePlane],
-        grid: &Grid,
-        side_bits: u32,
-    ) -> Result<Vec<Cell>, Memory> {
-        cells_in_threads(self.rt, alloc, planes, grid, side_bits, self.threads)
+    fn cells(&self, alloc: Global, plan: Plan) -> Result<Vec<Cell>, Memory> {
+        cells_in_threads(self.rt, alloc, plan, self.threads)
     }
 
     fn outside(&self, alloc: Global, set: IdSet, columns: &Columns) -> Result<Vec<Id>, AllocError> {

@@ -19,12 +19,13 @@ pub record AnswersBytes (form : Form) (bytes : List ℕ) (answer : Result (Vec V
   pub no_device : answer ≢ Err Device
 
 -- the answer to the file of this form that a source gives: the points or the first fault of all its bytes, or why reading
--- stopped; `old` is to come before the call and `new` after it, and one read failed just where `Device` is answered
-pub record AnswersSource (form : Form) (old new : Option (List ℕ)) (failures failures_after : ℕ)
+-- stopped; `old` is the source before the call and `new` after it, and one read failed just where `Device` is answered
+pub record AnswersSource {S : Type 0} (form : Form) (remaining : S → Option (List ℕ)) (failure_count : S → ℕ) (old new : S)
     (answer : Result (Vec Vector Global) ReadFault) : Type 0 where
-  pub read : IfOk answer (λ points. GivesAll old new (λ bytes. ReadsIn form bytes points.items))
-  pub text : IfErr answer (λ e. IsTextFault e → GivesAll old new (λ bytes. IsFirstFault form bytes e))
-  pub big : answer ≡ Err Big → Gives old new (λ bytes. (BYTE_LIMIT < length bytes) × (length bytes ≤ BYTE_LIMIT + PIECE_LENGTH))
-  pub big_first : answer ≡ Err Memory → Gives old new (λ bytes. length bytes ≤ BYTE_LIMIT)
-  pub device : answer ≡ Err Device → failures_after ≡ failures + 1
-  pub no_device : answer ≢ Err Device → failures_after ≡ failures
+  pub read : IfOk answer (λ points. GivesAll (remaining old) (remaining new) (λ bytes. ReadsIn form bytes points.items))
+  pub text : IfErr answer (λ e. IsTextFault e → GivesAll (remaining old) (remaining new) (λ bytes. IsFirstFault form bytes e))
+  pub big : answer ≡ Err Big
+      → Gives (remaining old) (remaining new) (λ bytes. (BYTE_LIMIT < length bytes) × (length bytes ≤ BYTE_LIMIT + PIECE_LENGTH))
+  pub big_first : answer ≡ Err Memory → Gives (remaining old) (remaining new) (λ bytes. length bytes ≤ BYTE_LIMIT)
+  pub device : answer ≡ Err Device → failure_count new ≡ failure_count old + 1
+  pub no_device : answer ≢ Err Device → failure_count new ≡ failure_count old

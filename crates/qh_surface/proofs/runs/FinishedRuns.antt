@@ -10,13 +10,14 @@ use Rattle.qh_pred.specs.contract.Planes.{PlaneValue}
 use Rattle.qh_mesh.specs.contract.SoundMesh.{IsClosedMesh}
 use Rattle.qh_mesh.proofs.Rewiring.{live_in}
 use Rattle.qh_surface.specs.steps.{Planes.ArePlanes, OutsideSets.OutsideValue, OutsideSets.set_of}
-use Rattle.qh_surface.specs.steps.Runs.{IsDone, IsGrown, IsUnderWay, IsSettling, IsRemade}
+use Rattle.qh_surface.specs.steps.Runs.{AreDone, IsGrown, RunState, IsUnderWay, IsSettling, IsRemade}
 
 -- once all orphans are settled and the facets with outside sets wait, the next round may begin
-pub next_round : {pts : List Vector} {fs : List StoredFacet} {old ps : List PlaneValue} {v w : OutsideValue} {pending made waiting : List ℕ}
-    → IsRemade pts fs old v pending made → ArePlanes (place pts) fs ps → IsSettling pts fs w pending made → w.orphans ≡ []
-    → w.positions ≡ v.positions → length fs ≤ length w.sets → All (λ f. f < length w.sets) waiting → ((f : ℕ) → In f pending → In f waiting)
-    → ((f p : ℕ) → In f made → In p (set_of w f) → In f waiting) → IsUnderWay pts fs ps w waiting
+pub next_round : {s : RunState} {ps : List PlaneValue} {w : OutsideValue} {made waiting : List ℕ} → IsRemade s made
+    → ArePlanes (place s.points) s.mesh ps → IsSettling s.points s.mesh w s.pending made → w.orphans ≡ []
+    → w.positions ≡ s.sets.positions → length s.mesh ≤ length w.sets → All (λ f. f < length w.sets) waiting
+    → ((f : ℕ) → In f s.pending → In f waiting) → ((f p : ℕ) → In f made → In p (set_of w f) → In f waiting)
+    → IsUnderWay (record { points = s.points; mesh = s.mesh; planes = ps; sets = w; pending = waiting })
 next_round k planes z o e room within kept more = record {
   grown = k.grown;
   planes = planes;
@@ -39,7 +40,7 @@ some_facet at fs c = along_list (surface_of fs).live refl
     along_list (g ∷ gs) e = (g, subst (In g) (sym e) (inl refl))
 
 -- a mesh that sees no point of the list is finished
-pub finished : (pts : List Vector) (fs : List StoredFacet) → IsGrown pts fs → ((p : ℕ) → p < length pts → IsDone pts fs p)
+pub finished : (pts : List Vector) (fs : List StoredFacet) → IsGrown pts fs → AreDone pts fs
     → IsFinished (place pts) (range_with_len 0 (length pts)) (surface_of fs)
 finished pts fs k d = record {
   s = k.s;

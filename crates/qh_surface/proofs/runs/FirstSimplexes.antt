@@ -10,13 +10,13 @@ use Rattle.qh_model.proofs.Members.{All-In, In-get_or}
 use Rattle.qh_model.proofs.algebra.VectorIdentities.{vol-flip_last}
 use Rattle.qh_plane.specs.contract.Shapes.{IsInLine, IsInPlane, IsFirstNot, AreFirstTwo, dimension_of}
 use Rattle.qh_surface.specs.contract.Simplexes.{IsSimplexOf}
-use Rattle.qh_surface.specs.steps.OutsideSets.{OutsideValue, set_of}
+use Rattle.qh_surface.specs.steps.OutsideSets.{set_of}
 use Rattle.qh_plane.specs.declared.shape.Shape.{Shape}
 use Rattle.qh_plane.specs.declared.shape.Shape.TheVariants.{Point, Segment, Flat, Solid}
 use Rattle.qh_mesh.specs.contract.{Replacement.IsLive, SoundMesh.IsSoundMesh, SoundMesh.IsClosedMesh, SoundMesh.simplex_facets}
 use Rattle.qh_model.proofs.surfaces.Simplex.{middle-turned}
 use Rattle.qh_model.proofs.lists.Ranges.{range_has}
-use Rattle.qh_surface.specs.steps.Runs.{height_at, IsGrown, IsRemade}
+use Rattle.qh_surface.specs.steps.Runs.{height_at, IsGrown, RunState, IsRemade}
 
 -- the corners of facet f are below n
 abbrev CornersBelow : ℕ → List StoredFacet → ℕ → Type 0
@@ -94,27 +94,27 @@ module _ {pts : List Vector} {fs : List StoredFacet} {i j k l : ℕ} (h : IsFirs
       of_corners i j k l (h.down down) h.i_in h.j_in h.k_in h.l_in down h.sound)
 
 -- with all positions orphans it may be settled
-pub first_remade : (pts : List Vector) (fs : List StoredFacet) (v : OutsideValue) (i j k l : ℕ) → IsFirst pts fs i j k l
-    → v.positions ≡ length pts → v.orphans ≡ range_with_len 0 (length pts) → v.sets ≡ [] → IsRemade pts fs [] v [] four_facets
-first_remade pts fs v i j k l h p o s = record {
+pub first_remade : (s : RunState) (i j k l : ℕ) → IsFirst s.points s.mesh i j k l → s.sets.positions ≡ length s.points
+    → s.sets.orphans ≡ range_with_len 0 (length s.points) → s.sets.sets ≡ [] → s.pending ≡ [] → IsRemade s four_facets
+first_remade s i j k l h p o none idle = record {
   grown = t.grown;
   planes = λ f a. inr (t.named f a);
   made_live = t.live;
   positions = p;
-  range = All-nil (λ f. f < length v.sets);
+  range = subst (All (λ f. f < length s.sets.sets)) (sym idle) (All-nil (λ f. f < length s.sets.sets));
   settling = record {
     outside = λ f q m. absurd (nothing f q m);
     waits = λ f q m. absurd (nothing f q m);
-    all = λ q b. inl (subst (In q) (sym o) (range_has (length pts) q b));
-    drops = λ q m u f a. All-In (λ g. height_at pts fs g q ≤ℤ pos 0) four_facets f u (t.named f a);
+    all = λ q b. inl (subst (In q) (sym o) (range_has (length s.points) q b));
+    drops = λ q m u f a. All-In (λ g. height_at s.points s.mesh g q ≤ℤ pos 0) four_facets f u (t.named f a);
   };
 }
   where
-    t : IsStarted pts fs
+    t : IsStarted s.points s.mesh
     t = started h
 
-    nothing : (f q : ℕ) → In q (set_of v f) → ⊥
-    nothing f q m = subst (λ (xs : List (List ℕ)). In q (slice_index_or xs f [])) s m
+    nothing : (f q : ℕ) → In q (set_of s.sets f) → ⊥
+    nothing f q m = subst (λ (xs : List (List ℕ)). In q (slice_index_or xs f [])) none m
 
 -- ---- the shape
 -- the first two ids are members

@@ -1,17 +1,16 @@
 -- The next apex: facets without an outside set are passed over, and the first point of a set is taken out of it.
-use Rattle.std.proofs.Common.{◌≡◌, ℕ, ◌<◌, arith, ap, sym, ◌∙◌, refl, ◌⊎◌, ⊎_elim, inl, inr, List, [], ◌∷◌, All, length, drop}
-use Rattle.std.proofs.Common.{subst, slice_set, length-set}
-use Rattle.std.proofs.lemmas.{Grind.common_steps, List.set-get_or}
-use Rattle.qh_model.specs.headline.{Vector.Vector, Sets.In}
-use Rattle.qh_model.specs.contract.StoredSurface.{StoredFacet}
-use Rattle.qh_pred.specs.contract.Planes.{PlaneValue}
-use Rattle.qh_surface.specs.steps.OutsideSets.{OutsideValue, set_of}
-use Rattle.qh_surface.specs.steps.Runs.{IsDone, IsOutside, IsUnderWay, IsPicked}
+use Rattle.std.proofs.Common.{◌≡◌, ℕ, ◌<◌, arith, ap, sym, ◌∙◌, true, ◌⊎◌, ⊎_elim, inl, inr, List, [], ◌∷◌, All, length, drop}
+use Rattle.std.proofs.Common.{subst, slice_set, length-set, get_or-set_same, pos, ◌<ℤ◌}
+use Rattle.std.proofs.lemmas.List.{set-get_or, set-set}
+use Rattle.qh_model.specs.headline.Sets.{In}
+use Rattle.qh_mesh.specs.contract.Replacement.{IsLive}
+use Rattle.qh_surface.specs.steps.OutsideSets.{OutsideValue, set_of, joined}
+use Rattle.qh_surface.specs.steps.Runs.{height_at, IsDone, AreDone, IsOutside, AreOutside, RunState, with_waiting, with_first, IsUnderWay, IsPicked}
 use Rattle.std.proofs.lemmas.List.Elements.{All-head, All-tail}
 use Rattle.std.proofs.lemmas.List.Sorted.{All-permutation}
 use Rattle.std.specs.Prelude.{IsPermutation}
 use Rattle.qh_model.proofs.Members.{in_permutation}
-use Rattle.qh_surface.proofs.runs.SetWrites.{of_write}
+use Rattle.qh_surface.proofs.runs.SetWrites.{of_join, join_has, join_keeps, joined_front}
 
 -- the sets without the first point of the set at f
 abbrev pub taken : OutsideValue → ℕ → OutsideValue
@@ -27,60 +26,90 @@ none_taken v f e =
     let same = ap (λ (xs : List ℕ). slice_set v.sets f (drop 1 xs)) e ∙ ap (slice_set v.sets f) (sym e) ∙ set-get_or v.sets f [] in
     λ i. record { positions = v.positions; orphans = v.orphans; sets = same i }
 
-module _ {pts : List Vector} {fs : List StoredFacet} {ps : List PlaneValue} {v : OutsideValue} {pending : List ℕ}
-    (k : IsUnderWay pts fs ps v pending) (rest : List ℕ) (f : ℕ) (is : IsPermutation pending (f ∷ rest)) where
-  range : All (λ g. g < length v.sets) rest × (f < length v.sets)
-  range =
-      let all = All-permutation (λ g. g < length v.sets) pending (f ∷ rest) is k.range in
-      (All-tail (λ g. g < length v.sets) f rest all, All-head (λ g. g < length v.sets) f rest all)
+-- the first position of a set may be put back in front of it
+put_back : (v : OutsideValue) (f a : ℕ) → f < length v.sets → set_of v f ≡ a ∷ drop 1 (set_of v f) → with_first (taken v f) f a ≡ v
+put_back v f a l e = λ i. record { positions = v.positions; orphans = v.orphans; sets = same i }
+  where
+    rest : List ℕ
+    rest = drop 1 (set_of v f)
 
-  waits : (g p : ℕ) → In p (set_of v g) → In g rest ⊎ (g ≡ f)
-  waits g p i = elim (in_permutation pending (f ∷ rest) is g (k.waits g p i)) [ inl e ↦ inr e | inr n ↦ inl n ]
+    whole : joined true a (set_of (taken v f) f) ≡ set_of v f
+    whole = ap (joined true a) (get_or-set_same v.sets f rest [] l) ∙ joined_front a rest ∙ sym e
+
+    same : slice_set (slice_set v.sets f rest) f (joined true a (set_of (taken v f) f)) ≡ v.sets
+    same = ap (slice_set (slice_set v.sets f rest) f) whole ∙ set-set v.sets f rest (set_of v f) ∙ set-get_or v.sets f []
+
+-- other facets may wait, if those with an outside set do
+with_pending : {s : RunState} (waiting : List ℕ) → IsUnderWay s → All (λ g. g < length s.sets.sets) waiting
+    → ((g p : ℕ) → In p (set_of s.sets g) → In g waiting) → IsUnderWay (with_waiting s s.sets waiting)
+with_pending waiting k within waits = record {
+  grown = k.grown;
+  planes = k.planes;
+  positions = k.positions;
+  places = k.places;
+  range = within;
+  outside = k.outside;
+  none = k.none;
+  waits = waits;
+  all = k.all;
+}
+
+module _ {s : RunState} (k : IsUnderWay s) (rest : List ℕ) (f : ℕ) (is : IsPermutation s.pending (f ∷ rest)) where
+  range : All (λ g. g < length s.sets.sets) (f ∷ rest)
+  range = All-permutation (λ g. g < length s.sets.sets) s.pending (f ∷ rest) is k.range
+
+  waits : (g p : ℕ) → In p (set_of s.sets g) → In g (f ∷ rest)
+  waits g p i = in_permutation s.pending (f ∷ rest) is g (k.waits g p i)
 
   -- a facet whose set is empty need not wait
-  pub passed_over : set_of v f ≡ [] → IsUnderWay pts fs ps v rest
-  passed_over e = record {
-    grown = k.grown;
-    planes = k.planes;
-    positions = k.positions;
-    places = k.places;
-    range = range.0;
-    outside = k.outside;
-    none = k.none;
-    waits = λ g p i. ⊎_elim (λ n. n) (λ n. absurd (subst (In p) (ap (set_of v) n ∙ e) i)) (waits g p i);
-    all = k.all;
-  }
+  pub passed_over : set_of s.sets f ≡ [] → IsUnderWay (with_waiting s s.sets rest)
+  passed_over e = with_pending rest k (All-tail (λ g. g < length s.sets.sets) f rest range)
+      (λ g p i. ⊎_elim (λ n. absurd (subst (In p) (ap (set_of s.sets) n ∙ e) i)) (λ n. n) (waits g p i))
 
   -- the first point of a set is the apex
-  pub picked : {a : ℕ} → set_of v f ≡ a ∷ drop 1 (set_of v f) → a < v.positions → IsPicked pts fs ps (taken v f) rest f a
+  pub picked : {a : ℕ} → set_of s.sets f ≡ a ∷ drop 1 (set_of s.sets f) → a < s.sets.positions
+      → IsPicked (with_waiting s (taken s.sets f) rest) f a
   picked {a} e l = record {
-    grown = k.grown;
-    planes = k.planes;
-    positions = k.positions;
-    places = let n = length-set v.sets f (drop 1 (set_of v f)) in let h = k.places in omega arith;
-    range = rw (length-set v.sets f (drop 1 (set_of v f))) range.0;
-    outside = λ g q i. k.outside g q (was g q i);
-    none = k.none;
-    waits = λ g q i. waits g q (was g q i);
-    all = λ q h. ⊎_elim (λ o. ⊎_elim (λ m. inl m) (λ m. inr (inr m)) (still o.0 q o.1)) (λ d. inr (inl d)) (k.all q h);
     apex = let h = k.positions in omega arith;
-    live = (k.outside f a first).0;
-    seen = (k.outside f a first).1;
+    before = subst (λ (v : OutsideValue). IsUnderWay (with_waiting s v (f ∷ rest)))
+        (sym (put_back s.sets f a (All-head (λ g. g < length s.sets.sets) f rest range) e)) (with_pending (f ∷ rest) k range waits);
   }
-    where
-      first : In a (set_of v f)
-      first = subst (In a) (sym e) (inl refl)
 
-      was : (g q : ℕ) → In q (set_of (taken v f) g) → In q (set_of v g)
-      was g q i = let h = of_write v.sets f (drop 1 (set_of v f)) g q i in grind (arith, h, e)
+-- what holds without the apex and its facet
+module _ {s : RunState} {f a : ℕ} (k : IsPicked s f a) where
+  abbrev sets : List (List ℕ)
+  sets = s.sets.sets
 
-      still : (g q : ℕ) → In q (set_of v g) → IsOutside (taken v f) q ⊎ (q ≡ a)
-      still g q i =
-          let n = range.1 in
-          let there : In q (set_of (taken v f) g) ⊎ (q ≡ a) = grind (arith, common_steps, i, e, n) in
-          ⊎_elim (λ h. inl (g, h)) (λ h. inr h) there
+  same_length : length (with_first s.sets f a).sets ≡ length sets
+  same_length = length-set sets f (joined true a (set_of s.sets f))
+
+  all_within : All (λ g. g < length sets) (f ∷ s.pending)
+  all_within = subst (λ n. All (λ g. g < n) (f ∷ s.pending)) same_length k.before.range
+
+  f_within : f < length sets
+  f_within = All-head (λ g. g < length sets) f s.pending all_within
+
+  before : (g p : ℕ) → In p (set_of s.sets g) → In p (set_of (with_first s.sets f a) g)
+  before g p i = join_keeps sets f true a g p f_within i
+
+  pub pending_within : All (λ g. g < length sets) s.pending
+  pending_within = All-tail (λ g. g < length sets) f s.pending all_within
+
+  pub apex_outside : IsLive s.mesh f × (pos 0 <ℤ height_at s.points s.mesh f a)
+  apex_outside = k.before.outside f a (join_has sets f true a f_within)
+
+  pub still_outside : AreOutside s.points s.mesh s.sets
+  still_outside g p i = k.before.outside g p (before g p i)
+
+  pub still_waits : (g p : ℕ) → In p (set_of s.sets g) → (g ≡ f) ⊎ In g s.pending
+  still_waits g p i = k.before.waits g p (before g p i)
+
+  pub still_all : (p : ℕ) → p < length s.points → IsOutside s.sets p ⊎ IsDone s.points s.mesh p ⊎ (p ≡ a)
+  still_all p l = elim (k.before.all p l) [
+    | inl o ↦ elim (of_join sets f true a o.0 p o.1) [ inl h ↦ inr (inr h.1) | inr h ↦ inl (o.0, h) ]
+    | inr d ↦ inr (inl d)
+  ]
 
 -- when no facet waits, no facet sees a point
-pub all_done : {pts : List Vector} {fs : List StoredFacet} {ps : List PlaneValue} {v : OutsideValue} → IsUnderWay pts fs ps v []
-    → (p : ℕ) → p < length pts → IsDone pts fs p
-all_done k p l = ⊎_elim (λ o. absurd (k.waits o.0 p o.1)) (λ d. d) (k.all p l)
+pub all_done : {s : RunState} → s.pending ≡ [] → IsUnderWay s → AreDone s.points s.mesh
+all_done none k p l = ⊎_elim (λ o. absurd (subst (In o.0) none (k.waits o.0 p o.1))) (λ d. d) (k.all p l)

@@ -1,5 +1,5 @@
 -- A round of Quickhull: where a cone replaces what the apex sees, the released points are all that must be looked at.
-use Rattle.std.proofs.Common.{All, ◌≡◌, ℕ, ◌<◌, arith, ap, sym, ◌∙◌, true, inl, inr, List, length, get_or, subst, pos, ◌<ℤ◌, ◌≤ℤ◌}
+use Rattle.std.proofs.Common.{All, ◌≡◌, ℕ, ◌<◌, arith, ap, sym, ◌∙◌, true, inl, inr, List, ◌∷◌, length, get_or, subst, pos, ◌<ℤ◌, ◌≤ℤ◌}
 use Rattle.std.proofs.lemmas.{List.get_or_read, Bool.cases_Bool}
 use Rattle.qh_model.specs.headline.{Vector.Vector, Vector.origin, Predicates.vol, Predicates.place, Sets.In}
 use Rattle.qh_model.specs.contract.{Weighted.Weighted, Weighted.above, FinishedSurface.weighted_at, FinishedSurface.middle_at}
@@ -12,13 +12,14 @@ use Rattle.qh_model.proofs.Members.{All-In}
 use Rattle.qh_model.proofs.surfaces.SurfaceLaws.{rise_is_vol, settled_stay_unseen, corners_are_settled, added_is_settled}
 use Rattle.qh_model.proofs.surfaces.Unseen.{dropped_stay_unseen}
 use Rattle.qh_model.proofs.algebra.Signs.{not_less}
-use Rattle.qh_pred.specs.contract.Planes.{PlaneValue}
 use Rattle.qh_mesh.specs.contract.Replacement.{is_listed, IsLive, IsKept, IsReplacement}
 use Rattle.qh_mesh.specs.contract.SoundMesh.{facet_vol, IsSoundMesh, IsClosedMesh, AreVisible}
 use Rattle.qh_mesh.proofs.{ListedFacets.in_listed, ListedFacets.listed_in, Rewiring.live_in, Rewiring.in_live, Rewiring.rise-vol}
 use Rattle.qh_surface.specs.steps.OutsideSets.{OutsideValue, set_of}
 use Rattle.qh_surface.specs.contract.Corners.{AreCornersBelow}
-use Rattle.qh_surface.specs.steps.{Runs.height_at, Runs.IsDone, Runs.IsPicked, Runs.IsRemade, Settling.AreReleased}
+use Rattle.qh_surface.specs.steps.Runs.{height_at, IsDone, RunState, with_waiting, with_first, IsUnderWay, IsPicked, IsRemade}
+use Rattle.qh_surface.specs.steps.Settling.{AreReleased}
+use Rattle.qh_surface.proofs.runs.PickedApexes.{pending_within, apex_outside, still_outside, still_waits, still_all}
 use Rattle.qh_surface.proofs.LiveFacets.{live_below}
 
 -- a point that no facet of the surface sees
@@ -102,10 +103,11 @@ module _ {pts : List Vector} {old new : List StoredFacet} {vs made : List ℕ} {
     ]
 
 -- then the points that were released are all that must be looked at
-pub remade : {pts : List Vector} {old new : List StoredFacet} {ps : List PlaneValue} {v w : OutsideValue}
-    {pending vs made : List ℕ} {f a : ℕ} → IsPicked pts old ps v pending f a → IsRound pts old new vs a made → AreReleased v w vs
-    → w.positions ≡ v.positions → length w.sets ≡ length v.sets → IsRemade pts new ps w pending made
-remade {pts} {old} {new} {ps} {v} {w} {pending} {vs} {made} {f} {a} k d rel e n = record {
+pub remade : {s : RunState} {new : List StoredFacet} {w : OutsideValue} {vs made : List ℕ} {f a : ℕ} → IsPicked s f a
+    → IsRound s.points s.mesh new vs a made → AreReleased s.sets w vs → w.positions ≡ s.sets.positions
+    → length w.sets ≡ length s.sets.sets
+    → IsRemade (record { points = s.points; mesh = new; planes = s.planes; sets = w; pending = s.pending }) made
+remade {s} {new} {w} {vs} {made} {f} {a} picked d rel e n = record {
   grown = record {
     s = k.grown.s;
     t = k.grown.t;
@@ -116,47 +118,52 @@ remade {pts} {old} {new} {ps} {v} {w} {pending} {vs} {made} {f} {a} k d rel e n 
     u_in = k.grown.u_in;
     v_in = k.grown.v_in;
     volume = k.grown.volume;
-    sound = d.sound (middle_at (place pts) k.grown.s k.grown.t k.grown.u k.grown.v) k.grown.sound;
+    sound = d.sound (middle_at (place s.points) k.grown.s k.grown.t k.grown.u k.grown.v) k.grown.sound;
     closed = d.closed;
-    corners = corners_stay d (length pts) k.grown.corners k.apex;
+    corners = corners_stay d (length s.points) k.grown.corners picked.apex;
   };
   planes = λ g l. elim (d.replaced.only g l) [
     | inl h ↦ inl (
-      (let l = live_below old g h.live in let r = k.planes.room in omega arith),
+      (let l = live_below s.mesh g h.live in let r = k.planes.room in omega arith),
       λ p. k.planes.right g h.live p ∙ sym (stays-vol d g p h),
     )
     | inr h ↦ inr h
   ];
   made_live = All-from_get_or (IsLive new) made 0 (λ j l. (d.replaced.cone j l).live);
   positions = e ∙ k.positions;
-  range = rw n k.range;
+  range = rw n (pending_within picked);
   settling = record {
     outside = λ g p i. let h = stays g p i in
-        ((d.replaced.kept g h).live, rw (stays-vol d g (place pts p) h) (k.outside g p (rel.kept g p i)).1);
-    waits = λ g p i. elim (k.waits g p (rel.kept g p i)) [ inl h ↦ inl h | inr h ↦ absurd (other g p i h) ];
-    all = λ p l. elim (k.all p l) [
+        ((d.replaced.kept g h).live, rw (stays-vol d g (place s.points p) h) (still_outside picked g p (rel.kept g p i)).1);
+    waits = λ g p i. elim (still_waits picked g p (rel.kept g p i)) [ inl h ↦ absurd (other g p i h) | inr h ↦ inl h ];
+    all = λ p l. elim (still_all picked p l) [
       | inl o ↦ elim (rel.moved o.0 p o.1) [ inl h ↦ inr (inl (o.0, h)) | inr h ↦ inl h ]
       | inr (inl h) ↦ inr (inr (still_done d k.grown.sound p h))
       | inr (inr h) ↦ inr (inr (rw h
-          (done_of pts new a (added_is_settled (surface_of old) (surface_of new) (weighted_at (place pts)) a d.rewired))))
+          (done_of s.points new a (added_is_settled (surface_of s.mesh) (surface_of new) (weighted_at (place s.points)) a d.rewired))))
     ];
     drops = λ p i u. elim (rel.orphans p i) [
       | inl h ↦ absurd (subst (In p) k.none h)
-      | inr h ↦ let b = k.outside h.0 p h.2 in drop_done d k.grown.sound p h.0 b.0 (in_listed vs h.0 h.1) b.1 u
+      | inr h ↦ let b = still_outside picked h.0 p h.2 in drop_done d k.grown.sound p h.0 b.0 (in_listed vs h.0 h.1) b.1 u
     ];
   };
 }
   where
+    k : IsUnderWay (with_waiting s (with_first s.sets f a) (f ∷ s.pending))
+    k = picked.before
+
     -- a facet with an outside set stays
-    stays : (g p : ℕ) → In p (set_of w g) → IsKept old vs g
+    stays : (g p : ℕ) → In p (set_of w g) → IsKept s.mesh vs g
     stays g p i = elim (cases_Bool (is_listed vs g)) [
       | inl h ↦ absurd (subst (In p) (rel.emptied g (listed_in vs g h)) i)
-      | inr h ↦ record { live = (k.outside g p (rel.kept g p i)).0; unlisted = h }
+      | inr h ↦ record { live = (still_outside picked g p (rel.kept g p i)).0; unlisted = h }
     ]
 
     -- and is not the one whose turn it was
     other : (g p : ℕ) → In p (set_of w g) → g ≡ f → ⊥
-    other g p i h = not_less _ _ k.seen (d.visible.unseen f k.live (ap (is_listed vs) (sym h) ∙ (stays g p i).unlisted))
+    other g p i h =
+        let seen = apex_outside picked in
+        not_less _ _ seen.1 (d.visible.unseen f seen.0 (ap (is_listed vs) (sym h) ∙ (stays g p i).unlisted))
 
 -- the point at a position, read from the list
 pub read_point : (pts : List Vector) (a : ℕ) (point : Vector) → a < length pts → point ≡ get_or pts a point → point ≡ place pts a

@@ -30,6 +30,11 @@ joined_has b p q [] i = i
 joined_has true p q (x ∷ xs) i = i
 joined_has false p q (x ∷ xs) i = grind (arith, i)
 
+-- in front is before all
+pub joined_front : (p : ℕ) (xs : List ℕ) → joined true p xs ≡ p ∷ xs
+joined_front p [] = refl
+joined_front p (x ∷ xs) = refl
+
 -- what a set has after a position joined one: that position, or what it had
 pub of_join : (xs : List (List ℕ)) (f : ℕ) (b : Bool) (p g q : ℕ)
     → In q (get_or (set xs f (joined b p (get_or xs f []))) g []) → ((g ≡ f) × (q ≡ p)) ⊎ In q (get_or xs g [])

@@ -1,6 +1,6 @@
 -- A run of Quickhull over a list of points, each known by its position: what holds between two rounds, and within a round.
 -- Source: Barber, Dobkin and Huhdanpaa 1996 (outside sets, the horizon, the cone of new facets).
-use Rattle.std.specs.Prelude.{All, ◌≡◌, ℕ, ◌<◌, ◌≤◌, ◌⊎◌, List, [], length, ℤ, pos, ◌≤ℤ◌, ◌<ℤ◌}
+use Rattle.std.specs.Prelude.{All, ◌≡◌, ℕ, ◌<◌, ◌≤◌, ◌⊎◌, List, [], ◌∷◌, length, slice_set, true, ℤ, pos, ◌≤ℤ◌, ◌<ℤ◌}
 use Rattle.qh_model.specs.headline.Vector.{Vector}
 use Rattle.qh_model.specs.headline.Predicates.{vol, place}
 use Rattle.qh_model.specs.headline.Sets.{In}
@@ -11,7 +11,7 @@ use Rattle.qh_mesh.specs.contract.Replacement.{IsLive}
 use Rattle.qh_mesh.specs.contract.SoundMesh.{facet_vol, IsSoundMesh, IsClosedMesh}
 use Rattle.qh_surface.specs.contract.Corners.{AreCornersBelow}
 use Rattle.qh_surface.specs.steps.Planes.{plane_at, ArePlanes}
-use Rattle.qh_surface.specs.steps.OutsideSets.{OutsideValue, set_of}
+use Rattle.qh_surface.specs.steps.OutsideSets.{OutsideValue, set_of, joined}
 
 -- six times the volume of facet f and the point at position p: above 0 where the facet strictly sees it
 abbrev pub height_at : List Vector → List StoredFacet → ℕ → ℕ → ℤ
@@ -20,6 +20,10 @@ height_at pts fs f p = facet_vol (place pts) fs f (place pts p)
 -- no facet sees the point at position p
 abbrev pub IsDone : List Vector → List StoredFacet → ℕ → Type 0
 IsDone pts fs p = (f : ℕ) → IsLive fs f → height_at pts fs f p ≤ℤ pos 0
+
+-- no facet sees a point of the list
+abbrev pub AreDone : List Vector → List StoredFacet → Type 0
+AreDone pts fs = (p : ℕ) → p < length pts → IsDone pts fs p
 
 -- position p stands in some outside set
 abbrev pub IsOutside : OutsideValue → ℕ → Type 0
@@ -44,35 +48,41 @@ pub record IsGrown (pts : List Vector) (fs : List StoredFacet) : Type 0 where
   pub closed : IsClosedMesh (place pts) fs
   pub corners : AreCornersBelow (length pts) fs
 
+-- what a run keeps from round to round: points known by position, a mesh over them, the plane of each place,
+-- the points that are not settled, and the facets that wait for their turn
+pub record RunState : Type 0 where
+  pub points : List Vector
+  pub mesh : List StoredFacet
+  pub planes : List PlaneValue
+  pub sets : OutsideValue
+  pub pending : List ℕ
+
 -- between rounds: each point stands in the outside set of a facet that it is above, and that waits for its turn,
 -- or no facet sees it
-pub record IsUnderWay (pts : List Vector) (fs : List StoredFacet) (ps : List PlaneValue) (v : OutsideValue)
-    (pending : List ℕ) : Type 0 where
-  pub grown : IsGrown pts fs
-  pub planes : ArePlanes (place pts) fs ps
-  pub positions : v.positions ≡ length pts
-  pub places : length fs ≤ length v.sets
-  pub range : All (λ f. f < length v.sets) pending
-  pub outside : AreOutside pts fs v
-  pub none : v.orphans ≡ []
-  pub waits : (f p : ℕ) → In p (set_of v f) → In f pending
-  pub all : (p : ℕ) → p < length pts → IsOutside v p ⊎ IsDone pts fs p
+pub record IsUnderWay (s : RunState) : Type 0 where
+  pub grown : IsGrown s.points s.mesh
+  pub planes : ArePlanes (place s.points) s.mesh s.planes
+  pub positions : s.sets.positions ≡ length s.points
+  pub places : length s.mesh ≤ length s.sets.sets
+  pub range : All (λ f. f < length s.sets.sets) s.pending
+  pub outside : AreOutside s.points s.mesh s.sets
+  pub none : s.sets.orphans ≡ []
+  pub waits : (f p : ℕ) → In p (set_of s.sets f) → In f s.pending
+  pub all : (p : ℕ) → p < length s.points → IsOutside s.sets p ⊎ IsDone s.points s.mesh p
 
--- the position a was taken out of the outside set of facet f, to be the next apex
-pub record IsPicked (pts : List Vector) (fs : List StoredFacet) (ps : List PlaneValue) (v : OutsideValue)
-    (pending : List ℕ) (f a : ℕ) : Type 0 where
-  pub grown : IsGrown pts fs
-  pub planes : ArePlanes (place pts) fs ps
-  pub positions : v.positions ≡ length pts
-  pub places : length fs ≤ length v.sets
-  pub range : All (λ f. f < length v.sets) pending
-  pub outside : AreOutside pts fs v
-  pub none : v.orphans ≡ []
-  pub waits : (g p : ℕ) → In p (set_of v g) → In g pending ⊎ (g ≡ f)
-  pub all : (p : ℕ) → p < length pts → IsOutside v p ⊎ IsDone pts fs p ⊎ (p ≡ a)
-  pub apex : a < length pts
-  pub live : IsLive fs f
-  pub seen : pos 0 <ℤ height_at pts fs f a
+-- the run with these sets, and these facets that wait
+abbrev pub with_waiting : RunState → OutsideValue → List ℕ → RunState
+with_waiting s v pending = record { points = s.points; mesh = s.mesh; planes = s.planes; sets = v; pending = pending }
+
+-- the sets with the position a in front of that of facet f
+abbrev pub with_first : OutsideValue → ℕ → ℕ → OutsideValue
+with_first v f a =
+    record { positions = v.positions; orphans = v.orphans; sets = slice_set v.sets f (joined true a (set_of v f)) }
+
+-- the position a was taken out of the outside set of facet f, to be the next apex: with both put back, the run is under way
+pub record IsPicked (s : RunState) (f a : ℕ) : Type 0 where
+  pub apex : a < length s.points
+  pub before : IsUnderWay (with_waiting s (with_first s.sets f a) (f ∷ s.pending))
 
 -- while the orphans go to the facets that were made: an orphan that sees none of these sees no facet
 pub record IsSettling (pts : List Vector) (fs : List StoredFacet) (v : OutsideValue)
@@ -87,11 +97,10 @@ abbrev pub IsPlaneOf : List Vector → List StoredFacet → List PlaneValue → 
 IsPlaneOf pts fs ps f = (f < length ps) × ((p : Vector) → height (plane_at ps f) p ≡ facet_vol (place pts) fs f p)
 
 -- facets were made that have no plane and no outside set yet
-pub record IsRemade (pts : List Vector) (fs : List StoredFacet) (ps : List PlaneValue) (v : OutsideValue)
-    (pending made : List ℕ) : Type 0 where
-  pub grown : IsGrown pts fs
-  pub planes : (f : ℕ) → IsLive fs f → IsPlaneOf pts fs ps f ⊎ In f made
-  pub made_live : All (IsLive fs) made
-  pub positions : v.positions ≡ length pts
-  pub range : All (λ f. f < length v.sets) pending
-  pub settling : IsSettling pts fs v pending made
+pub record IsRemade (s : RunState) (made : List ℕ) : Type 0 where
+  pub grown : IsGrown s.points s.mesh
+  pub planes : (f : ℕ) → IsLive s.mesh f → IsPlaneOf s.points s.mesh s.planes f ⊎ In f made
+  pub made_live : All (IsLive s.mesh) made
+  pub positions : s.sets.positions ≡ length s.points
+  pub range : All (λ f. f < length s.sets.sets) s.pending
+  pub settling : IsSettling s.points s.mesh s.sets s.pending made

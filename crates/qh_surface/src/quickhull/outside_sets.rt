@@ -15,7 +15,7 @@ ghost use Rattle.std.specs.List.{range_with_len};
 ghost use Rattle.qh_surface.specs.steps.OutsideSets.{set_of, listed, joined};
 
 use qh_mesh::FacetNo;
-use qh_model::Memory;
+use qh_model::{Id, Memory};
 use std::alloc::{AllocError, Global};
 use std::marker::Model;
 
@@ -167,13 +167,13 @@ impl OutsideSets {
     }
 
     /// Returns the first orphan, if there is one.
-    pub fn first_orphan(&self) -> Option<u32>
+    pub fn first_orphan(&self) -> Option<Id>
         ensures none { IsNone result ↔ (self.now.orphans ≡ []) }
         ensures first { IfSome result (λ p. self.now.orphans ≡ p ∷ drop 1 self.now.orphans) }
         ensures position { IfSome result (λ p. p < self.now.positions) }
     {
         if self.is_position(self.orphan) {
-            Some(self.orphan)
+            Some(Id::new(self.orphan))
         } else {
             None
         }
@@ -247,7 +247,7 @@ impl OutsideSets {
     }
 
     /// Returns the first position of the outside set of a facet, if it has one.
-    pub fn first(&self, facet: FacetNo) -> Option<u32>
+    pub fn first(&self, facet: FacetNo) -> Option<Id>
         requires { facet < length self.now.sets }
         ensures none { IsNone result ↔ (set_of self.now facet ≡ []) }
         ensures first { IfSome result (λ p. set_of self.now facet ≡ p ∷ drop 1 (set_of self.now facet)) }
@@ -255,7 +255,7 @@ impl OutsideSets {
     {
         let first = self.ends[facet.index()].first;
         if self.is_position(first) {
-            Some(first)
+            Some(Id::new(first))
         } else {
             None
         }
@@ -263,7 +263,7 @@ impl OutsideSets {
 
     /// Takes the first position of the outside set of a facet out of all lists, for good, and answers
     /// it. An empty set stays so.
-    pub fn take_first(&mut self, facet: FacetNo) -> Option<u32>
+    pub fn take_first(&mut self, facet: FacetNo) -> Option<Id>
         requires { facet < length self.old.sets }
         ensures none { IsNone result ↔ (set_of self.old facet ≡ []) }
         ensures first { IfSome result (λ p. set_of self.old facet ≡ p ∷ drop 1 (set_of self.old facet)) }
@@ -276,7 +276,7 @@ impl OutsideSets {
     {
         let first = self.first(facet)?;
         let place = facet.index();
-        self.ends[place].first = self.links[first as usize];
+        self.ends[place].first = self.links[first.index()];
         Some(first)
     }
 
@@ -293,7 +293,7 @@ impl OutsideSets {
             let place = facet.index();
             let last = self.ends[place].last;
             self.links[last as usize] = self.orphan;
-            self.orphan = first;
+            self.orphan = first.number();
             self.ends[place].first = NONE;
         }
     }

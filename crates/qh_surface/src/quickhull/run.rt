@@ -1,9 +1,10 @@
 //! A run of Quickhull: rounds in each of which one point becomes a corner.
-ghost use Rattle.std.specs.Prelude.{◌≡◌, ◌≤◌, ◌<◌, ℕ, [], length, OnOk, IfOk};
+ghost use Rattle.std.specs.Prelude.{◌≡◌, ◌≤◌, ◌<◌, [], length, OnOk, IfOk};
 ghost use Rattle.qh_surface.specs.steps.OutsideSets.{listed};
 ghost use Rattle.qh_surface.specs.steps.Positions.{IsSimplexIn};
 ghost use Rattle.qh_surface.specs.steps.Cones.{IsFan};
-ghost use Rattle.qh_surface.specs.steps.Runs.{IsDone, IsGrown, IsUnderWay, IsPicked, IsRemade};
+ghost use Rattle.qh_surface.specs.steps.Runs.{AreDone, IsGrown, IsUnderWay, IsPicked, IsRemade};
+ghost use Rattle.qh_surface.specs.steps.RunStates.{state_of};
 
 use crate::quickhull::cone_ring::{ConeRing, SCANNED};
 use crate::quickhull::initial_simplex::Simplex;
@@ -100,7 +101,7 @@ impl Run {
     pub fn start(alloc: Global, points: Vec<Point>, first: Simplex) -> Result<Run, Memory>
         requires { IsSimplexIn points.items first }
         ensures points { IfOk result (λ r. r.points.items ≡ points.items) }
-        ensures under_way { IfOk result (λ r. IsUnderWay points.items r.mesh r.planes.items r.sets r.pending.items) }
+        ensures under_way { IfOk result (λ r. IsUnderWay (state_of r)) }
     {
         let Ok(positions) = u32::try_from(points.len()) else {
             return Err(Memory);
@@ -135,11 +136,10 @@ impl Run {
     /// Gives the facets that were made their planes, the orphans to those of them that they are above,
     /// and those with an outside set a turn.
     fn settle(&mut self, made: &[FacetNo]) -> Result<(), Memory>
-        requires remade { IsRemade self.old.points.items self.old.mesh self.old.planes.items self.old.sets self.old.pending.items made.now }
+        requires remade { IsRemade (state_of self.old) made.now }
         requires fan { SCANNED < length made.now → IsFan self.old.mesh made.now }
         ensures points { self.new.points.items ≡ self.old.points.items }
-        ensures under_way { OnOk result (
-            IsUnderWay self.old.points.items self.new.mesh self.new.planes.items self.new.sets self.new.pending.items) }
+        ensures under_way { OnOk result (IsUnderWay (state_of self.new)) }
         ensures listed { OnOk result (listed self.new.sets ≤ listed self.old.sets) }
     {
         make_room(&mut self.planes, self.mesh.places())?;
@@ -155,14 +155,13 @@ impl Run {
 
     /// Makes the point at a position, which is above a facet, a corner: its cone replaces the
     /// facets that see it.
-    fn add(&mut self, alloc: Global, facet: FacetNo, apex: u32) -> Result<(), Memory>
-        requires { IsPicked self.old.points.items self.old.mesh self.old.planes.items self.old.sets self.old.pending.items facet apex }
+    fn add(&mut self, alloc: Global, facet: FacetNo, apex: Id) -> Result<(), Memory>
+        requires { IsPicked (state_of self.old) facet apex }
         ensures points { self.new.points.items ≡ self.old.points.items }
-        ensures under_way { OnOk result (
-            IsUnderWay self.old.points.items self.new.mesh self.new.planes.items self.new.sets self.new.pending.items) }
+        ensures under_way { OnOk result (IsUnderWay (state_of self.new)) }
         ensures listed { OnOk result (listed self.new.sets ≤ listed self.old.sets) }
     {
-        let point = self.points[apex as usize];
+        let point = self.points[apex.index()];
         self.walk.find(&self.mesh, &self.planes, facet, point)?;
         let visible = self.walk.visible().len();
         make_ready(
@@ -175,7 +174,7 @@ impl Run {
         release(&mut self.sets, self.walk.visible());
         let made = self
             .mesh
-            .replace(alloc, &self.points, self.walk.visible(), Id::new(apex))?;
+            .replace(alloc, &self.points, self.walk.visible(), apex)?;
         self.settle(&made)?;
         self.mesh.take_room(made);
         Ok(())
@@ -183,10 +182,10 @@ impl Run {
 
     /// Adds points until no facet has an outside set.
     pub fn finish(&mut self, alloc: Global) -> Result<(), Memory>
-        requires { IsUnderWay self.old.points.items self.old.mesh self.old.planes.items self.old.sets self.old.pending.items }
+        requires { IsUnderWay (state_of self.old) }
         ensures points { self.new.points.items ≡ self.old.points.items }
-        ensures grown { OnOk result (IsGrown self.old.points.items self.new.mesh) }
-        ensures done { OnOk result ((p : ℕ) → p < length self.old.points.items → IsDone self.old.points.items self.new.mesh p) }
+        ensures grown { OnOk result (IsGrown self.new.points.items self.new.mesh) }
+        ensures done { OnOk result (AreDone self.new.points.items self.new.mesh) }
     {
         while let Some((facet, apex)) = next_apex(
             &mut self.pending,

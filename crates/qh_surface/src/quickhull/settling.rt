@@ -16,7 +16,7 @@ use crate::quickhull::cone_ring::{ConeRing, SCANNED};
 use crate::quickhull::cone_search::Visibility;
 use crate::quickhull::outside_sets::OutsideSets;
 use qh_mesh::FacetNo;
-use qh_model::Point;
+use qh_model::{Id, Point};
 use qh_pred::Plane;
 
 /// Makes the points of the removed facets orphans.
@@ -101,7 +101,7 @@ fn is_above_first(
 {
     let plane = planes[facet.index()];
     match sets.first(facet) {
-        Some(first) => plane.height(point) > plane.height(points[first as usize]),
+        Some(first) => plane.height(point) > plane.height(points[first.index()]),
         None => true,
     }
 }
@@ -148,7 +148,7 @@ fn settle_orphan(
     sets: &mut OutsideSets,
     cone: &Cone<'_>,
     greatest: &mut [i128; SCANNED],
-    orphan: u32,
+    orphan: Id,
 )
     requires points { sets.old.positions ≡ length cone.now.points.now }
     requires planes { All (λ f. f < length cone.now.planes.now) cone.now.made.now }
@@ -161,7 +161,7 @@ fn settle_orphan(
     ensures positions { sets.new.positions ≡ sets.old.positions }
     ensures listed { listed sets.new ≤ listed sets.old }
 {
-    let point = cone.points[orphan as usize];
+    let point = cone.points[orphan.index()];
     match one_below(cone.planes, cone.ring, cone.made, point) {
         Some(below) => {
             if is_furthest(greatest, sets, cone, &below, point) {

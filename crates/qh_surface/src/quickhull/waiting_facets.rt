@@ -1,16 +1,14 @@
 //! The facets that wait for their turn.
 ghost use Rattle.std.specs.Prelude.{All, ◌≡◌, ◌+◌, ◌<◌, ◌≤◌, ◌⊎◌, ℕ, List, [], ◌∷◌, ◌++◌, length, OnOk, IfNone, IfSome};
 ghost use Rattle.std.specs.Prelude.{vec_len, vec_capacity};
-ghost use Rattle.qh_model.specs.headline.Vector.{Vector};
 ghost use Rattle.qh_model.specs.headline.Sets.{In};
-ghost use Rattle.qh_model.specs.contract.StoredSurface.{StoredFacet};
-ghost use Rattle.qh_pred.specs.contract.Planes.{PlaneValue};
 ghost use Rattle.qh_surface.specs.steps.OutsideSets.{set_of, listed};
-ghost use Rattle.qh_surface.specs.steps.Runs.{IsDone, IsUnderWay, IsPicked};
+ghost use Rattle.qh_surface.specs.steps.Runs.{RunState, with_waiting, AreDone, IsUnderWay, IsPicked};
 
 use crate::quickhull::outside_sets::OutsideSets;
 use crate::quickhull::turns::Turns;
 use qh_mesh::FacetNo;
+use qh_model::Id;
 use std::alloc::AllocError;
 
 /// Adds a facet if it has an outside set. It is pushed, then popped if it has none;
@@ -53,12 +51,12 @@ pub fn next_apex(
     pending: &mut Vec<FacetNo>,
     turns: &mut Turns,
     sets: &mut OutsideSets,
-) -> Option<(FacetNo, u32)>
+) -> Option<(FacetNo, Id)>
     requires { All (λ f. f < length sets.old.sets) pending.old.items }
-    ensures done { IfNone result ((pts : List Vector) (fs : List StoredFacet) (ps : List PlaneValue)
-        → IsUnderWay pts fs ps sets.old pending.old.items → (p : ℕ) → p < length pts → IsDone pts fs p) }
-    ensures picked { IfSome result (λ next. (pts : List Vector) (fs : List StoredFacet) (ps : List PlaneValue)
-        → IsUnderWay pts fs ps sets.old pending.old.items → IsPicked pts fs ps sets.new pending.new.items next.0 next.1) }
+    ensures done { IfNone result ((s : RunState)
+        → IsUnderWay (with_waiting s sets.old pending.old.items) → AreDone s.points s.mesh) }
+    ensures picked { IfSome result (λ next. (s : RunState)
+        → IsUnderWay (with_waiting s sets.old pending.old.items) → IsPicked (with_waiting s sets.new pending.new.items) next.0 next.1) }
     ensures listed { IfSome result (λ _. listed sets.new + 1 ≡ listed sets.old) }
 {
     while pending.len() > 0 {

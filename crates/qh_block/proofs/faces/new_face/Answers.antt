@@ -17,9 +17,9 @@ walk-requires-clause-passes c = level_itself (place c.deref.result.now) (surface
 pub facet_polygon-requires-clause-indices : goal.facet_polygon-requires-clause-indices
 facet_polygon-requires-clause-indices c =
     let surface = c.args.surface.now in let vs = c.walk.new.found.items in
-    rw c.deref-4.ensures.value (corners_in _ (named surface) vs _ c.requires.named.corners
+    rw c.deref-3.ensures.value (corners_in _ (named surface) vs _ c.requires.named.corners
     (All-weaker (IsLive surface.mesh) (IsLive (named surface)) (named_live surface) vs c.in_ok-walk.ensures.walk.facets.live)
-    (rw c.deref-3.ensures.value at c.in_ok-gather_corners.ensures.members))
+    c.in_ok-gather_corners.ensures.members)
 
 pub returns-clause-face : goal.returns-clause-face
 returns-clause-face c =
@@ -29,7 +29,7 @@ returns-clause-face c =
     let walked = walk_named c.args.pts.now surface c.requires.named f _ _ _ c.requires.live z.whole
     (rw c.deref.ensures.value at c.in_ok-walk.ensures) in
     new_face _ ids _ _ _ _ _ s z (named_live surface f c.requires.live) new walked
-    _ q (rw c.deref-3.ensures.value at gathered.members) gathered.rising (rw c.deref-4.ensures.value at h))
+    _ q gathered.members gathered.rising (rw c.deref-3.ensures.value at h))
     c.facet_polygon.ensures
 
 pub returns-then-len-eq1-clause-face : goal.returns-then-len-eq1-clause-face

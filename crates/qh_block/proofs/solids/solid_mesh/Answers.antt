@@ -4,4 +4,5 @@ use Rattle.qh_block.proofs.solids.solid_mesh.Goals as goal
 
 pub surface_from-requires-clause-first : goal.surface_from-requires-clause-first
 surface_from-requires-clause-first c =
-    simplex_is c.args.pts.now c.args.ids.now c.args.first.i c.args.first.j c.args.first.k c.args.first.l c.requires.two c.requires.off_line c.requires.off_plane
+    let first = c.args.first in
+    simplex_is c.args.set.pts.now c.args.set.ids.now first.i first.j first.k first.l c.requires.two c.requires.off_line c.requires.off_plane

@@ -7,4 +7,5 @@ abbrev pub decreases-push_square : goal.decreases-push_square
 decreases-push_square l = l.square.now.bits
 
 abbrev pub invariant-loop-number : goal.invariant-loop-number
-invariant-loop-number l = IsCellOf l.planes l.whole → All (IsCellOf l.planes) l.initial.cells.items → All (IsCellOf l.planes) l.cells.items
+invariant-loop-number l = IsCellOf l.plan.planes.now l.whole → All (IsCellOf l.plan.planes.now) l.initial.cells.items
+    → All (IsCellOf l.plan.planes.now) l.cells.items

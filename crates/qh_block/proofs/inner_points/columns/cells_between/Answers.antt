@@ -8,6 +8,6 @@ use Rattle.qh_block.proofs.inner_points.columns.cells_between.Goals as goal
 
 pub returns : goal.returns
 returns c =
-    let cells = IsCellOf c.args.planes.now in
-    c.in_ok-push_square.ensures (c.in_ok-whole.ensures c.args.planes.now (search rules))
+    let cells = IsCellOf c.args.plan.planes.now in
+    c.in_ok-push_square.ensures (c.in_ok-whole.ensures c.args.plan.planes.now (search rules))
     (subst (λ (xs : List Cell). All cells xs) (sym c.in_ok-cells.ensures.items) (All-nil cells))

@@ -4,4 +4,4 @@ use Rattle.qh_block.specs.steps.InnerPoints.{IsCellOf}
 use Rattle.qh_block.proofs.inner_points.columns.cells_of_quarters.Given as goal
 
 abbrev pub invariant-loop-number : goal.invariant-loop-number
-invariant-loop-number l = All (IsCellOf l.planes) l.cells.items
+invariant-loop-number l = All (IsCellOf l.plan.planes.now) l.cells.items

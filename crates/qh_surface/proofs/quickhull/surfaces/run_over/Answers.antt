@@ -11,5 +11,5 @@ start-requires c =
 
 pub returns-clause-finished : goal.returns-clause-finished
 returns-clause-finished c =
-    let done = finished c.in_ok-run.run'.points.items c.finish.new.self.mesh c.in_ok-finish.ensures.grown c.in_ok-finish.ensures.done in
-    rw (c.in_ok-run.ensures.points ∙ c.in_ok-points.ensures, length-map) at done
+    let run = c.finish.new.self in let done = finished run.points.items run.mesh c.in_ok-finish.ensures.grown c.in_ok-finish.ensures.done in
+    rw (c.finish.ensures.points ∙ c.in_ok-run.ensures.points ∙ c.in_ok-points.ensures, length-map) at done

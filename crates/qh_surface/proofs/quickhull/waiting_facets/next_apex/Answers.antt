@@ -3,7 +3,7 @@ use Rattle.std.proofs.Common.{◌<◌, ◌≡◌, ◌∙◌, ◌∷◌, sym, sub
 use Rattle.std.proofs.lemmas.List.{nil_from_length}
 use Rattle.std.proofs.lemmas.List.Elements.{All-head, All-tail}
 use Rattle.std.proofs.lemmas.List.Sorted.{All-permutation, IsPermutation-swap_remove}
-use Rattle.qh_surface.specs.steps.{OutsideSets.OutsideValue, Runs.IsUnderWay, Runs.IsPicked}
+use Rattle.qh_surface.specs.steps.{OutsideSets.OutsideValue, Runs.with_waiting, Runs.IsUnderWay, Runs.IsPicked}
 use Rattle.qh_surface.proofs.runs.PickedApexes.{taken_is, none_taken, passed_over, picked, all_done}
 use Rattle.qh_surface.proofs.quickhull.waiting_facets.next_apex.Goals as goal
 
@@ -23,11 +23,11 @@ take_first-requires c =
     (All-permutation (λ f. f < length v.sets) _ _ (taken_out c) c.loop-pending.invariant.within)
 
 pub returns-in-Some-clause-picked : goal.returns-in-Some-clause-picked
-returns-in-Some-clause-picked c pts fs ps k =
-    let e = c.in-Some.ensures in
-    subst (λ (v : OutsideValue). IsPicked pts fs ps v c.swap_remove-facet.new.self.items c.swap_remove-facet.result c.in-Some.apex)
+returns-in-Some-clause-picked c s k =
+    let e = c.in-Some.ensures in let rest = c.swap_remove-facet.new.self.items in
+    subst (λ (v : OutsideValue). IsPicked (with_waiting s v rest) c.swap_remove-facet.result c.in-Some.apex)
     (sym (taken_is _ _ _ e.positions e.orphans e.sets))
-    (picked (c.loop-pending.invariant.under_way pts fs ps k) _ _ (taken_out c.before.before) e.first e.position)
+    (picked (c.loop-pending.invariant.under_way s k) _ _ (taken_out c.before.before) e.first e.position)
 
 pub loop-pending-preserved : goal.loop-pending-preserved
 loop-pending-preserved c =
@@ -37,12 +37,11 @@ loop-pending-preserved c =
     let same : c.take_first.new.self ≡ v = taken_is _ _ _ e.positions e.orphans e.sets ∙ none_taken v f empty in record {
       within = rw same (All-tail (λ g. g < length v.sets) f rest (All-permutation (λ g. g < length v.sets) _ _ out old.within));
       same = same ∙ old.same;
-      under_way = λ pts fs ps k. subst (λ (w : OutsideValue). IsUnderWay pts fs ps w rest) (sym same)
-          (passed_over (old.under_way pts fs ps k) _ _ out empty);
+      under_way = λ s k. subst (λ (w : OutsideValue). IsUnderWay (with_waiting s w rest)) (sym same)
+          (passed_over (old.under_way s k) _ _ out empty);
     }
 
 pub returns-clause-done : goal.returns-clause-done
-returns-clause-done c pts fs ps k =
+returns-clause-done c s k =
     let pending = c.loop-pending.pending in let long = pending.ok.0 in let len = c.len.ensures in let none = c.loop-pending-test.false in
-    all_done (subst (IsUnderWay pts fs ps c.loop-pending.sets) (nil_from_length pending.items (omega (arith, len, none, long)))
-    (c.loop-pending.invariant.under_way pts fs ps k))
+    all_done (nil_from_length pending.items (omega (arith, len, none, long))) (c.loop-pending.invariant.under_way s k)

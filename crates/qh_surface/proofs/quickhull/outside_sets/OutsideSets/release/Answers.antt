@@ -6,7 +6,8 @@ use Rattle.qh_surface.proofs.quickhull.outside_sets.OutsideSets.release.Goals as
 
 pub invariant_of-self : goal.invariant_of-self
 invariant_of-self c =
-    let place = rw (← c.index-place.ensures) at c.requires in let first = rw (← c.index-place.ensures) at c.in-Some.ensures.first in
+    let place = rw (← c.index-place.ensures) at c.requires in
+    let first = rw (← c.index-place.ensures, ← c.number-self-inside.ensures) at c.in-Some.ensures.first in
     (_, _, released (kept c.self.invariant c.self.view_is) place _ c.index.ensures _ _ first _)
 
 pub returns-in-Some : goal.returns-in-Some

@@ -9,7 +9,7 @@ pub invariant_of-self : goal.invariant_of-self
 invariant_of-self c =
     let k = kept c.self.invariant c.self.view_is in let place = rw (← c.index-place.ensures) at c.requires in
     let first = rw (← c.index-place.ensures) at c.in_ok-first.ensures.first in
-    (_, _, taken k place _ c.index_mut.ensures.value _ _ first _ c.index.ensures)
+    (_, _, taken k place _ c.index_mut.ensures.value _ _ first _ (rw c.index.ensures at c.index-2.ensures))
 
 pub returns : goal.returns
 unfolding invariant_of-self

@@ -1,7 +1,9 @@
--- The next apex is picked from the run as it stands.
+-- The next apex is picked from the run as it stands, and none is left where nothing waits.
+use Rattle.qh_surface.specs.steps.RunStates.{state_of}
 use Rattle.qh_surface.proofs.quickhull.run.Run.finish.Goals as goal
 
 pub add-requires : goal.add-requires
-add-requires c =
-    let self = c.loop-facet.self in let i = c.loop-facet.invariant in
-    rw i.points (c.in-Some.ensures.picked c.args.self.now.points.items self.mesh self.planes.items i.under_way)
+add-requires c = c.in-Some.ensures.picked (state_of c.loop-facet.self) c.loop-facet.invariant.under_way
+
+pub returns-clause-done : goal.returns-clause-done
+returns-clause-done c = c.in_default.ensures.done (state_of c.loop-facet.self) c.loop-facet.invariant.under_way

@@ -1,9 +1,7 @@
 -- The initial simplex, with all points orphans.
-use Rattle.std.proofs.Common.{ℕ, ◌∙◌, ap, sym, subst, List, []}
+use Rattle.std.proofs.Common.{◌∙◌, ap}
 use Rattle.std.specs.List.{range_with_len}
-use Rattle.qh_pred.specs.contract.Planes.{PlaneValue}
-use Rattle.qh_surface.specs.steps.Runs.{IsRemade}
-use Rattle.qh_surface.proofs.runs.FirstSimplexes.{four_facets, IsFirst, first_remade}
+use Rattle.qh_surface.proofs.runs.FirstSimplexes.{IsFirst, first_remade}
 use Rattle.qh_surface.proofs.quickhull.run.Run.start.Goals as goal
 
 -- the mesh is that of an initial simplex of the points
@@ -25,8 +23,8 @@ pub settle-requires-clause-remade : goal.settle-requires-clause-remade
 settle-requires-clause-remade c =
     let count = c.in-Ok.ensures.1 ∙ c.len.ensures ∙ c.args.points.ok.0 in
     let pts = c.args.points.items in let fs = c.in_ok-mesh.mesh in let v = c.in_ok-sets.sets in let s = c.args.first in
+    let ps = c.room_for.result.items in let pending = c.room_for-2.result.items in
     rw (c.ask_for_room.ensures, c.ask_for_room-2.ensures, c.new-4.ensures, c.new-5.ensures, c.new-6.ensures, c.new-7.ensures)
-    (subst (λ (ps : List PlaneValue). IsRemade pts fs ps v c.room_for-2.result.items four_facets) (sym c.room_for.ensures)
-    (subst (λ (ns : List ℕ). IsRemade pts fs [] v ns four_facets) (sym c.room_for-2.ensures)
-    (first_remade pts fs v s.i s.j s.k s.l (first c)
-    (c.in_ok-sets.ensures.positions ∙ count) (c.in_ok-sets.ensures.orphans ∙ ap (range_with_len 0) count) c.in_ok-sets.ensures.sets)))
+    (first_remade (record { points = pts; mesh = fs; planes = ps; sets = v; pending = pending }) s.i s.j s.k s.l (first c)
+    (c.in_ok-sets.ensures.positions ∙ count) (c.in_ok-sets.ensures.orphans ∙ ap (range_with_len 0) count) c.in_ok-sets.ensures.sets
+    c.room_for-2.ensures)

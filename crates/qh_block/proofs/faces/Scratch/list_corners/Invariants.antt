@@ -2,7 +2,7 @@
 use Rattle.std.proofs.Common.{◌≡◌, take}
 use Rattle.qh_surface.specs.contract.NamedMeshes.{named}
 use Rattle.qh_block.specs.steps.{Faces.corners_of}
-use Rattle.qh_block.proofs.faces.list_corners.Given as goal
+use Rattle.qh_block.proofs.faces.Scratch.list_corners.Given as goal
 
 abbrev pub invariant-loop-f : goal.invariant-loop-f
-invariant-loop-f l = l.corners.items ≡ corners_of (named l.surface) (take l.f-index l.facets)
+invariant-loop-f l = l.corners.items ≡ corners_of (named l.surface) (take l.f-index l.f-items)

@@ -1,0 +1,8 @@
+-- What the definitions on runs see of a run.
+use Rattle.qh_surface.specs.declared.quickhull.run.Run.{Run}
+use Rattle.qh_surface.specs.steps.Runs.{RunState}
+
+-- its lists without those that only a round uses
+abbrev pub state_of : Run → RunState
+state_of r =
+    record { points = r.points.items; mesh = r.mesh; planes = r.planes.items; sets = r.sets; pending = r.pending.items }
