@@ -12,7 +12,7 @@ use super::forms::Form;
 use super::lines::{push_line_end, push_number, push_spaced};
 use super::numbering::VertexNumbers;
 use super::off::{push_face, push_numbered};
-use super::scribes::Scribe;
+use super::scribes::{Scribe, Vertices};
 use crate::pieces::Pieces;
 use qh_model::{Body, Id, Point, Polygon};
 use std::alloc::{AllocError, Global};
@@ -95,6 +95,7 @@ pub fn push_off_triangles<S: Scribe>(
 {
     text.last.extend_from_slice(b"OFF\n")?;
     push_fan_counts(&mut text.last, alloc, body)?;
-    scribe.push_vertices(text, alloc, pts, &body.extremes)?;
+    let ids = &body.extremes;
+    scribe.push_vertices(text, alloc, Vertices { pts, ids })?;
     push_numbered(scribe, text, alloc, Form::Fans, body, pts.len())
 }

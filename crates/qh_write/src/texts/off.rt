@@ -12,7 +12,7 @@ ghost use Rattle.qh_write.specs.contract.Pieces.{bytes_in};
 use super::forms::Form;
 use super::lines::{push_line_end, push_number, push_signed, push_spaced};
 use super::numbering::{VertexNumbers, vertex_numbers};
-use super::scribes::Scribe;
+use super::scribes::{NumberedFaces, Scribe, Vertices};
 use crate::pieces::Pieces;
 use qh_model::{Body, Id, Point, Polygon};
 use std::alloc::{AllocError, Global};
@@ -121,7 +121,12 @@ pub fn push_numbered<S: Scribe>(
     ensures { OnOk result (bytes_in text.new ≡ bytes_in text.old ++ flat_map (face_text body.now.extremes) (shown form body.now.polygons)) }
 {
     let numbers = vertex_numbers(alloc, &body.extremes, count)?;
-    scribe.push_faces(text, alloc, form, &numbers, &body.polygons)?;
+    let faces = NumberedFaces {
+        form,
+        numbers: &numbers,
+        polygons: &body.polygons,
+    };
+    scribe.push_faces(text, alloc, faces)?;
     Ok(())
 }
 
@@ -157,6 +162,7 @@ pub fn push_off<S: Scribe>(
     ensures { OnOk result (bytes_in text.new ≡ bytes_in text.old ++ off_text body.now pts.now) }
 {
     push_head(&mut text.last, body)?;
-    scribe.push_vertices(text, alloc, pts, &body.extremes)?;
+    let ids = &body.extremes;
+    scribe.push_vertices(text, alloc, Vertices { pts, ids })?;
     push_numbered(scribe, text, alloc, Form::Whole, body, pts.len())
 }

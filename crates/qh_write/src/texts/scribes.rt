@@ -20,6 +20,21 @@ use std::thread::{self, Threads};
 /// Threads share the lines of at least this many vertices or faces.
 const SHARED_FROM: usize = 16_384;
 
+/// Vertices: ids that are indices of points.
+#[derive(Clone, Copy)]
+pub struct Vertices<'a> {
+    pub pts: &'a [Point],
+    pub ids: &'a [Id],
+}
+
+/// Faces in a form, with the numbers of their vertices.
+#[derive(Clone, Copy)]
+pub struct NumberedFaces<'a> {
+    pub form: Form,
+    pub numbers: &'a VertexNumbers<'a>,
+    pub polygons: &'a [Polygon],
+}
+
 /// A way to write the lines of vertices and faces.
 pub trait Scribe {
     /// What is known of one that writes.
@@ -28,30 +43,29 @@ pub trait Scribe {
     /// Returns how many bytes the first piece of a text takes at most, or at first.
     fn room(&self, body: &Body, outs: &[Out]) -> usize;
 
-    /// Appends the points of ids.
+    /// Appends the points of vertices.
     fn push_vertices(
         &self,
         text: &mut Pieces,
         alloc: Global,
-        pts: &[Point],
-        ids: &[Id],
+        vertices: Vertices,
     ) -> Result<(), AllocError>
         requires ready { ready self.now }
-        requires within { All (λ i. i < length pts.now) ids.now }
-        ensures { OnOk result (bytes_in text.new ≡ bytes_in text.old ++ flat_map (λ i. vertex_text (place pts.now i)) ids.now) };
+        requires within { All (λ i. i < length vertices.pts.now) vertices.ids.now }
+        ensures { OnOk result (bytes_in text.new ≡ bytes_in text.old
+            ++ flat_map (λ i. vertex_text (place vertices.entry.pts.now i)) vertices.entry.ids.now) };
 
-    /// Appends the faces in a form, each vertex by its number.
+    /// Appends faces in their form, each vertex by its number.
     fn push_faces(
         &self,
         text: &mut Pieces,
         alloc: Global,
-        form: Form,
-        numbers: &VertexNumbers,
-        faces: &[Polygon],
+        faces: NumberedFaces,
     ) -> Result<(), AllocError>
         requires ready { ready self.now }
-        requires numbered { All (AreNumbered numbers.now) faces.now }
-        ensures { OnOk result (bytes_in text.new ≡ bytes_in text.old ++ flat_map (face_by_numbers numbers.now) (shown form faces.now)) };
+        requires numbered { All (AreNumbered faces.numbers.now) faces.polygons.now }
+        ensures { OnOk result (bytes_in text.new ≡ bytes_in text.old
+            ++ flat_map (face_by_numbers faces.entry.numbers.now) (shown faces.entry.form faces.entry.polygons.now)) };
 }
 
 /// Returns the part of a list with a number, where it is cut into parts of one size; the last may be
@@ -105,21 +119,20 @@ impl Scribe for Alone {
         &self,
         text: &mut Pieces,
         _alloc: Global,
-        pts: &[Point],
-        ids: &[Id],
+        vertices: Vertices,
     ) -> Result<(), AllocError> {
-        push_vertices(&mut text.last, pts, ids)
+        push_vertices(&mut text.last, vertices.pts, vertices.ids)
     }
 
     fn push_faces(
         &self,
         text: &mut Pieces,
         _alloc: Global,
-        form: Form,
-        numbers: &VertexNumbers,
-        faces: &[Polygon],
+        faces: NumberedFaces,
     ) -> Result<(), AllocError> {
-        form.push(&mut text.last, numbers, faces)
+        faces
+            .form
+            .push(&mut text.last, faces.numbers, faces.polygons)
     }
 }
 
@@ -137,17 +150,18 @@ impl<R> InThreads<'_, R> {
     }
 }
 
-/// Appends the points of ids by a number of threads, each at a part of them.
+/// Appends the points of vertices by a number of threads, each at a part of them.
 fn push_vertices_in_threads<R: Threads + Sync>(
     scribe: &InThreads<'_, R>,
     text: &mut Pieces,
     alloc: Global,
-    pts: &[Point],
-    ids: &[Id],
+    vertices: Vertices,
 ) -> Result<(), AllocError>
-    requires { All (λ i. i < length pts.now) ids.now }
-    ensures { OnOk result (bytes_in text.new ≡ bytes_in text.old ++ flat_map (λ i. vertex_text (place pts.now i)) ids.now) }
+    requires { All (λ i. i < length vertices.pts.now) vertices.ids.now }
+    ensures { OnOk result (bytes_in text.new ≡ bytes_in text.old
+        ++ flat_map (λ i. vertex_text (place vertices.entry.pts.now i)) vertices.entry.ids.now) }
 {
+    let Vertices { pts, ids } = vertices;
     let threads = scribe.threads.max(1);
     let size = ids.len() / threads + 1;
     let parts = thread::map_indices(
@@ -162,29 +176,33 @@ fn push_vertices_in_threads<R: Threads + Sync>(
     text.append_parts(alloc, parts)
 }
 
-/// Appends faces in a form by a number of threads, each at a part of them.
+/// Appends faces by a number of threads, each at a part of them.
 fn push_faces_in_threads<R: Threads + Sync>(
     scribe: &InThreads<'_, R>,
     text: &mut Pieces,
     alloc: Global,
-    form: Form,
-    numbers: &VertexNumbers,
-    faces: &[Polygon],
+    faces: NumberedFaces,
 ) -> Result<(), AllocError>
-    requires { All (AreNumbered numbers.now) faces.now }
-    ensures { OnOk result (bytes_in text.new ≡ bytes_in text.old ++ flat_map (face_by_numbers numbers.now) (shown form faces.now)) }
+    requires { All (AreNumbered faces.numbers.now) faces.polygons.now }
+    ensures { OnOk result (bytes_in text.new ≡ bytes_in text.old
+        ++ flat_map (face_by_numbers faces.entry.numbers.now) (shown faces.entry.form faces.entry.polygons.now)) }
 {
+    let NumberedFaces {
+        form,
+        numbers,
+        polygons,
+    } = faces;
     let threads = scribe.threads.max(1);
-    let size = faces.len() / threads + 1;
+    let size = polygons.len() / threads + 1;
     let parts = thread::map_indices(
         scribe.rt,
         alloc,
         threads,
         &move |number: usize| -> Result<Vec<u8>, AllocError>
-            requires { All (AreNumbered numbers.now) faces.now }
+            requires { All (AreNumbered numbers.now) polygons.now }
             ensures { IfOk result (λ t. t.items ≡ flat_map (face_by_numbers numbers.entry.now)
-                (shown form (take size (drop (number * size) faces.entry.now)))) }
-        { faces_text(alloc, form, numbers, part_of(faces, size, number)) },
+                (shown form (take size (drop (number * size) polygons.entry.now)))) }
+        { faces_text(alloc, form, numbers, part_of(polygons, size, number)) },
     )?;
     text.append_parts(alloc, parts)
 }
@@ -205,13 +223,12 @@ impl<R: Threads + Sync> Scribe for InThreads<'_, R> {
         &self,
         text: &mut Pieces,
         alloc: Global,
-        pts: &[Point],
-        ids: &[Id],
+        vertices: Vertices,
     ) -> Result<(), AllocError> {
-        if self.share(ids.len()) {
-            push_vertices_in_threads(self, text, alloc, pts, ids)
+        if self.share(vertices.ids.len()) {
+            push_vertices_in_threads(self, text, alloc, vertices)
         } else {
-            push_vertices(&mut text.last, pts, ids)
+            Alone.push_vertices(text, alloc, vertices)
         }
     }
 
@@ -219,14 +236,12 @@ impl<R: Threads + Sync> Scribe for InThreads<'_, R> {
         &self,
         text: &mut Pieces,
         alloc: Global,
-        form: Form,
-        numbers: &VertexNumbers,
-        faces: &[Polygon],
+        faces: NumberedFaces,
     ) -> Result<(), AllocError> {
-        if self.share(faces.len()) {
-            push_faces_in_threads(self, text, alloc, form, numbers, faces)
+        if self.share(faces.polygons.len()) {
+            push_faces_in_threads(self, text, alloc, faces)
         } else {
-            form.push(&mut text.last, numbers, faces)
+            Alone.push_faces(text, alloc, faces)
         }
     }
 }

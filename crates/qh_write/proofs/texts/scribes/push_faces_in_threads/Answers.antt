@@ -8,7 +8,7 @@ use Rattle.qh_write.proofs.{FormLemmas.shown_append, FormLemmas.shown_none, Part
 
 pub returns : goal.returns
 returns g c =
-    let faces = c.args.faces.now in let form = c.args.form in let line_of = face_by_numbers c.args.numbers.now in
+    let faces = c.args.faces.polygons.now in let form = c.args.faces.form in let line_of = face_by_numbers c.args.faces.numbers.now in
     let lines : List (List ℕ) → List ℕ = λ qs. flat_map line_of (shown form qs) in
     let size = length faces / c.max-threads.result + 1 in let parts = c.in_ok-parts.parts in
     let len : length parts.items ≡ c.max-threads.result = omega (arith, c.in_ok-parts.ensures.len) in

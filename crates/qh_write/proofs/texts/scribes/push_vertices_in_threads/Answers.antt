@@ -8,8 +8,8 @@ use Rattle.qh_write.proofs.PartLemmas.{parts_of_list}
 
 pub returns : goal.returns
 returns g c =
-    let ids = c.args.ids.now in
-    let line_of : ℕ → List ℕ = λ i. vertex_text (place c.args.pts.now i) in
+    let ids = c.args.vertices.ids.now in
+    let line_of : ℕ → List ℕ = λ i. vertex_text (place c.args.vertices.pts.now i) in
     let size = length ids / c.max-threads.result + 1 in let parts = c.in_ok-parts.parts in
     let len : length parts.items ≡ c.max-threads.result = omega (arith, c.in_ok-parts.ensures.len) in
     let all : length ids ≤ length parts.items * size = omega (arith, c.max-threads.ensures, ap (λ n. n * (length ids / c.max-threads.result)) len) in
