@@ -2,20 +2,22 @@
 ghost use Rattle.std.specs.Prelude.{◌≡◌, ◌+◌, ◌++◌, ℕ, IfOk, IsPermutation, IsTrue, map};
 ghost use Rattle.std.specs.List.{flat_map};
 ghost use Rattle.qh_model.specs.contract.ClosedPolygons.{steps_round};
+ghost use Rattle.qh_keys.specs.contract.Halves.{halves};
 ghost use Rattle.qh_check.specs.contract.Borders.{HaveOneBorder};
-ghost use Rattle.qh_check.specs.steps.StepKeys.{step_in, back, AreStepsAndBack};
+ghost use Rattle.qh_check.specs.steps.StepKeys.{back, AreStepsAndBack};
 
-use crate::closed::{step_keys, turned};
+use crate::closed::step_keys;
+use qh_keys::Packed;
 use qh_model::{Memory, Polygon};
 use std::alloc::{AllocError, Global};
 
 /// Returns keys, each turned back.
-fn keys_back(alloc: Global, keys: &[u64]) -> Result<Vec<u64>, AllocError>
-    ensures { IfOk result (λ v. map step_in v.items ≡ map back (map step_in keys.now)) }
+fn keys_back(alloc: Global, keys: &[Packed]) -> Result<Vec<Packed>, AllocError>
+    ensures { IfOk result (λ v. map halves v.items ≡ map back (map halves keys.now)) }
 {
     let mut back = Vec::with_capacity(alloc, keys.len())?;
     for key in keys {
-        back.push(turned(*key))?;
+        back.push(key.swapped())?;
     }
     Ok(back)
 }
@@ -25,7 +27,7 @@ fn steps_and_back(
     alloc: Global,
     polygons: &[Polygon],
     others: &[Polygon],
-) -> Result<Vec<u64>, AllocError>
+) -> Result<Vec<Packed>, AllocError>
     ensures { IfOk result (λ v. AreStepsAndBack polygons.now others.now v.items) }
 {
     let mut keys = step_keys(alloc, polygons)?;

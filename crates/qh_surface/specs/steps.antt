@@ -1,6 +1,5 @@
 -- What private functions speak of: nothing to believe.
 pub mod Cones
-pub mod MortonOrder
 pub mod OutsideSets
 pub mod Planes
 pub mod PositionChains

@@ -1,14 +1,15 @@
 -- Edges counted by numbers of pairs: what is added, and how many numbers differ.
-use Rattle.std.proofs.Common.{◌≡◌, ◌≢◌, ◌∙◌, ℕ, ◌+◌, ◌*◌, ◌<◌, List, [], ◌∷◌, ◌++◌, length, arith, ap, sym, refl, subst, inl, inr, map, drop, get_or}
+use Rattle.std.proofs.Common.{◌≡◌, ◌≢◌, ◌∙◌, ℕ, ◌+◌, ◌<◌, List, [], ◌∷◌, ◌++◌, length, ap, sym, refl, subst, inl, inr, map, drop, get_or}
 use Rattle.std.proofs.Common.{append_assoc, min, max, IsPermutation, Bool, true, false, cond, eqb-true, nat_cmp}
 use Rattle.std.proofs.lemmas.{Bool.eqb-false, Grind.flat_map-append, List.length-map, List.Kept.Contains-dedup_nat, List.Kept.Contains-from_dedup}
 use Rattle.std.proofs.lemmas.{List.Sorted.IsPermutation-sym, Map.Keys.IsStrictlyIncreasing-dedup}
 use Rattle.std.specs.{List.flat_map, List.dedup, List.AllByRecursion, List.Sorted.IsSorted, Prelude.◌==◌, Prelude.◌↔◌, Prelude.eqb}
+use Rattle.qh_keys.specs.{contract.Halves.packed, declared.packed.TheConstants.HALF_ROOM}
+use Rattle.qh_keys.proofs.PackedPairs.{packed-same}
 use Rattle.qh_model.specs.headline.{Fan.triangles_along, Fan.fan, Fan.fans, Fan.pairs_along, Fan.pairs_round, Fan.edge_count, Sets.In, Sets.Once}
 use Rattle.qh_model.proofs.Members.{to_contains, of_contains, in_permutation, rising_once, every_at}
 use Rattle.qh_model.proofs.lists.{Images.in_map, Images.of_map, Joined.in_flat_map, Joined.of_flat_map, OnceEach.once_length}
 use Rattle.qh_model.proofs.polygons.EdgeCounts.{distinct, length-distinct, of_distinct, in_distinct, once_distinct}
-use Rattle.qh_write.specs.declared.texts.edges.TheConstants.{ROOM}
 use Rattle.qh_write.specs.steps.EdgeKeys.{pair_key, HasRoom, AddsPairs, Completes, pairs_of}
 use Rattle.qh_write.proofs.FanLemmas.{drop_next}
 
@@ -56,17 +57,13 @@ fans_left qs i q h e = ap (λ t. pairs_of (fans t)) (drop_next qs i q h e) ∙ f
 -- ---- counting
 -- the number of a pair of two different ids
 abbrev code : ℕ × ℕ → ℕ
-code p = p.0 * ROOM + p.1
-
--- it tells the pair
-one_code : (a b u v : ℕ) → b < ROOM → v < ROOM → a * ROOM + b ≡ u * ROOM + v → (a ≡ u) × (b ≡ v)
-one_code a b u v h k e = (omega arith, omega arith)
+code p = packed p.0 p.1
 
 -- a number of a pair
 of_key : (u v z : ℕ) → In z (pair_key (u, v)) → (u ≢ v) × (z ≡ code (u, v))
 of_key u v z m = by_test (u == v) refl m
   where
-    by_test : (b : Bool) → (u == v) ≡ b → In z (cond b [] ((u * ROOM + v) ∷ [])) → (u ≢ v) × (z ≡ code (u, v))
+    by_test : (b : Bool) → (u == v) ≡ b → In z (cond b [] (packed u v ∷ [])) → (u ≢ v) × (z ≡ code (u, v))
     by_test true p m = absurd m
     by_test false p (inl e) = (eqb-false u v p, e)
     by_test false p (inr n) = absurd n
@@ -74,17 +71,17 @@ of_key u v z m = by_test (u == v) refl m
 in_key : (u v : ℕ) → u ≢ v → In (code (u, v)) (pair_key (u, v))
 in_key u v d = by_test (u == v) refl
   where
-    by_test : (b : Bool) → (u == v) ≡ b → In (code (u, v)) (cond b [] ((u * ROOM + v) ∷ []))
+    by_test : (b : Bool) → (u == v) ≡ b → In (code (u, v)) (cond b [] (packed u v ∷ []))
     by_test true p = absurd (d (eqb-true u v p))
     by_test false p = inl refl
 
 -- pairs with different numbers stand once, as their numbers do
-once_codes : (ps : List (ℕ × ℕ)) → ((u v : ℕ) → In (u, v) ps → v < ROOM) → Once ps → Once (map code ps)
+once_codes : (ps : List (ℕ × ℕ)) → ((u v : ℕ) → In (u, v) ps → v < HALF_ROOM) → Once ps → Once (map code ps)
 once_codes [] small o = tt
 once_codes ((a, b) ∷ ps) small o = ((λ m. from_witness (of_map code ps (code (a, b)) m)), once_codes ps (λ u v i. small u v (inr i)) o.1)
   where
     from_witness : (x : ℕ × ℕ) × In x ps × (code (a, b) ≡ code x) → ⊥
-    from_witness ((u, v), i, e) = let s = one_code a b u v (small a b (inl refl)) (small u v (inr i)) e in
+    from_witness ((u, v), i, e) = let s = packed-same a b u v (small a b (inl refl)) (small u v (inr i)) e in
         o.0 (subst (λ x. In (x, b) ps) (sym s.0) (subst (λ y. In (u, y) ps) (sym s.1) i))
 
 -- the number of different keys is the number of edges
@@ -98,7 +95,7 @@ edges_by_keys faces keys sorted added same rising =
     ps : List (ℕ × ℕ)
     ps = pairs_of faces
 
-    small : (u v : ℕ) → In (u, v) (distinct ps) → v < ROOM
+    small : (u v : ℕ) → In (u, v) (distinct ps) → v < HALF_ROOM
     small u v m = every_at HasRoom ps (u, v) added.told (of_distinct ps u v m).0
 
     there : (z : ℕ) → (p : ℕ × ℕ) × In p ps × In z (pair_key p) → In z (map code (distinct ps))

@@ -4,16 +4,14 @@
 //! also lie together in memory, a large run seldom waits for it. No answer depends on the order.
 //!
 //! Source: Morton 1966 (the order of cells along a Z-shaped curve).
-ghost use Rattle.std.specs.Prelude.{◌≡◌, ◌%◌, ◌<◌, IfOk, map, IsPermutation};
+ghost use Rattle.std.specs.Prelude.{◌≡◌, IfOk, map, IsPermutation};
 ghost use Rattle.qh_model.specs.contract.IdSets.{AreIndices};
-ghost use Rattle.qh_surface.specs.steps.MortonOrder.{id_of};
+ghost use Rattle.qh_keys.specs.contract.Halves.{low_of};
 
+use qh_keys::Packed;
 use qh_model::{Id, Memory, Point};
 use qh_pred::point_at;
 use std::alloc::{AllocError, Global};
-
-/// The room of an id in a key: 2^32.
-pub const ROOM: u64 = 4294967296;
 
 /// The bits of a cell's place along one axis. Three of them fit a cell's number.
 const PLACE_BITS: u32 = 10;
@@ -66,31 +64,30 @@ impl Cells {
     }
 }
 
-/// Returns a cell's number and an id in one, so that a sort by cells is one of numbers.
-fn key(cell: u32, id: Id) -> u64
-    ensures { result % ROOM ≡ id }
-{
-    u64::from(cell) * ROOM + u64::from(id.number())
-}
-
-/// Returns the keys of ids.
-fn keys_of(alloc: Global, pts: &[Point], ids: &[Id], cells: &Cells) -> Result<Vec<u64>, AllocError>
+/// Returns the keys of ids: the number of the point's cell, then the id.
+fn keys_of(
+    alloc: Global,
+    pts: &[Point],
+    ids: &[Id],
+    cells: &Cells,
+) -> Result<Vec<Packed>, AllocError>
     requires { AreIndices pts.now ids.now }
-    ensures { IfOk result (λ v. map id_of v.items ≡ ids.now) }
+    ensures { IfOk result (λ v. map low_of v.items ≡ ids.now) }
 {
     let mut keys = Vec::with_capacity(alloc, ids.len())?;
     for id in ids {
-        keys.push(key(cells.number(point_at(pts, *id)), *id))?;
+        let cell = cells.number(point_at(pts, *id));
+        keys.push(Packed::new(cell, id.number()))?;
     }
     Ok(keys)
 }
 
 /// Returns the ids of keys.
-fn ids_of(alloc: Global, keys: Vec<u64>) -> Result<Vec<Id>, AllocError>
-    ensures { IfOk result (λ v. v.items ≡ map id_of keys.items) }
+fn ids_of(alloc: Global, keys: Vec<Packed>) -> Result<Vec<Id>, AllocError>
+    ensures { IfOk result (λ v. v.items ≡ map low_of keys.items) }
 {
     keys.into_iter()
-        .map(|key| Id::new((key % ROOM) as u32))
+        .map(|key| Id::new(key.low()))
         .collect(alloc)
 }
 

@@ -1,16 +1,16 @@
 -- The numbers of pairs of ids, by which the writer counts edges.
-use Rattle.std.specs.Prelude.{ℕ, ◌≡◌, ◌+◌, ◌*◌, ◌<◌, ◌==◌, List, [], ◌∷◌, ◌++◌, if◌then◌else◌}
+use Rattle.std.specs.Prelude.{ℕ, ◌≡◌, ◌<◌, ◌==◌, List, [], ◌∷◌, ◌++◌, if◌then◌else◌}
 use Rattle.std.specs.List.{flat_map, AllByRecursion}
+use Rattle.qh_keys.specs.{contract.Halves.packed, declared.packed.TheConstants.HALF_ROOM}
 use Rattle.qh_model.specs.headline.Fan.{pairs_round}
-use Rattle.qh_write.specs.declared.texts.edges.TheConstants.{ROOM}
 
 -- the number of a pair of two ids; one id twice has none
 abbrev pub pair_key : ℕ × ℕ → List ℕ
-pair_key (low, high) = if low == high then [] else (low * ROOM + high) ∷ []
+pair_key (low, high) = if low == high then [] else packed low high ∷ []
 
 -- the higher id has room in the number
 abbrev pub HasRoom : ℕ × ℕ → Type 0
-HasRoom p = p.1 < ROOM
+HasRoom p = p.1 < HALF_ROOM
 
 -- the numbers of these pairs were added, and tell the pairs
 pub record AddsPairs (pairs : List (ℕ × ℕ)) (old new : List ℕ) : Type 0 where

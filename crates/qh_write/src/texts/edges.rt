@@ -4,25 +4,23 @@ ghost use Rattle.std.specs.Prelude.{◌≡◌, IfOk, OnOk, [], ◌∷◌, min, m
 ghost use Rattle.qh_model.specs.headline.Fan.{triangles_along, fan, fans, pairs_along, pairs_round, edge_count};
 ghost use Rattle.qh_write.specs.steps.EdgeKeys.{AddsPairs, pairs_of};
 
+use qh_keys::Packed;
 use qh_model::{Id, Polygon};
 use std::alloc::{AllocError, Global};
 
-/// The room of an id in the number of a pair: 2^32.
-const ROOM: u64 = 4294967296;
-
 /// Appends the number of two neighbours, unless they are one id.
-fn push_pair(keys: &mut Vec<u64>, u: Id, v: Id) -> Result<(), AllocError>
+fn push_pair(keys: &mut Vec<Packed>, u: Id, v: Id) -> Result<(), AllocError>
     ensures { OnOk result (AddsPairs ((min u v, max u v) ∷ []) keys.old.items keys.new.items) }
 {
-    let (u, v) = (u64::from(u.number()), u64::from(v.number()));
+    let (u, v) = (u.number(), v.number());
     if u != v {
-        keys.push(u.min(v) * ROOM + u.max(v))?;
+        keys.push(Packed::new(u.min(v), u.max(v)))?;
     }
     Ok(())
 }
 
 /// Appends the numbers of the neighbours on the way along a list from one id to another.
-fn push_way(keys: &mut Vec<u64>, from: Id, along: &[Id], to: Id) -> Result<(), AllocError>
+fn push_way(keys: &mut Vec<Packed>, from: Id, along: &[Id], to: Id) -> Result<(), AllocError>
     ensures { OnOk result (AddsPairs (pairs_along from along.now to) keys.old.items keys.new.items) }
 {
     let mut last = from;
@@ -35,7 +33,7 @@ fn push_way(keys: &mut Vec<u64>, from: Id, along: &[Id], to: Id) -> Result<(), A
 }
 
 /// Appends the numbers of the neighbours round a face.
-fn push_round(keys: &mut Vec<u64>, face: &[Id]) -> Result<(), AllocError>
+fn push_round(keys: &mut Vec<Packed>, face: &[Id]) -> Result<(), AllocError>
     ensures { OnOk result (AddsPairs (pairs_round face.now) keys.old.items keys.new.items) }
 {
     match face {
@@ -46,7 +44,7 @@ fn push_round(keys: &mut Vec<u64>, face: &[Id]) -> Result<(), AllocError>
 
 /// Appends the numbers of the neighbours of triangles of a first id and each two neighbours along a list.
 fn push_triangles(
-    keys: &mut Vec<u64>,
+    keys: &mut Vec<Packed>,
     first: Id,
     second: Id,
     along: &[Id],
@@ -62,7 +60,7 @@ fn push_triangles(
 }
 
 /// Appends the numbers of the neighbours of a fan.
-fn push_fan(keys: &mut Vec<u64>, face: &[Id]) -> Result<(), AllocError>
+fn push_fan(keys: &mut Vec<Packed>, face: &[Id]) -> Result<(), AllocError>
     ensures { OnOk result (AddsPairs (pairs_of (fan face.now)) keys.old.items keys.new.items) }
 {
     match face {
@@ -74,7 +72,7 @@ fn push_fan(keys: &mut Vec<u64>, face: &[Id]) -> Result<(), AllocError>
 }
 
 /// Appends the numbers of the neighbours of the fans of faces.
-fn push_fans(keys: &mut Vec<u64>, faces: &[Polygon]) -> Result<(), AllocError>
+fn push_fans(keys: &mut Vec<Packed>, faces: &[Polygon]) -> Result<(), AllocError>
     ensures { OnOk result (AddsPairs (pairs_of (fans faces.now)) keys.old.items keys.new.items) }
 {
     for face in faces {
