@@ -3,13 +3,14 @@ use Rattle.std.proofs.Common.{◌≡◌, ◌∙◌, ℕ, ◌+◌, Bool, List, �
 use Rattle.std.proofs.lemmas.List.{Sorted.sum_by-IsPermutation, Sums.sum_by-append}
 use Rattle.std.specs.Prelude.{count_by}
 use Rattle.std.specs.List.{flat_map}
-use Rattle.qh_keys.specs.contract.Halves.{halves}
+use Rattle.qh_keys.specs.contract.Halves.{halves, high_of, low_of}
 use Rattle.qh_model.specs.contract.{ClosedPolygons.AreClosed, ClosedPolygons.steps_round, ClosedPolygons.step_count, ClosedSurface.is_edge}
 use Rattle.qh_model.proofs.closed_surfaces.SignedVolume.{is_edge-back}
 use Rattle.qh_model.proofs.lists.Counts.{count-map}
 use Rattle.qh_block.proofs.finished.StepCounts.{steps_of_both}
 use Rattle.qh_check.specs.contract.Borders.{HaveOneBorder}
-use Rattle.qh_check.specs.steps.StepKeys.{back, AreStepsAndBack}
+use Rattle.qh_check.specs.steps.StepKeys.{back, AreStepsAndBack, CountOtherwise}
+use Rattle.qh_check.proofs.Steps.{key_counts}
 
 -- the keys of the ones and the keys of the others, turned back, in any order
 pub steps_and_back : (ps qs : List (List ℕ)) (keys others turned sorted : List ℕ) → map halves keys ≡ flat_map steps_round ps
@@ -38,6 +39,13 @@ pub one_border : (ps qs : List (List ℕ)) (keys others : List ℕ) → AreSteps
 one_border ps qs keys others f g same u v =
     let e = f u v in let d = g u v in
     let one = ap (count_by (λ key. is_edge (u, v) (halves key))) same in omega (arith, e, d, one)
+
+-- where one has a key more often, they have not
+pub other_border : (ps qs : List (List ℕ)) (keys others : List ℕ) (z : ℕ) → AreStepsAndBack ps qs keys
+    → AreStepsAndBack qs ps others → CountOtherwise keys others z → HaveOneBorder ps qs → ⊥
+other_border ps qs keys others z f g otherwise border =
+    let e = f (high_of z) (low_of z) in let d = g (high_of z) (low_of z) in let b = border (high_of z) (low_of z) in
+    let k = key_counts z keys in let l = key_counts z others in otherwise (omega (arith, e, d, b, k, l))
 
 -- polygons that close up with the ones close up with the others
 pub closed_by_border : (rest ps qs : List (List ℕ)) → AreClosed (rest ++ ps) → HaveOneBorder ps qs → AreClosed (rest ++ qs)

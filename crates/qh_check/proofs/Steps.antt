@@ -40,6 +40,10 @@ same_step z k = alike (eqb z k) (is_edge (halves z) (halves k)) there back_again
 abbrev pub on : ℕ → ℕ → ℕ → Bool
 on u v k = is_edge (u, v) (halves k)
 
+-- a key is there as often as its step
+pub key_counts : (z : ℕ) (ks : List ℕ) → count_by (eqb z) ks ≡ count_by (on (high_of z) (low_of z)) ks
+key_counts z ks = ap (λ (f : ℕ → Bool). count_by f ks) (λ i k. same_step z k i)
+
 -- where all that count pass, a filter keeps the count
 kept : {X : Type 0} (f p : X → Bool) → ((k : X) → f k ≡ true → p k ≡ true) → (ks : List X) → count f (filter p ks) ≡ count f ks
 kept f p h [] = refl
@@ -178,8 +182,5 @@ module _ (qs : List (List ℕ)) (keys up down there round : List ℕ) (steps : m
   pub open_by_key : (z : ℕ) → CountOtherwise there round z
       → step_count qs (halves z).0 (halves z).1 ≢ step_count qs (halves z).1 (halves z).0
   open_by_key z otherwise e =
-      otherwise (by_step there ∙ half_up qs keys up there steps ups p (high_of z) (low_of z) ∙ ap (λ n. cond (nat_lt (high_of z) (low_of z)) n 0) e
-      ∙ sym (half_down (high_of z) (low_of z)) ∙ sym (by_step round))
-    where
-      by_step : (ks : List ℕ) → count_by (eqb z) ks ≡ count_by (on (high_of z) (low_of z)) ks
-      by_step ks = ap (λ (f : ℕ → Bool). count_by f ks) (λ i k. same_step z k i)
+      otherwise (key_counts z there ∙ half_up qs keys up there steps ups p (high_of z) (low_of z)
+      ∙ ap (λ n. cond (nat_lt (high_of z) (low_of z)) n 0) e ∙ sym (half_down (high_of z) (low_of z)) ∙ sym (key_counts z round))

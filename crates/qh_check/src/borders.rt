@@ -1,12 +1,13 @@
 //! Checks whether two lists of polygons have one border: the steps that are not taken as often as the step back.
-ghost use Rattle.std.specs.Prelude.{◌≡◌, ◌+◌, ◌++◌, ℕ, IfOk, IsPermutation, IsTrue, map};
+ghost use Rattle.std.specs.Prelude.{◌≡◌, ◌+◌, ◌++◌, ◌↔◌, ℕ, IfOk, IsPermutation, IsTrue, map};
 ghost use Rattle.std.specs.List.{flat_map};
+ghost use Rattle.std.specs.List.Sorted.{IsNonDecreasing};
 ghost use Rattle.qh_model.specs.contract.ClosedPolygons.{steps_round};
 ghost use Rattle.qh_keys.specs.contract.Halves.{halves};
 ghost use Rattle.qh_check.specs.contract.Borders.{HaveOneBorder};
 ghost use Rattle.qh_check.specs.steps.StepKeys.{back, AreStepsAndBack};
 
-use crate::closed::step_keys;
+use crate::closed::{other_key, step_keys};
 use qh_keys::Packed;
 use qh_model::{Memory, Polygon};
 use std::alloc::{AllocError, Global};
@@ -28,7 +29,8 @@ fn steps_and_back(
     polygons: &[Polygon],
     others: &[Polygon],
 ) -> Result<Vec<Packed>, AllocError>
-    ensures { IfOk result (λ v. AreStepsAndBack polygons.now others.now v.items) }
+    ensures steps { IfOk result (λ v. AreStepsAndBack polygons.now others.now v.items) }
+    ensures sorted { IfOk result (λ v. IsNonDecreasing v.items) }
 {
     let mut keys = step_keys(alloc, polygons)?;
     let other_keys = step_keys(alloc, others)?;
@@ -49,9 +51,12 @@ pub fn have_one_border(
     polygons: &[Polygon],
     others: &[Polygon],
 ) -> Result<bool, Memory>
-    ensures { IfOk result (λ yes. IsTrue yes → HaveOneBorder polygons.now others.now) }
+    ensures { IfOk result (λ yes. IsTrue yes ↔ HaveOneBorder polygons.now others.now) }
 {
     let steps = steps_and_back(alloc, polygons, others)?;
     let other_steps = steps_and_back(alloc, others, polygons)?;
-    Ok(steps == other_steps)
+    match other_key(&steps, &other_steps) {
+        Some(_) => Ok(false),
+        None => Ok(true),
+    }
 }

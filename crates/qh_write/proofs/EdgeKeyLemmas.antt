@@ -6,7 +6,8 @@ use Rattle.std.proofs.lemmas.{List.Sorted.IsPermutation-sym, Map.Keys.IsStrictly
 use Rattle.std.specs.{List.flat_map, List.dedup, List.AllByRecursion, List.Sorted.IsSorted, Prelude.◌==◌, Prelude.◌↔◌, Prelude.eqb}
 use Rattle.qh_keys.specs.{contract.Halves.packed, declared.packed.TheConstants.HALF_ROOM}
 use Rattle.qh_keys.proofs.PackedPairs.{packed-same}
-use Rattle.qh_model.specs.headline.{Fan.triangles_along, Fan.fan, Fan.fans, Fan.pairs_along, Fan.pairs_round, Fan.edge_count, Sets.In, Sets.Once}
+use Rattle.qh_model.specs.contract.ClosedPolygons.{steps_along, steps_round}
+use Rattle.qh_model.specs.headline.{Fan.fan, Fan.fans, Fan.pairs_along, Fan.pairs_round, Fan.edge_count, Sets.In, Sets.Once}
 use Rattle.qh_model.proofs.Members.{to_contains, of_contains, in_permutation, rising_once, every_at}
 use Rattle.qh_model.proofs.lists.{Images.in_map, Images.of_map, Joined.in_flat_map, Joined.of_flat_map, OnceEach.once_length}
 use Rattle.qh_model.proofs.polygons.EdgeCounts.{distinct, length-distinct, of_distinct, in_distinct, once_distinct}
@@ -39,17 +40,19 @@ pub completes_more : (one left left' all : List (ℕ × ℕ)) (now next start : 
     → AddsPairs one now next → Completes left all now start → Completes left' all next start
 completes_more one left left' all now next start e s h end t = h end (subst (λ x. AddsPairs x now end) (sym e) (adds_then one left' now next end s t))
 
--- what is left along a list
-pub way_left : (last to x : ℕ) (along : List ℕ) (i : ℕ) → i < length along → x ≡ get_or along i x
-    → pairs_along last (drop i along) to ≡ ((min last x, max last x) ∷ []) ++ pairs_along x (drop (i + 1) along) to
-way_left last to x along i h e = ap (λ t. pairs_along last t to) (drop_next along i x h e)
+-- the neighbours of the sides of a face, the lower first
+abbrev pub pairs_along_sides : List (ℕ × ℕ) → List (ℕ × ℕ)
+pairs_along_sides sides = map (λ s. (min s.0 s.1, max s.0 s.1)) sides
 
--- and of a fan
-pub triangles_left : (first last x : ℕ) (along : List ℕ) (i : ℕ) → i < length along → x ≡ get_or along i x
-    → pairs_of (triangles_along first last (drop i along)) ≡ pairs_round (first ∷ last ∷ x ∷ []) ++ pairs_of (triangles_along first x (drop (i + 1) along))
-triangles_left first last x along i h e = ap (λ t. pairs_of (triangles_along first last t)) (drop_next along i x h e)
+pub pairs_of_sides : (q : List ℕ) → pairs_along_sides (steps_round q) ≡ pairs_round q
+pairs_of_sides [] = refl
+pairs_of_sides (t ∷ r) = along t r t
+  where
+    along : (t : ℕ) (r : List ℕ) (e : ℕ) → pairs_along_sides (steps_along t r e) ≡ pairs_along t r e
+    along t [] e = refl
+    along t (w ∷ r) e = ap (λ ps. (min t w, max t w) ∷ ps) (along w r e)
 
--- and of fans
+-- what is left of fans
 pub fans_left : (qs : List (List ℕ)) (i : ℕ) (q : List ℕ) → i < length qs → q ≡ get_or qs i q
     → pairs_of (fans (drop i qs)) ≡ pairs_of (fan q) ++ pairs_of (fans (drop (i + 1) qs))
 fans_left qs i q h e = ap (λ t. pairs_of (fans t)) (drop_next qs i q h e) ∙ flat_map-append pairs_round (fan q) (fans (drop (i + 1) qs))

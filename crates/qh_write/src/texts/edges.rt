@@ -1,11 +1,11 @@
 //! The number of edges of fans. Each pair of neighbours is one number; these are sorted, and equal ones
 //! counted once.
 ghost use Rattle.std.specs.Prelude.{◌≡◌, IfOk, OnOk, [], ◌∷◌, min, max};
-ghost use Rattle.qh_model.specs.headline.Fan.{triangles_along, fan, fans, pairs_along, pairs_round, edge_count};
+ghost use Rattle.qh_model.specs.headline.Fan.{fan, fans, pairs_round, edge_count};
 ghost use Rattle.qh_write.specs.steps.EdgeKeys.{AddsPairs, pairs_of};
 
 use qh_keys::Packed;
-use qh_model::{Id, Polygon};
+use qh_model::{Id, Polygon, Sides};
 use std::alloc::{AllocError, Global};
 
 /// Appends the number of two neighbours, unless they are one id.
@@ -19,56 +19,27 @@ fn push_pair(keys: &mut Vec<Packed>, u: Id, v: Id) -> Result<(), AllocError>
     Ok(())
 }
 
-/// Appends the numbers of the neighbours on the way along a list from one id to another.
-fn push_way(keys: &mut Vec<Packed>, from: Id, along: &[Id], to: Id) -> Result<(), AllocError>
-    ensures { OnOk result (AddsPairs (pairs_along from along.now to) keys.old.items keys.new.items) }
-{
-    let mut last = from;
-    for id in along {
-        push_pair(keys, last, *id)?;
-        last = *id;
-    }
-    push_pair(keys, last, to)?;
-    Ok(())
-}
-
 /// Appends the numbers of the neighbours round a face.
 fn push_round(keys: &mut Vec<Packed>, face: &[Id]) -> Result<(), AllocError>
     ensures { OnOk result (AddsPairs (pairs_round face.now) keys.old.items keys.new.items) }
 {
-    match face {
-        [first, rest @ ..] => push_way(keys, *first, rest, *first),
-        [] => Ok(()),
-    }
-}
-
-/// Appends the numbers of the neighbours of triangles of a first id and each two neighbours along a list.
-fn push_triangles(
-    keys: &mut Vec<Packed>,
-    first: Id,
-    second: Id,
-    along: &[Id],
-) -> Result<(), AllocError>
-    ensures { OnOk result (AddsPairs (pairs_of (triangles_along first second along.now)) keys.old.items keys.new.items) }
-{
-    let mut last = second;
-    for id in along {
-        push_round(keys, &[first, last, *id])?;
-        last = *id;
+    for (from, to) in Sides::of(face) {
+        push_pair(keys, from, to)?;
     }
     Ok(())
 }
 
 /// Appends the numbers of the neighbours of a fan.
-fn push_fan(keys: &mut Vec<Packed>, face: &[Id]) -> Result<(), AllocError>
+fn push_fan(keys: &mut Vec<Packed>, face: &Polygon) -> Result<(), AllocError>
     ensures { OnOk result (AddsPairs (pairs_of (fan face.now)) keys.old.items keys.new.items) }
 {
-    match face {
-        [first, second, rest @ ..] if !rest.is_empty() => {
-            push_triangles(keys, *first, *second, rest)
-        }
-        _ => push_round(keys, face),
+    if face.ids().len() < 3 {
+        return push_round(keys, face.ids());
     }
+    for triangle in face.fan() {
+        push_round(keys, &triangle)?;
+    }
+    Ok(())
 }
 
 /// Appends the numbers of the neighbours of the fans of faces.
@@ -76,7 +47,7 @@ fn push_fans(keys: &mut Vec<Packed>, faces: &[Polygon]) -> Result<(), AllocError
     ensures { OnOk result (AddsPairs (pairs_of (fans faces.now)) keys.old.items keys.new.items) }
 {
     for face in faces {
-        push_fan(keys, face.ids())?;
+        push_fan(keys, face)?;
     }
     Ok(())
 }

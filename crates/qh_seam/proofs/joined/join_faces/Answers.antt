@@ -23,7 +23,7 @@ returns-clause-joined g c = λ ids kept distinct are keeps faces q m.
 
 pub returns-clause-closed : goal.returns-clause-closed
 returns-clause-closed g c = λ closed.
-    let border = rw c.deref.ensures.value at (c.in_ok-closes.ensures c.if-not-closes.false) in
+    let border = rw c.deref.ensures.value at (c.in_ok-closes.ensures.0 c.if-not-closes.false) in
     closed_permuted _ _
     (IsPermutation-trans _ _ _ (IsPermutation-append_right c.args.given _ _ c.in_ok-bridges.ensures) c.in_ok-and.ensures)
     (closed_by_border c.args.given c.args.gone.now c.args.bridges.items closed border)

@@ -7,7 +7,7 @@ use Rattle.qh_write.proofs.EdgeKeyLemmas.{adds_none, completes_more, fans_left}
 pub loop-face-preserved : goal.loop-face-preserved
 loop-face-preserved c =
     completes_more _ _ _ _ _ _ _ (fans_left c.args.faces.now c.loop-face.face-index c.face-item.result c.loop-face-test.true c.face-item.is)
-    (subst (λ q. AddsPairs (pairs_of (fan q)) c.loop-face.keys.items c.push_fan.new.keys.items) c.ids.ensures c.in_ok-push_fan.ensures) c.loop-face.invariant
+    c.in_ok-push_fan.ensures c.loop-face.invariant
 
 pub returns : goal.returns
 returns c =
