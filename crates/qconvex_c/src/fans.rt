@@ -57,10 +57,8 @@ fn push_normals(components: &mut Vec<i64>, pts: &[Point], face: &Polygon) -> Res
     ensures { OnOk result (components.new.items ≡ components.old.items ++ face_normals (place pts.now) face.now) }
 {
     for [u, v, w] in face.fan() {
-        push_normal(
-            components,
-            cross(point_at(pts, u), point_at(pts, v), point_at(pts, w)),
-        )?;
+        let normal = cross(point_at(pts, u), point_at(pts, v), point_at(pts, w));
+        push_normal(components, normal)?;
     }
     Ok(())
 }

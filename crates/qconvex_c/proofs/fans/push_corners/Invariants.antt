@@ -4,5 +4,5 @@ use Rattle.qconvex_c.specs.contract.Flat.{corners_of}
 use Rattle.qconvex_c.specs.steps.FaceFans.{face_corners}
 use Rattle.qconvex_c.proofs.fans.push_corners.Given as goal
 
-abbrev pub invariant-loop-1 : goal.invariant-loop-1
-invariant-loop-1 l = l.numbers.items ++ corners_of l.iterator ≡ l.initial.numbers.items ++ face_corners l.face
+abbrev pub invariant-loop-u : goal.invariant-loop-u
+invariant-loop-u l = l.numbers.items ++ corners_of l.u-iterator ≡ l.initial.numbers.items ++ face_corners l.face

@@ -1,12 +1,15 @@
-use Rattle.std.proofs.Common.{◌≡◌, ◌++◌, ◌<◌, drop, length}
+-- The normals so far, and the triangles that are left.
+use Rattle.std.proofs.Common.{◌≡◌, ◌++◌, All}
 use Rattle.std.specs.List.{flat_map}
-use Rattle.qh_model.specs.headline.{Fan.triangles_along, Predicates.place}
+use Rattle.qh_model.specs.contract.IdSets.{AreIndices}
+use Rattle.qh_model.specs.headline.Predicates.{place}
 use Rattle.qconvex_c.specs.contract.Triangles.{normal_of}
+use Rattle.qconvex_c.specs.steps.FaceFans.{face_normals}
 use Rattle.qconvex_c.proofs.fans.push_normals.Given as goal
 
-abbrev pub invariant-loop-id : goal.invariant-loop-id
-invariant-loop-id l = record {
-  grown : l.components.items ++ flat_map (normal_of (place l.pts)) (triangles_along l.first l.last (drop l.id-index l.along))
-      ≡ l.initial.components.items ++ flat_map (normal_of (place l.pts)) (triangles_along l.first l.fn.second l.along);
-  index : l.last < length l.pts;
+abbrev pub invariant-loop-u : goal.invariant-loop-u
+invariant-loop-u l = record {
+  grown : l.components.items ++ flat_map (normal_of (place l.pts)) l.u-iterator
+      ≡ l.initial.components.items ++ face_normals (place l.pts) l.face;
+  within : All (AreIndices l.pts) l.u-iterator;
 }
