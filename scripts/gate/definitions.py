@@ -8,7 +8,7 @@ USE = re.compile(r"^\s*(?:ghost )?use (Rattle\.[\w.]+?)(?:\.\{(.*?)\})?(?: as (\
 START = re.compile(r"^( *)(?:abbrev|unfoldable|pub record|pub data|record|data)( [^{\s].*)$")
 CONSTRUCTOR = re.compile(r"^\s+(?:pub )?([\w'-]+)\s*:")
 CLAUSE = re.compile(r"\b(requires|ensures|ghost (\w+)\s*[=:])\s*(?:\w+\s*)?\{")
-FUNCTION = re.compile(r"^( *)(pub )?fn (\w+)", re.M)
+FUNCTION = re.compile(r"^( *)(pub )?(?:pub\(crate\) )?fn (\w+)", re.M)
 CONTAINER = re.compile(r"^(?:pub )?(impl|trait)\b([^\n{]*)", re.M)
 REEXPORT = re.compile(r"^pub use ([^;]*);", re.M)
 NAME = re.compile(r"\b([A-Z]\w*)")

@@ -2,21 +2,8 @@
 //!
 //! Nothing is proved of the positions: the caller compares the points.
 use qh_model::{Id, Point};
+use qh_plane::{id_in, place_key};
 use std::alloc::{AllocError, Global};
-
-/// The room of a number in a key: 2^32.
-const ROOM: u128 = 4294967296;
-
-/// Returns a coordinate, biased above 0.
-fn biased(coordinate: i32) -> u128 {
-    u128::from((i64::from(coordinate) + 2147483648).unsigned_abs())
-}
-
-/// Returns a point and a number in one, by which points are sorted by places.
-fn key(point: Point, number: u32) -> u128 {
-    let (x, y, z) = (biased(point.x()), biased(point.y()), biased(point.z()));
-    x << 96 | y << 64 | z << 32 | u128::from(number)
-}
 
 /// Returns the sorted keys of the points of some ids, and of those of a list: each with its position, those of the
 /// list behind the others.
@@ -30,7 +17,7 @@ fn sorted_keys(
     let mut number: u32 = 0;
     let own = ids.iter().filter_map(|id| pts.get(id.index()));
     for point in own.chain(list) {
-        keys.push(key(*point, number))?;
+        keys.push(place_key(*point, Id::new(number)))?;
         number = number.saturating_add(1);
     }
     keys.sort_unstable();
@@ -61,7 +48,7 @@ fn positions_in(
     let mut positions = vec![in alloc; 0; list]?;
     let mut position = 0;
     for key in keys {
-        let number = (*key % ROOM) as usize;
+        let number = id_in(*key).index();
         if number < ids {
             position = number;
         } else if let Some(entry) = positions.get_mut(number - ids) {

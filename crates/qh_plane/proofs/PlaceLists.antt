@@ -10,7 +10,8 @@ use Rattle.qh_plane.proofs.PlaceOrder.{place_code-same, biased_small}
 use Rattle.qh_plane.specs.declared.{distinct_points.TheConstants.NO_PLACE, hashed_keys.TheConstants.ID_ROOM, place_keys.TheConstants.ROOM}
 use Rattle.qh_plane.specs.steps.HashedKeys.{place_hash, hash_at, Hashes, WithHashes, AreKeysBelow, AreHashedKeys, IsRepeat, RepeatsTold}
 use Rattle.qh_plane.specs.steps.Marks.{place_starts, marked, marked_ids}
-use Rattle.qh_plane.specs.steps.{PlaceKeys.place_code, PlaceKeys.place_key, PlaceKeys.HasKey, PlaceKeys.ArePlaceKeys, Repeats.IsRepeatedId, Repeats.AreRepeats}
+use Rattle.qh_plane.specs.contract.PlaceNumbers.{place_code, place_key}
+use Rattle.qh_plane.specs.steps.{PlaceKeys.HasKey, PlaceKeys.ArePlaceKeys, Repeats.IsRepeatedId, Repeats.AreRepeats}
 
 -- no number has the number of none
 below_none : {c n : ℕ} → c < n → c ≢ n

@@ -1,3 +1,4 @@
 -- What else the contracts of public functions cite.
+pub mod PlaceNumbers
 pub mod PlanarSets
 pub mod Shapes

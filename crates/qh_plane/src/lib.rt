@@ -27,6 +27,7 @@ mod sorted_points;
 pub use distinct_points::{distinct, distinct_alone, distinct_in_threads};
 pub use id_lists::rising_ids;
 pub use inner_places::outer_ids;
+pub use place_keys::{id_in, place_key};
 pub use planar::polygon;
 pub use ranking::rank;
 pub use shape::Shape;

@@ -4,7 +4,8 @@ ghost use Rattle.std.specs.Prelude.{◌≡◌, ◌+◌, ◌*◌, ◌/◌, ◌%�
 ghost use Rattle.std.specs.List.{All};
 ghost use Rattle.qh_model.specs.headline.Limits.{IsCoordinate};
 ghost use Rattle.qh_model.specs.contract.Places.{IsPlace};
-ghost use Rattle.qh_plane.specs.steps.PlaceKeys.{biased, place_code, place_key, key_at, HasKey};
+ghost use Rattle.qh_plane.specs.contract.PlaceNumbers.{biased, place_code, place_key};
+ghost use Rattle.qh_plane.specs.steps.PlaceKeys.{key_at, HasKey};
 ghost use Rattle.qh_model.specs.contract.IdSets.{AreIndices};
 
 use qh_model::{COORDINATE_LIMIT, Id, Point};
@@ -15,7 +16,7 @@ use std::alloc::{AllocError, Global};
 pub const ROOM: u128 = 4294967296;
 
 /// Returns a coordinate, biased above 0.
-pub fn biased(coordinate: i32) -> u64
+pub(crate) fn biased(coordinate: i32) -> u64
     requires { IsCoordinate coordinate }
     ensures value { result ≡ biased coordinate }
     ensures limit { result < ROOM }
@@ -24,7 +25,7 @@ pub fn biased(coordinate: i32) -> u64
 }
 
 /// Returns the number of a place, which orders points by x, then y, then z.
-#[tactic(auto, unfolding(crate::specs::steps::PlaceKeys::place_code))]
+#[tactic(auto, unfolding(crate::specs::contract::PlaceNumbers::place_code))]
 fn place_code(point: Point) -> u128
     ensures value { result ≡ place_code point }
     ensures limit { result < ROOM * ROOM * ROOM }
@@ -34,9 +35,9 @@ fn place_code(point: Point) -> u128
     line * ROOM + u128::from(biased(point.z()))
 }
 
-/// Returns the key of a point and its id.
-#[tactic(auto, unfolding(crate::specs::steps::PlaceKeys::place_key))]
-fn place_key(point: Point, id: Id) -> u128
+/// Returns the key of a point and its id, which orders by the place and then by the id.
+#[tactic(auto, unfolding(crate::specs::contract::PlaceNumbers::place_key))]
+pub fn place_key(point: Point, id: Id) -> u128
     ensures value { result ≡ place_key point id }
     ensures place { IsPlace point }
     ensures small { id < ROOM }
@@ -45,7 +46,7 @@ fn place_key(point: Point, id: Id) -> u128
 }
 
 /// Returns the number of the place in a key.
-pub fn place_in(key: u128) -> u128
+pub(crate) fn place_in(key: u128) -> u128
     ensures { result ≡ key / ROOM }
 {
     key / ROOM
@@ -59,7 +60,7 @@ pub fn id_in(key: u128) -> Id
 }
 
 /// Returns the keys of points, in the order of their ids in the list.
-pub fn place_keys(alloc: Global, pts: &[Point], ids: &[Id]) -> Result<Vec<u128>, AllocError>
+pub(crate) fn place_keys(alloc: Global, pts: &[Point], ids: &[Id]) -> Result<Vec<u128>, AllocError>
     requires { AreIndices pts.now ids.now }
     ensures value { IfOk result (λ v. v.items ≡ map (key_at pts.now) ids.now) }
     ensures known { IfOk result (λ _. All (HasKey pts.now) ids.now) }

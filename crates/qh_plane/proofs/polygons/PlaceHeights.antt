@@ -5,7 +5,7 @@ use Rattle.qh_model.proofs.Members.{All-In}
 use Rattle.qh_model.specs.{contract.IdSets.HasDistinctPoints, contract.Places.IsPlace, declared.limits.TheConstants.COORDINATE_LIMIT}
 use Rattle.qh_model.specs.headline.{Predicates.place, Sets.In, Vector.Vector, Vector.dot}
 use Rattle.qh_plane.proofs.{PlaceOrder.place_code-same, polygons.Turns.IsKeyed}
-use Rattle.qh_plane.specs.{declared.place_keys.TheConstants.ROOM, steps.PlaceKeys.biased, steps.PlaceKeys.place_code, steps.PlaceKeys.HasKey}
+use Rattle.qh_plane.specs.{declared.place_keys.TheConstants.ROOM, contract.PlaceNumbers.biased, contract.PlaceNumbers.place_code, steps.PlaceKeys.HasKey}
 
 -- the direction along which places rise by x, then y, then z
 abbrev pub order : Vector

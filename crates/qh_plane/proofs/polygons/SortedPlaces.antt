@@ -10,7 +10,8 @@ use Rattle.qh_plane.proofs.polygons.{ComponentTurns.joined-same, Cycles.in-turne
 use Rattle.qh_plane.proofs.polygons.PlaceHeights.{order, place_code-less, keyed_of}
 use Rattle.qh_plane.proofs.polygons.{Stacks.reverse-turned_onto, TurnLaws.RisesBy, Turns.IsFlat, Turns.IsKeyed, Turns.turn_about, Turns.height_of}
 use Rattle.qh_plane.specs.{declared.place_keys.TheConstants.ROOM, steps.Chains.turn_of, steps.Chains.turned_onto, steps.Chains.joined, steps.Chains.chain}
-use Rattle.qh_plane.specs.steps.PlaceKeys.{place_code, key_at, ids_in, HasKey, AreByPlace}
+use Rattle.qh_plane.specs.contract.PlaceNumbers.{place_code}
+use Rattle.qh_plane.specs.steps.PlaceKeys.{key_at, ids_in, HasKey, AreByPlace}
 
 -- ---- rising keys are rising places
 -- rising keys are rising heights

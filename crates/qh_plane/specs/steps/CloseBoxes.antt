@@ -8,7 +8,7 @@ use Rattle.qh_model.specs.headline.DistinctIds.{IsDistinctId}
 use Rattle.qh_plane.specs.declared.close_points.CloseBox.{CloseBox}
 use Rattle.qh_plane.specs.declared.close_points.TheConstants.{NO_ID}
 use Rattle.qh_plane.specs.declared.slot_ranges.SlotRanges.{SlotRanges}
-use Rattle.qh_plane.specs.steps.PlaceKeys.{biased}
+use Rattle.qh_plane.specs.contract.PlaceNumbers.{biased}
 use Rattle.qh_plane.specs.steps.Repeats.{IsRepeatedId}
 
 -- the slot of a point: of numbers of 64 bits, whatever the box

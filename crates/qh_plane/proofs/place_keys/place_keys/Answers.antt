@@ -2,7 +2,7 @@ use Rattle.qh_plane.proofs.place_keys.place_keys.Goals as goal
 use Rattle.std.proofs.{Common.ap, Common.◌∙◌, Common.subst, Common.arith, lemmas.List.Elements.All-more}
 use Rattle.qh_model.specs.contract.Places.{IsPlace}
 use Rattle.qh_model.proofs.lists.Images.{map-more}
-use Rattle.qh_plane.specs.steps.PlaceKeys.{place_key, HasKey, key_at}
+use Rattle.qh_plane.specs.{contract.PlaceNumbers.place_key, steps.PlaceKeys.HasKey, steps.PlaceKeys.key_at}
 
 pub loop-id-preserved : goal.loop-id-preserved
 loop-id-preserved c = record {
