@@ -5,13 +5,12 @@
 //! at seams.
 ghost use Rattle.qh_model.specs.contract.IdSets.{AreIndices};
 
-use crate::curve::Axes;
 use crate::gap::indices_among;
-use crate::shared::point_of;
 use qh_block::hull;
+use qh_curve::Cell;
 use qh_model::{Id, Memory, Point, Polygon};
 use qh_plane::rising_ids;
-use qh_surface::ends_of;
+use qh_surface::{Axes, ends_of};
 use std::alloc::{AllocError, Global};
 
 /// The most ids of a sample.
@@ -67,8 +66,8 @@ fn keys_by_cell(
         if ends.contains(&id) {
             continue;
         }
-        if let Some(point) = point_of(pts, id) {
-            let cell = u64::from(axes.cell(point).interleaved());
+        if let Some(point) = pts.get(id.index()) {
+            let cell = u64::from(Cell::of(&axes, *point).interleaved());
             keys.push(cell << 32 | place as u64)?;
         }
     }

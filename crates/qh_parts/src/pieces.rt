@@ -3,7 +3,7 @@ ghost use Rattle.std.specs.Prelude.{All, ◌≡◌, ◌<◌, ℕ, List, IfOk, If
 ghost use Rattle.qh_model.specs.contract.IdSets.{AreIndices};
 ghost use Rattle.qh_seam.specs.contract.Parts.{IsPartOf};
 
-use qh_guess::{along_curve, shared_ids};
+use qh_curve::{along_curve, shared_ids};
 use qh_model::{Id, Memory, Point};
 use qh_seam::Part;
 use qh_threads::map_indices;

@@ -28,7 +28,7 @@ mod waiting_facets;
 mod walk;
 
 pub use ends::ends_of;
-pub use initial_simplex::Simplex;
+pub use initial_simplex::{Simplex, wide_simplex};
 pub use morton::morton_order;
 pub use planes::plane_of;
 pub use surfaces::{points_of, surface, surface_along, surface_from};

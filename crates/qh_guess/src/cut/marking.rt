@@ -4,7 +4,6 @@ use crate::cut::cutting::{Cutting, Others};
 use crate::cut::facets::Facets;
 use crate::cut::rays::Rays;
 use crate::outlines::{FACING_TOGETHER, Outline, piece};
-use crate::shared::point_of;
 use crate::vector::Vector;
 use qh_mesh::FacetNo;
 use qh_model::{Id, Memory, Point};
@@ -54,6 +53,11 @@ fn points_of(alloc: Global, pts: &[Point], ids: &[Id]) -> Result<Vec<Point>, All
         }
     }
     Ok(points)
+}
+
+/// Returns the point of an id, if it has one.
+fn point_of(pts: &[Point], id: Id) -> Option<Point> {
+    pts.get(id.index()).copied()
 }
 
 /// Returns the points of the first four shared ids. Their middle is inside of every part.

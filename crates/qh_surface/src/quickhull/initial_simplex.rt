@@ -94,7 +94,7 @@ fn furthest_of(pts: &[Point], ids: &[Id], ends: &[Id], from: FarFrom) -> Id
 /// Returns a simplex of ids that are far apart: those of the least and the greatest x, the one that is
 /// furthest from their line, and the one that is furthest from the plane of the three; or the one that
 /// is given, if these are in one plane. The ends are those along the three axes, the least x first.
-pub fn initial_simplex(pts: &[Point], ids: &[Id], ends: &[Id; 6], given: Simplex) -> Simplex
+pub fn wide_simplex(pts: &[Point], ids: &[Id], ends: &[Id; 6], given: Simplex) -> Simplex
     requires some { 0 < length ids.now }
     requires indices { AreIndices pts.now ids.now }
     requires ends { All (Members ids.now) ends.now }

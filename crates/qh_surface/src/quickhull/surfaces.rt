@@ -17,7 +17,7 @@ ghost use Rattle.qh_surface.specs.steps.Positions.{IsPositionOf, ArePositionsOf}
 
 use crate::named_mesh::NamedMesh;
 use crate::quickhull::ends::ends_of;
-use crate::quickhull::initial_simplex::{Simplex, initial_simplex};
+use crate::quickhull::initial_simplex::{Simplex, wide_simplex};
 use crate::quickhull::morton::morton_order;
 use crate::quickhull::run::Run;
 use qh_mesh::Mesh;
@@ -143,7 +143,7 @@ pub fn surface_from(
     ensures named { IfOk result (λ m. IsNamedMesh pts.now m) }
 {
     let ends = ends_of(pts, ids);
-    let far = initial_simplex(pts, ids, &ends, first);
+    let far = wide_simplex(pts, ids, &ends, first);
     if ids.len() < LARGE {
         return surface_along(alloc, pts, Vec::from_slice(alloc, ids)?, far);
     }

@@ -1,9 +1,10 @@
 //! What is guessed of the cube.
 use super::{ALL, halves_of};
+use qh_curve::{along_curve, shared_ids};
 use qh_fixtures::faces::{CUBE_FACES, polygons_of};
 use qh_fixtures::ids::ids_of;
 use qh_fixtures::points::cube;
-use qh_guess::{along_curve, border_of, bridge_over, is_worth, marks_of, outline_of, shared_ids};
+use qh_guess::{border_of, bridge_over, is_worth, marks_of, outline_of};
 use qh_model::{Memory, Polygon};
 use qh_plane::rising_ids;
 use qh_seam::{Divided, Run};

@@ -7,7 +7,7 @@ pub surface_along-requires-2-clause-indices : goal.surface_along-requires-2-clau
 surface_along-requires-2-clause-indices c = indices_reordered c.in_ok-near.ensures c.args.pts.now c.requires.indices
 
 pub surface_along-requires-2-clause-first : goal.surface_along-requires-2-clause-first
-surface_along-requires-2-clause-first c = simplex_reordered c.in_ok-near.ensures c.initial_simplex-far.ensures
+surface_along-requires-2-clause-first c = simplex_reordered c.in_ok-near.ensures c.wide_simplex-far.ensures
 
 pub returns-clause-finished : goal.returns-clause-finished
 returns-clause-finished c =

@@ -2,8 +2,12 @@
 //! Morton.
 //!
 //! Source: Skilling 2004 (Hilbert's order from places, by exchanges and turns of their bits).
-use crate::curve::axes::Cell;
+use qh_model::Point;
+use qh_surface::Axes;
 use std::alloc::{AllocError, Global};
+
+/// The bits of a place along an axis. Three of them fit a cell's number.
+const PLACE_BITS: u32 = 10;
 
 /// The bits of a larger cell's place along an axis.
 const LARGE_BITS: u32 = 5;
@@ -16,6 +20,14 @@ const INNER_BITS: u32 = 15;
 
 /// The greatest place of a larger cell along an axis.
 const LARGE_PLACES: u32 = 31;
+
+/// A cell: its places along the three axes of a set.
+#[derive(Clone, Copy, Drop)]
+pub struct Cell {
+    x: u32,
+    y: u32,
+    z: u32,
+}
 
 /// For each larger cell, by its number in Morton's order, its number in Hilbert's.
 #[derive(Drop)]
@@ -32,6 +44,12 @@ fn spread(number: u32) -> u32 {
 }
 
 impl Cell {
+    /// Returns the cell of a point.
+    pub fn of(axes: &Axes, point: Point) -> Cell {
+        let [x, y, z] = axes.places(point, PLACE_BITS);
+        Cell { x, y, z }
+    }
+
     /// Returns the number in Morton's order: the bits of the places, taken in turn.
     pub fn interleaved(self) -> u32 {
         spread(self.x) << 2 | spread(self.y) << 1 | spread(self.z)

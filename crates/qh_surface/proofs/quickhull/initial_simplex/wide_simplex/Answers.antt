@@ -1,6 +1,6 @@
 -- The four are ids, and not in one plane.
 use Rattle.std.proofs.Common.{arith, rules}
-use Rattle.qh_surface.proofs.quickhull.initial_simplex.initial_simplex.Goals as goal
+use Rattle.qh_surface.proofs.quickhull.initial_simplex.wide_simplex.Goals as goal
 
 pub returns : goal.returns
 returns c = record {
