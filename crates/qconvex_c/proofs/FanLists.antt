@@ -1,5 +1,5 @@
 -- The lists of fans: made face by face they are those of all triangles, and each has three numbers a triangle.
-use Rattle.std.proofs.Common.{ℕ, ℤ, ◌≡◌, ◌*◌, ◌/◌, ◌<◌, List, [], ◌∷◌, ◌++◌, length, take, drop, arith, ap, sym, subst, refl, ◌∙◌, ◌⊎◌, inl, inr}
+use Rattle.std.proofs.Common.{ℕ, ℤ, ◌≡◌, ◌*◌, ◌/◌, ◌<◌, List, [], ◌∷◌, ◌++◌, length, slice_index_or, take, drop, arith, ap, sym, subst, refl, ◌∙◌, ◌⊎◌, inl, inr}
 use Rattle.std.proofs.lemmas.{Grind.flat_map-append, List.append_assoc, List.length-append}
 use Rattle.std.specs.List.{All, flat_map}
 use Rattle.qh_model.proofs.Members.{All-of, All-In}
@@ -29,6 +29,14 @@ pub normals_by_face : (at : ℕ → Vector) (qs : List (List ℕ)) → flat_map 
 normals_by_face at [] = refl
 normals_by_face at (q ∷ qs) = ap (λ t. face_normals at q ++ t) (normals_by_face at qs)
     ∙ sym (flat_map-append (normal_of at) (face_triangles q) (triangles_of qs))
+
+-- a list of three is that of its elements
+pub three_of : (t : List ℕ) (a b c : ℕ) → length t ≡ 3 → t ≡ slice_index_or t 0 a ∷ slice_index_or t 1 b ∷ slice_index_or t 2 c ∷ []
+three_of [] a b c e = absurd (omega arith)
+three_of (u ∷ []) a b c e = absurd (omega arith)
+three_of (u ∷ v ∷ []) a b c e = absurd (omega arith)
+three_of (u ∷ v ∷ w ∷ []) a b c e = refl
+three_of (u ∷ v ∷ w ∷ x ∷ r) a b c e = absurd (omega arith)
 
 -- a list with three elements for each triangle is three times as long as that of the triangles
 module _ {X : Type 0} (f : List ℕ → List X) (three : (u v w : ℕ) → length (f (u ∷ v ∷ w ∷ [])) ≡ 3) where
