@@ -2,7 +2,7 @@
 use Rattle.qh_surface.specs.declared.quickhull.run.Run.{Run}
 use Rattle.qh_surface.specs.steps.Runs.{RunState}
 
--- its lists without those that only a round uses
+-- the lists of a run, without those that only a round uses
 abbrev pub state_of : Run → RunState
 state_of r =
     record { points = r.points.items; mesh = r.mesh; planes = r.planes.items; sets = r.sets; pending = r.pending.items }
