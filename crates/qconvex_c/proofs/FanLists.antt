@@ -1,5 +1,6 @@
 -- The lists of fans: made face by face they are those of all triangles, and each has three numbers a triangle.
-use Rattle.std.proofs.Common.{ℕ, ℤ, ◌≡◌, ◌*◌, ◌/◌, ◌<◌, List, [], ◌∷◌, ◌++◌, length, slice_index_or, take, drop, arith, ap, sym, subst, refl, ◌∙◌, ◌⊎◌, inl, inr}
+use Rattle.std.proofs.Common.{ℕ, ℤ, ◌≡◌, ◌*◌, ◌/◌, ◌<◌, List, [], ◌∷◌, ◌++◌, length, slice_index_or, take, drop, arith}
+use Rattle.std.proofs.Common.{ap, sym, subst, refl, ◌∙◌, ◌⊎◌, inl, inr}
 use Rattle.std.proofs.lemmas.{Grind.flat_map-append, List.append_assoc, List.length-append}
 use Rattle.std.specs.List.{All, flat_map}
 use Rattle.qh_model.proofs.Members.{All-of, All-In}
