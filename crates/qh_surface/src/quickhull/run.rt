@@ -47,6 +47,8 @@ pub struct Run {
     pending: Vec<FacetNo>,
     /// Whose turn it is.
     turns: Turns,
+    /// How many facets were made so far: what the run costs.
+    pub made: usize,
 }
 
 /// Returns the number of places that a run over `points` points asks for at its start.
@@ -118,6 +120,7 @@ impl Run {
             ring: ConeRing::new(alloc),
             pending: room_for(alloc, SMALL),
             turns: Turns::newest(),
+            made: 0,
         };
         run.settle(&[
             FacetNo::new(0),
@@ -145,6 +148,7 @@ impl Run {
         self.ring
             .take(&self.points, &self.mesh, &self.planes, made)?;
         settle_orphans(&mut self.sets, &self.planes, &self.points, &self.ring, made);
+        self.made = self.made.saturating_add(made.len());
         enqueue(&mut self.pending, &self.sets, made)?;
         Ok(())
     }
