@@ -47,7 +47,7 @@ pub struct Run {
     pending: Vec<FacetNo>,
     /// Whose turn it is.
     turns: Turns,
-    /// How many facets were made so far: what the run costs.
+    /// How many facets were made so far: what the run costs. A trial reads it.
     pub made: usize,
 }
 
