@@ -32,29 +32,27 @@ pub const SUMMARY: Asked<'static> = Asked {
     form: Form::Qhull,
 };
 
+/// The parts of [`SUMMARY`], with another output.
+macro_rules! asked_for {
+    ($out:ident) => {
+        Asked {
+            outs: &[Out::$out],
+            ..SUMMARY
+        }
+    };
+}
+
 /// The same with the rank.
-pub const RANK: Asked<'static> = Asked {
-    outs: &[Out::Rank],
-    ..SUMMARY
-};
+pub const RANK: Asked<'static> = asked_for!(Rank);
 
 /// The same with the extreme points.
-pub const FX: Asked<'static> = Asked {
-    outs: &[Out::Fx],
-    ..SUMMARY
-};
+pub const FX: Asked<'static> = asked_for!(Fx);
 
 /// The same with the faces as an OFF file.
-pub const OFF: Asked<'static> = Asked {
-    outs: &[Out::Off],
-    ..SUMMARY
-};
+pub const OFF: Asked<'static> = asked_for!(Off);
 
 /// The same with fans of triangles.
-pub const OFFT: Asked<'static> = Asked {
-    outs: &[Out::OffTriangles],
-    ..SUMMARY
-};
+pub const OFFT: Asked<'static> = asked_for!(OffTriangles);
 
 impl Asked<'_> {
     /// Returns the settings of these parts.
