@@ -2,14 +2,14 @@
 use Rattle.std.proofs.Common.{◌≡◌, inl, inr, ℕ, ◌<◌, List, [], ◌∷◌, sym, subst, refl, arith}
 use Rattle.std.proofs.lemmas.Bool.Decides.{nat_tests}
 use Rattle.std.specs.List.{flat_map}
-use Rattle.std.specs.Prelude.{◌↔◌, filter}
+use Rattle.std.specs.Prelude.{◌↔◌}
 use Rattle.qh_model.specs.headline.{Vector.Vector, Sets.In, Sets.Once, Sets.Members, Dimension.IsDimension}
-use Rattle.qh_model.specs.contract.{ClosedPolygons.steps_along, IdSets.HasDistinctPoints}
+use Rattle.qh_model.specs.contract.IdSets.{HasDistinctPoints}
 use Rattle.qh_model.specs.headline.{Polygon.FollowsAlong, Polygon.Follows, Polygons.AreFaces, Polygons.IsEdge, Polygons.IsEdgeCount}
 use Rattle.qh_model.proofs.polygons.{Edges.one_face_each_way, Neighbours.along_members}
 use Rattle.qh_model.proofs.polygons.OtherFace.{other_face}
 use Rattle.qh_model.proofs.lists.Joined.{once_append, in_flat_map, of_flat_map}
-use Rattle.qh_block.specs.contract.SolidEdges.{goes_up, ups, all_edges_up}
+use Rattle.qh_block.specs.contract.SolidEdges.{ups_along, ups, all_edges_up}
 
 abbrev Pair : Type 0
 Pair = ℕ × ℕ
@@ -18,9 +18,6 @@ abbrev Has : ℕ → ℕ → List Pair → Type 0
 Has u v ps = In {X = Pair} (u, v) ps
 
 -- the steps up on a way
-abbrev ups_along : ℕ → List ℕ → ℕ → List Pair
-ups_along t r e = filter goes_up (steps_along t r e)
-
 on_along : (u v t : ℕ) (r : List ℕ) (e : ℕ) → Has u v (ups_along t r e) ↔ ((u < v) × FollowsAlong u v t r e)
 on_along u v t [] e = (λ i. grind (arith, nat_tests, i), λ h. grind (arith, nat_tests, h))
 on_along u v t (w ∷ r) e =

@@ -1,15 +1,20 @@
 -- The edges of polygons, each counted where it goes from a lower id to a higher one.
 use Rattle.std.specs.List.{flat_map}
-use Rattle.std.specs.Prelude.{ℕ, Bool, List, filter, length, nat_lt}
-use Rattle.qh_model.specs.contract.ClosedPolygons.{steps_round}
+use Rattle.std.specs.Prelude.{ℕ, List, [], ◌∷◌, cond, length, nat_lt}
 
--- the step goes to a higher id
-abbrev pub goes_up : ℕ × ℕ → Bool
-goes_up step = nat_lt step.0 step.1
+-- the pair of u and v before others, if u is the lower
+abbrev pub up : ℕ → ℕ → List (ℕ × ℕ) → List (ℕ × ℕ)
+up u v ps = cond (nat_lt u v) ((u, v) ∷ ps) ps
+
+-- the steps to a higher id on the way from t along the list to e
+abbrev pub ups_along : ℕ → List ℕ → ℕ → List (ℕ × ℕ)
+ups_along t [] e = up t e []
+ups_along t (w ∷ r) e = up t w (ups_along w r e)
 
 -- the steps to a higher id round a polygon
 abbrev pub ups : List ℕ → List (ℕ × ℕ)
-ups q = filter goes_up (steps_round q)
+ups [] = []
+ups (t ∷ r) = ups_along t r t
 
 -- how many there are over all polygons
 abbrev pub all_edges_up : List (List ℕ) → ℕ
