@@ -8,6 +8,7 @@ ghost use Rattle.qh_model.specs.contract.IdSets.{AreIndices};
 use crate::gap::indices_among;
 use qh_block::hull;
 use qh_curve::Cell;
+use qh_keys::Packed;
 use qh_model::{Id, Memory, Point, Polygon};
 use qh_plane::rising_ids;
 use qh_surface::{Axes, ends_of};
@@ -15,9 +16,6 @@ use std::alloc::{AllocError, Global};
 
 /// The most ids of a sample.
 const SAMPLE: usize = 1_024;
-
-/// The room of a place in a key: 2^32.
-const PLACE_ROOM: u64 = 4_294_967_296;
 
 /// Ids of a set, rising, each with the number of its part. Those of each part have none.
 #[derive(Drop)]
@@ -56,19 +54,17 @@ fn keys_by_cell(
     pts: &[Point],
     ids: &[Id],
     ends: &[Id; 6],
-) -> Result<Vec<u64>, AllocError>
+) -> Result<Vec<Packed>, AllocError>
     requires { AreIndices pts.now ends.now }
 {
     let axes = Axes::of(pts, ends);
     let mut keys = Vec::with_capacity(alloc, ids.len())?;
-    for place in 0..ids.len() {
-        let id = ids[place];
-        if ends.contains(&id) {
+    for (place, id) in (0..u32::MAX).zip(ids) {
+        if ends.contains(id) {
             continue;
         }
         if let Some(point) = pts.get(id.index()) {
-            let cell = u64::from(Cell::of(&axes, *point).interleaved());
-            keys.push(cell << 32 | place as u64)?;
+            keys.push(Packed::new(Cell::of(&axes, *point).interleaved(), place))?;
         }
     }
     keys.sort_unstable();
@@ -78,14 +74,13 @@ fn keys_by_cell(
 /// Returns for each of `places` places the number of its part, where sorted keys are cut into `count` parts.
 fn parts_of_places(
     alloc: Global,
-    keys: &[u64],
+    keys: &[Packed],
     places: usize,
     count: usize,
 ) -> Result<Vec<Option<usize>>, AllocError> {
     let mut parts = vec![in alloc; None; places]?;
     for position in 0..keys.len() {
-        let place = (keys[position] % PLACE_ROOM) as usize;
-        if let Some(part) = parts.get_mut(place) {
+        if let Some(part) = parts.get_mut(keys[position].low() as usize) {
             *part = Some(position.saturating_mul(count) / keys.len());
         }
     }

@@ -2,8 +2,9 @@
 ghost use Rattle.std.specs.Prelude.{IfOk};
 ghost use Rattle.qh_model.specs.contract.IdSets.{AreIndices};
 
-use crate::gap::edges::{Border, Round, open_edges, reverse};
+use crate::gap::edges::{Border, list_edges, open_edges};
 use qh_block::hull;
+use qh_keys::Packed;
 use qh_model::{Id, Memory, Point, Polygon};
 use qh_plane::rising_ids;
 use std::alloc::{AllocError, Global};
@@ -18,8 +19,8 @@ struct Sides {
 }
 
 /// Returns an edge and the position of a polygon in one.
-fn side_key(edge: u64, position: u64) -> u128 {
-    u128::from(edge) << 64 | u128::from(position)
+fn side_key(edge: Packed, position: u64) -> u128 {
+    u128::from(edge.high()) << 96 | u128::from(edge.low()) << 64 | u128::from(position)
 }
 
 impl Sides {
@@ -29,7 +30,7 @@ impl Sides {
         let mut edges = Vec::new(alloc);
         for position in 0..polygons.len() {
             edges.clear();
-            Round::of(&polygons[position]).list(&mut edges)?;
+            list_edges(&polygons[position], &mut edges)?;
             for edge in &edges {
                 keys.push(side_key(*edge, position as u64))?;
             }
@@ -39,11 +40,11 @@ impl Sides {
     }
 
     /// Returns the position of a polygon that has an edge.
-    fn polygon_of(&self, edge: u64) -> Option<usize> {
+    fn polygon_of(&self, edge: Packed) -> Option<usize> {
         let least = side_key(edge, 0);
         let place = self.keys.partition_point(|key| *key < least);
         let key = *self.keys.get(place)?;
-        if key >> 64 == u128::from(edge) {
+        if key >> 64 == least >> 64 {
             Some((key % POSITION_ROOM) as usize)
         } else {
             None
@@ -57,17 +58,17 @@ impl Sides {
 struct Flood<'a> {
     polygons: &'a [Polygon],
     sides: Sides,
-    open: &'a [u64],
+    open: &'a [Packed],
     taken: Vec<bool>,
     order: Vec<usize>,
     /// Edges that a polygon has to take.
-    wanted: Vec<u64>,
+    wanted: Vec<Packed>,
 }
 
 impl Flood<'_> {
     /// Takes the polygon at a position, if it is not taken yet: the edges against its own are wanted, unless its own
     /// are open.
-    fn take(&mut self, position: usize, edges: &mut Vec<u64>) -> Result<(), AllocError> {
+    fn take(&mut self, position: usize, edges: &mut Vec<Packed>) -> Result<(), AllocError> {
         let Some(taken) = self.taken.get_mut(position) else {
             return Ok(());
         };
@@ -80,10 +81,10 @@ impl Flood<'_> {
             return Ok(());
         };
         edges.clear();
-        Round::of(polygon).list(edges)?;
+        list_edges(polygon, edges)?;
         for edge in &*edges {
             if self.open.binary_search(edge).is_err() {
-                self.wanted.push(reverse(*edge))?;
+                self.wanted.push(edge.swapped())?;
             }
         }
         Ok(())
@@ -111,7 +112,7 @@ impl Flood<'_> {
 fn reached(
     alloc: Global,
     polygons: &[Polygon],
-    open: &[u64],
+    open: &[Packed],
 ) -> Result<Option<Vec<usize>>, AllocError> {
     let mut flood = Flood {
         polygons,
