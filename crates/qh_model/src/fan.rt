@@ -6,8 +6,8 @@ ghost use Rattle.qh_model.specs.contract.FaceTriangles.{face_triangles};
 use crate::point::Id;
 use std::marker::Model;
 
-/// The triangles of the fan of a polygon that are left: each of its first corner and two neighbours.
-/// From [`Polygon::fan`](crate::Polygon::fan).
+/// An iterator over the triangles of the fan of a polygon. Each has the first corner and two neighbours. Created by
+/// [`Polygon::fan`](crate::Polygon::fan).
 #[derive(Drop)]
 pub struct Fan<'a> {
     /// The corner that all triangles have.
@@ -28,7 +28,7 @@ impl<'a> Model for Fan<'a> {
 }
 
 impl<'a> Fan<'a> {
-    /// Returns the triangles of the fan of a list of ids: two less than there are ids, and none of fewer than three.
+    /// Returns the triangles of the fan of a list of ids: two fewer than there are ids, and none of fewer than three.
     pub fn of(ids: &'a [Id]) -> Fan<'a>
         ensures { result ≡ face_triangles ids.now }
     {

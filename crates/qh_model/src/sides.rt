@@ -6,8 +6,8 @@ ghost use Rattle.qh_model.specs.contract.ClosedPolygons.{steps_round};
 use crate::point::Id;
 use std::marker::Model;
 
-/// The sides of a polygon that are left, each as its two ends, from the side behind the first corner to the one that
-/// ends there. From [`Polygon::sides`](crate::Polygon::sides).
+/// An iterator over the sides of a polygon, each as its two ends. The last side ends at the first corner. Created by
+/// [`Polygon::sides`](crate::Polygon::sides).
 #[derive(Drop)]
 pub struct Sides<'a> {
     /// The corner that the next side begins at.

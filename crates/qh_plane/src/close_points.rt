@@ -220,8 +220,8 @@ impl CloseBox {
         x.wrapping_add(y).wrapping_add(z)
     }
 
-    /// Returns the distinct ids of points, rising, each of which has a slot of its place; `None` if different points have
-    /// the same slot, or a point has no slot.
+    /// Returns the distinct ids of points, rising. Returns `None` if different points come to the same slot, or a point has
+    /// no slot.
     pub fn distinct_ids(self, alloc: Global, pts: &[Point]) -> FoundIds
         requires { length pts.now ≤ POINT_LIMIT }
         ensures { IfOk result (λ found. IfSome found (λ v. AreDistinctIds pts.now v.items)) }
@@ -243,7 +243,7 @@ impl CloseBox {
         Ok(Some(ids))
     }
 
-    /// Returns [`distinct_ids`](CloseBox::distinct_ids) of a box with fewer than `SHARED_SLOTS` slots; `None` of others.
+    /// Calls [`distinct_ids`](CloseBox::distinct_ids) if there are fewer than `SHARED_SLOTS` slots, and else returns `None`.
     pub fn distinct_if_small(self, alloc: Global, pts: &[Point]) -> FoundIds
         requires { length pts.now ≤ POINT_LIMIT }
         ensures { IfOk result (λ found. IfSome found (λ v. AreDistinctIds pts.now v.items)) }

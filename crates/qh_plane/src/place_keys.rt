@@ -35,7 +35,7 @@ fn place_code(point: Point) -> u128
     line * ROOM + u128::from(biased(point.z()))
 }
 
-/// Returns the key of a point and its id, which orders by the place and then by the id.
+/// Returns the key of a point and an id. Keys are ordered by the place, and then by the id.
 #[tactic(auto, unfolding(crate::specs::contract::PlaceNumbers::place_key))]
 pub fn place_key(point: Point, id: Id) -> u128
     ensures value { result ≡ place_key point id }
@@ -52,7 +52,7 @@ pub(crate) fn place_in(key: u128) -> u128
     key / ROOM
 }
 
-/// Returns the id in a key.
+/// Returns the id in a key of [`place_key`].
 pub fn id_in(key: u128) -> Id
     ensures { result ≡ key % ROOM }
 {

@@ -20,18 +20,23 @@ use std::thread::{self, Threads};
 /// Threads share the lines of at least this many vertices or faces.
 const SHARED_FROM: usize = 16_384;
 
-/// Vertices: ids that are indices of points.
+/// The vertices of a text.
 #[derive(Clone, Copy)]
 pub struct Vertices<'a> {
+    /// All points.
     pub pts: &'a [Point],
+    /// The vertices, as indices of the points.
     pub ids: &'a [Id],
 }
 
-/// Faces in a form, with the numbers of their vertices.
+/// The faces of a text.
 #[derive(Clone, Copy)]
 pub struct NumberedFaces<'a> {
+    /// The form in which the faces are written.
     pub form: Form,
+    /// The number of each vertex.
     pub numbers: &'a VertexNumbers<'a>,
+    /// The faces, by the ids of their corners.
     pub polygons: &'a [Polygon],
 }
 
