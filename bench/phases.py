@@ -5,9 +5,9 @@
     bench/phases.py --words off
 
 For each family one seeded file; `perf record` takes samples of one run, and each belongs to the phase of the function that
-it is in. Functions that are inlined count with their caller, the sort of 64-bit numbers with the distinct points although a
-large surface begins with one too and the order of its faces is one, and what the system does (memory, pages, pipes) is a
-column of its own. By hand: no gate asks for it.
+it is in. Functions that are inlined count with their caller, the sort of 64-bit numbers with the distinct points although the
+order of faces is one, and that of packed pairs with the faces although a large surface begins with one. What the system
+does (memory, pages, pipes) is a column of its own. By hand: no gate asks for it.
 """
 import argparse
 import os
