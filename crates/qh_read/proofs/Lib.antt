@@ -1,6 +1,7 @@
 pub mod BuildingLemmas
 pub mod DigitLaws
 pub mod NumberLaws
+pub mod CursorLaws
 pub mod SourceLemmas
 pub mod Lexing
 pub mod LexingLaws

@@ -1,6 +1,7 @@
 -- What private functions speak of: nothing to believe.
 pub mod Arriving
 pub mod Building
+pub mod Cursors
 pub mod Numbers
 pub mod Reader
 pub mod Scanning

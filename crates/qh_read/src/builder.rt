@@ -5,6 +5,7 @@ ghost use Rattle.qh_read.specs.contract.Tokens.{is_keyword};
 ghost use Rattle.qh_read.specs.steps.Stages.{stage_shown, HasTextFault, is_header, pending_count};
 
 use crate::coordinate::Coordinate;
+use crate::cursor::Cursor;
 use crate::token::Token;
 use qh_model::{COORDINATE_LIMIT, Form, POINT_LIMIT, Point, ReadFault};
 use std::alloc::{AllocError, Global};
@@ -101,7 +102,9 @@ impl Builder {
     ghost use Rattle.qh_read.specs.contract.Tokens.{is_keyword, value_of};
     ghost use Rattle.qh_read.specs.steps.SmallTokens.{IsSmall};
     ghost use Rattle.qh_read.specs.steps.Building.{shown, taken, taken_count, lack, AreAll};
-    ghost use Rattle.qh_read.specs.steps.Numbers.{AwaitsPoint, AwaitsPoints};
+    ghost use Rattle.qh_read.specs.steps.Numbers.{AwaitsPoints};
+    ghost use Rattle.qh_read.specs.steps.Cursors.{IsOn, held_from};
+    ghost use Rattle.qh_model.specs.declared.form.Form.{Form};
     ghost use Rattle.qh_model.specs.headline.PointFile.{coordinates};
 
     /// Creates a builder that has read nothing yet.
@@ -169,34 +172,24 @@ impl Builder {
         }
     }
 
-    /// Returns the stage after one more point, if a point begins here and all its coordinates are to
-    /// come.
-    #[inline]
-    pub fn after_point(&self) -> Option<Stage>
-        ensures { IfSome result (AwaitsPoint self.now) }
-    {
-        match (self.pending, self.stage) {
-            (Pending::Zero, Stage::Coordinates(left, trailing)) if left >= 3 => {
-                Some(Stage::Coordinates(left - 3, trailing))
-            }
-            _ => None,
-        }
-    }
-
-    /// Takes the three coordinates of a point, after which this stage comes. There is room for it.
-    #[inline]
-    pub fn take_point(&mut self, next: Stage, x: Coordinate, y: Coordinate, z: Coordinate)
-        requires room { vec_len self.old.points < vec_capacity self.old.points }
-        requires awaits { AwaitsPoint self.old next }
-        ensures shown { (i j k : ℕ) → shown self.new
-            ≡ progress.after (progress.after (progress.after (shown self.old)
-            false (Some x.value) i) false (Some y.value) j) false (Some z.value) k }
-        ensures count { taken_count self.new ≡ taken_count self.old + 3 }
+    /// Takes the points that come next, as far as they are expected and there is room. Returns the place after
+    /// them and the separators behind them.
+    pub fn take_points<'a>(&mut self, from: Cursor<'a>) -> Cursor<'a>
+        ensures held { (form : Form) (base : ℕ) → held_from form (shown self.old) base from.entry
+            ≡ held_from form (shown self.new) base result }
+        ensures moved { IsOn from.entry result 0 }
+        ensures count { 2 * taken_count self.new + from.entry.at ≤ 2 * taken_count self.old + result.at }
         ensures kept { vec_capacity self.old.points ≤ vec_capacity self.new.points }
     {
-        let point = Point::new(x.value, y.value, z.value);
-        self.points.push_reserved(point);
-        self.stage = next;
+        let (Pending::Zero, Stage::Coordinates(left, trailing)) = (self.pending, self.stage) else {
+            return from;
+        };
+        let before = self.points.len();
+        let more = (left as usize / 3).min(self.points.capacity() - before);
+        let cursor = from.push_points(&mut self.points, before + more);
+        let taken = self.points.len() - before;
+        self.stage = Stage::Coordinates(left - 3 * taken as u32, trailing);
+        cursor
     }
 
     /// Returns the stage after `count` more points, if a point begins here and all their coordinates are to come.

@@ -10,6 +10,7 @@
 mod batch;
 mod builder;
 mod coordinate;
+mod cursor;
 pub mod fakes;
 mod fault;
 mod filling;

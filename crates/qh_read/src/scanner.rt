@@ -7,8 +7,8 @@ ghost use Rattle.qh_read.specs.contract.Holding.{held_at_start, ended_held, held
 ghost use Rattle.qh_read.specs.steps.Scanning.{held, under_way, HasRoom};
 
 use crate::builder::Builder;
+use crate::cursor::Cursor;
 use crate::known_points::KnownPoints;
-use crate::numbers::{after_blanks, next_point};
 use crate::token::{Token, begins_data, blank, with_digit};
 use qh_model::Form;
 use std::alloc::{AllocError, Global};
@@ -169,20 +169,14 @@ impl Scanner {
         if self.comment || !token.is_empty() {
             return bytes;
         }
-        let mut rest = bytes;
-        while let Some(next) = self.builder.after_point() {
-            // What parts words is taken even where no point follows, so that it is gone over once.
-            let (line, word) = after_blanks(self.line, rest);
-            self.line = line;
-            let Some((x, y, z)) = next_point(line, word) else {
-                return word;
-            };
-            self.builder
-                .take_point(next, x.coordinate, y.coordinate, z.coordinate);
-            self.line = z.line;
-            rest = z.rest;
-        }
-        rest
+        let start = Cursor {
+            bytes,
+            at: 0,
+            line: self.line,
+        };
+        let cursor = self.builder.take_points(start);
+        self.line = cursor.line;
+        cursor.rest()
     }
 
     /// Takes the points of a piece if neither a word nor a comment is under way and the builder expects all of

@@ -1,9 +1,8 @@
 //! Segments of a file, parsed before it is known what stands before them.
-ghost use Rattle.std.specs.Prelude.{◌≡◌, ◌≤◌, ◌<◌, ◌+◌, ◌*◌, ◌^◌, [], length, vec_len};
-ghost use Rattle.qh_read.specs.steps.Numbers.{ArePoints, IsEndOf};
+ghost use Rattle.std.specs.Prelude.{◌≤◌, ◌<◌, ◌^◌, [], length};
 ghost use Rattle.qh_read.specs.steps.Segments.{IsSegment};
 
-use crate::numbers::next_point;
+use crate::cursor::Cursor;
 use qh_model::Point;
 use std::alloc::Global;
 use std::mem;
@@ -36,30 +35,6 @@ fn after_line(bytes: &[u8]) -> usize
     0
 }
 
-/// Pushes the points that the bytes begin with, up to the room there is. Returns the number of line ends
-/// among them and the bytes after them.
-fn push_points<'a>(points: &mut Vec<Point>, bytes: &'a [u8]) -> (u32, &'a [u8])
-    requires small { length bytes.now < 2 ^ 31 }
-    requires none { points.old.items ≡ [] }
-    ensures told { ArePoints 0 bytes.now points.new.items result.0 result.1.now }
-    ensures end { IsEndOf result.1.now bytes.now }
-    ensures room { 6 * vec_len points.new + length result.1.now ≤ length bytes.now }
-    ensures lines { result.0 + length result.1.now ≤ length bytes.now }
-{
-    let mut line = 0;
-    let mut rest = bytes;
-    while points.len() < points.capacity() {
-        let Some((x, y, z)) = next_point(line, rest) else {
-            return (line, rest);
-        };
-        let point = Point::new(x.coordinate.value, y.coordinate.value, z.coordinate.value);
-        points.push_reserved(point);
-        line = z.line;
-        rest = z.rest;
-    }
-    (line, rest)
-}
-
 impl Segment {
     /// Creates an empty segment with room for the points of `bytes` bytes, or with no room if the allocation fails.
     pub fn new(alloc: Global, bytes: usize) -> Segment
@@ -89,9 +64,15 @@ impl Segment {
         let mut points = mem::replace(&mut self.points, Vec::new(alloc));
         points.clear();
         self.head = after_line(text);
-        let (lines, rest) = push_points(&mut points, &text[self.head..]);
+        let start = Cursor {
+            bytes: text,
+            at: self.head,
+            line: 0,
+        };
+        let limit = points.capacity();
+        let end = start.push_points(&mut points, limit);
         self.points = points;
-        self.lines = lines;
-        self.taken = text.len() - rest.len();
+        self.lines = end.line;
+        self.taken = end.at;
     }
 }

@@ -1,10 +1,9 @@
 -- Whole numbers that are taken at once.
-use Rattle.std.specs.Prelude.{ℕ, ℤ, ◌≡◌, ◌≤◌, ◌+◌, ◌*◌, ◌++◌, Bool, false, List, [], ◌∷◌, Some, length}
+use Rattle.std.specs.Prelude.{ℕ, ℤ, ◌≡◌, ◌+◌, ◌*◌, ◌++◌, Bool, false, List, Some, length}
 use Rattle.qh_model.specs.headline.Vector.{Vector}
 use Rattle.qh_model.specs.headline.PointFile.{coordinates}
 use Rattle.qh_model.specs.declared.form.Form.{Form}
-use Rattle.qh_model.specs.headline.Limits.{IsCoordinate}
-use Rattle.qh_read.specs.contract.Holding.{Held, held_by}
+use Rattle.qh_read.specs.contract.Holding.{Held, held_by, next_held}
 use Rattle.qh_read.specs.contract.Progress.{Progress, wants, after}
 use Rattle.qh_read.specs.contract.Tokens.{signed}
 use Rattle.qh_read.specs.steps.Stages.{stage_shown, is_header, HasTextFault}
@@ -19,15 +18,6 @@ use Rattle.qh_read.specs.declared.token.Token.TheVariants.{Empty, Digits}
 abbrev pub quiet : Form → Progress → ℕ → Token → Held
 quiet form progress line token = record { form = form; progress = progress; token = token; comment = false; line = line }
 
--- between words the bytes part words until this rest, where this line goes on; lines are counted from any base
-abbrev pub IsParted : ℕ → List ℕ → ℕ → List ℕ → Type 0
-IsParted line bytes later rest = (form : Form) (p : Progress) (base : ℕ) →
-    held_by (quiet form p (base + line) Empty) bytes ≡ held_by (quiet form p (base + later) Empty) rest
-
--- the rest is what comes last of the bytes
-abbrev pub IsEndOf : List ℕ → List ℕ → Type 0
-IsEndOf rest bytes = (front : List ℕ) × (bytes ≡ front ++ rest)
-
 -- between words the bytes begin a number of these digits, with this rest
 abbrev pub IsBegun : List ℕ → Bool → ℕ → List ℕ → Type 0
 IsBegun bytes minus magnitude rest = (form : Form) (p : Progress) (line : ℕ) →
@@ -38,27 +28,11 @@ abbrev pub IsContinued : ℕ → List ℕ → ℕ → List ℕ → Type 0
 IsContinued magnitude bytes more rest = (form : Form) (p : Progress) (line : ℕ) (minus : Bool) →
     held_by (quiet form p line (Digits minus magnitude)) bytes ≡ held_by (quiet form p line (Digits minus more)) rest
 
--- a number ends before this rest, where this line goes on
-abbrev pub IsEnded : ℕ → List ℕ → ℕ → List ℕ → Type 0
-IsEnded line bytes later rest = (form : Form) (p : Progress) (base : ℕ) (minus : Bool) (magnitude : ℕ) →
-    held_by (quiet form p (base + line) (Digits minus magnitude)) bytes
-    ≡ held_by (quiet form (after p false (Some (signed minus magnitude)) (base + line)) (base + later) Empty) rest
-
--- between words the bytes tell a number, and then come this line and this rest
-pub record IsNumber (line : ℕ) (bytes : List ℕ) (z : ℤ) (later : ℕ) (rest : List ℕ) : Type 0 where
-  pub held : (form : Form) (p : Progress) (base : ℕ) → (n : ℕ) × (held_by (quiet form p (base + line) Empty) bytes
-      ≡ held_by (quiet form (after p false (Some z) n) (base + later) Empty) rest)
-  pub end : IsEndOf rest bytes
-  pub left : length rest + 2 ≤ length bytes
-  pub lines : later + length rest ≤ line + length bytes
-
--- between words the bytes tell three numbers, and then come this line and this rest
-pub record ArePoint (line : ℕ) (bytes : List ℕ) (x y z : ℤ) (later : ℕ) (rest : List ℕ) : Type 0 where
-  pub held : (form : Form) (p : Progress) (base : ℕ) → (i j k : ℕ) × (held_by (quiet form p (base + line) Empty) bytes
-      ≡ held_by (quiet form (after (after (after p false (Some x) i) false (Some y) j) false (Some z) k) (base + later) Empty) rest)
-  pub end : IsEndOf rest bytes
-  pub left : length rest + 6 ≤ length bytes
-  pub lines : later + length rest ≤ line + length bytes
+-- a number ends with this byte, after which this line goes on
+abbrev pub IsEnd : ℕ → ℕ → ℕ → Type 0
+IsEnd line end later = (form : Form) (p : Progress) (base : ℕ) (minus : Bool) (magnitude : ℕ) →
+    next_held (quiet form p (base + line) (Digits minus magnitude)) end
+    ≡ quiet form (after p false (Some (signed minus magnitude)) (base + line)) (base + later) Empty
 
 -- between words the bytes tell these points, if all of them are wanted, and then come this line and this rest
 abbrev pub ArePoints : ℕ → List ℕ → List Vector → ℕ → List ℕ → Type 0
@@ -66,15 +40,6 @@ ArePoints line bytes points later rest =
     (form : Form) (trailing : Trailing) (left : ℕ) (t : List ℤ) (base : ℕ)
     → held_by (quiet form (wants trailing (3 * length points + left) t) (base + line) Empty) bytes
     ≡ held_by (quiet form (wants trailing left (t ++ coordinates points)) (base + later) Empty) rest
-
--- a point begins, its coordinates are to come, and after them this stage
-pub record AwaitsPoint (b : Builder) (next : Stage) : Type 0 where
-  pub begins : b.pending ≡ pendings.Zero
-  pub after_header : is_header next ≡ false
-  pub text_fault : HasTextFault next
-  pub led : (t : List ℤ) (x y z : ℤ) (i j k : ℕ) → IsCoordinate x → IsCoordinate y → IsCoordinate z
-      → after (after (after (stage_shown b.stage t) false (Some x) i) false (Some y) j) false (Some z) k
-      ≡ stage_shown next (t ++ x ∷ y ∷ z ∷ [])
 
 -- a point begins, the coordinates of `count` points are to come, and after them this stage
 pub record AwaitsPoints (b : Builder) (count : ℕ) (next : Stage) : Type 0 where

@@ -1,44 +1,41 @@
 use Rattle.qh_read.proofs.numbers.few_digits.Goals as goal
-use Rattle.std.proofs.Common.{arith, ◌≡◌, ◌≤◌, ◌<◌, ◌+◌, ◌-◌, ◌*◌, ◌∙◌, ◌∷◌, ℕ, Bool, List, true, drop, take, length, slice_index_or, ap, add-one, drop-cons}
-use Rattle.std.proofs.{Common.refl, lemmas.Bool.Decides.nat_tests, lemmas.Grind.common_steps, lemmas.List.take_rest}
-use Rattle.std.specs.Char.{is_ascii_digit}
+use Rattle.std.proofs.Common.{arith, ◌≡◌, ◌≤◌, ◌<◌, ◌+◌, ◌-◌, ◌*◌, ◌∙◌, ℕ, Bool, List, true, drop, length, ap, add-one}
+use Rattle.std.proofs.lemmas.Grind.{common_steps}
+use Rattle.std.specs.{Char.is_ascii_digit, Prelude.get_or}
 use Rattle.qh_model.specs.declared.form.Form.{Form}
 use Rattle.qh_read.specs.contract.Holding.{Held, held_by, next_held}
 use Rattle.qh_read.specs.{contract.Progress.Progress, declared.token.TheConstants.MAGNITUDE_CAP, declared.token.Token.TheVariants.Digits, steps.Numbers.quiet}
-use Rattle.qh_read.proofs.{DigitLaws.greatest, DigitLaws.greatest-rises, NumberLaws.end-drop}
+use Rattle.qh_read.proofs.{DigitLaws.greatest, DigitLaws.greatest-rises, CursorLaws.one-byte}
 
 -- one digit more, below the cap
 digit_more : (form : Form) (p : Progress) (line : ℕ) (minus : Bool) (n d : ℕ) → is_ascii_digit d ≡ true
     → 10 * n + (d - 48) ≤ MAGNITUDE_CAP → next_held (quiet form p line (Digits minus n)) d ≡ quiet form p line (Digits minus (10 * n + (d - 48)))
 digit_more form p line minus n d h k = grind (arith, common_steps)
 
+pub overflow_mul-magnitude : goal.overflow_mul-magnitude
+overflow_mul-magnitude c = omega (arith, greatest-rises c.loop-i.i 7 (omega arith))
+
+pub overflow_add-magnitude : goal.overflow_add-magnitude
+overflow_add-magnitude c = omega (arith, greatest-rises c.loop-i.i 7 (omega arith))
+
+pub returns-then-digit-gt9-clause-small : goal.returns-then-digit-gt9-clause-small
+returns-then-digit-gt9-clause-small c = omega (arith, greatest-rises c.loop-i.i 8 (omega arith))
+
 pub loop-i-preserved : goal.loop-i-preserved
 loop-i-preserved c =
     let bytes : List ℕ = c.args.bytes.now in
-    let d : ℕ = slice_index_or bytes c.loop-i.i 0 in
+    let at : ℕ = c.args.at + c.loop-i.i in
     let n : ℕ = c.loop-i.magnitude in
-    let digit : is_ascii_digit d ≡ true = grind (arith, common_steps) in
-    let within : c.loop-i.i < length bytes = omega arith in
-    let cut : drop c.loop-i.i bytes ≡ d ∷ drop (c.loop-i.i + 1) bytes = rw (add-one, drop-cons bytes c.loop-i.i 0 within) refl in
-    let one : d - 48 ≤ 9 = grind (arith, nat_tests) in
-    let bound : 10 * n + (d - 48) ≤ greatest (c.loop-i.i + 1) = rw add-one (omega arith) in
-    let small : 10 * n + (d - 48) ≤ MAGNITUDE_CAP = omega (arith, greatest-rises (c.loop-i.i + 1) 8 (omega arith)) in
+    let digit : ℕ = c.digit_of-digit.result in
+    let h : is_ascii_digit (get_or bytes at 0) ≡ true = c.digit_of-digit.ensures.digit c.if-digit-gt9.false in
+    let value : digit ≡ get_or bytes at 0 - 48 = c.digit_of-digit.ensures.value c.if-digit-gt9.false in
+    let within : at < length bytes = omega arith in
+    let bound : 10 * n + digit ≤ greatest (c.loop-i.i + 1) = rw add-one (omega arith) in
+    let small : 10 * n + (get_or bytes at 0 - 48) ≤ MAGNITUDE_CAP = omega (arith, greatest-rises (c.loop-i.i + 1) 8 (omega arith)) in
     record {
       continued = λ form p line minus. c.loop-i.invariant.continued form p line minus
-          ∙ ap (held_by (quiet form p line (Digits minus n))) cut
-          ∙ ap (λ (h : Held). held_by h (drop (c.loop-i.i + 1) bytes)) (digit_more form p line minus n d digit small);
+          ∙ one-byte (quiet form p line (Digits minus n)) bytes at within
+          ∙ ap (λ (s : Held). held_by s (drop (at + 1) bytes)) (rw value (digit_more form p line minus n (get_or bytes at 0) h small))
+          ∙ ap (λ (i : ℕ). held_by (quiet form p line (Digits minus (10 * n + digit))) (drop i bytes)) (omega arith);
       small = bound;
     }
-
-pub returns-clause-held : goal.returns-clause-held
-returns-clause-held c form p line minus =
-    let eight : c.loop-i.i ≡ 8 = omega arith in
-    let bytes : List ℕ = c.args.bytes.now in
-    let all : drop c.loop-i.i bytes ≡ take (length bytes - 8) (drop 8 bytes) = rw (eight, take_rest) refl in
-    c.loop-i.invariant.continued form p line minus ∙ ap (held_by (quiet form p line (Digits minus c.loop-i.magnitude))) all
-
-pub returns-then-not-is_ascii_digit-clause-end : goal.returns-then-not-is_ascii_digit-clause-end
-returns-then-not-is_ascii_digit-clause-end c = rw take_rest (end-drop c.loop-i.i c.args.bytes.now)
-
-pub returns-clause-end : goal.returns-clause-end
-returns-clause-end c = rw take_rest (end-drop 8 c.args.bytes.now)

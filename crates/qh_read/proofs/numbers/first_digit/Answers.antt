@@ -1,16 +1,60 @@
 use Rattle.qh_read.proofs.numbers.first_digit.Goals as goal
-use Rattle.std.proofs.Common.{◌∷◌, [], ap, subst, List, ℕ}
-use Rattle.qh_read.specs.steps.Numbers.{IsEndOf}
-use Rattle.qh_read.proofs.{NumberLaws.end-end, numbers.first_digit.Goals.then-first-eq43, numbers.first_digit.Goals.else-first-eq43}
+use Rattle.std.proofs.Common.{arith, ◌≡◌, ◌<◌, ◌+◌, ◌-◌, ◌∙◌, ℕ, Bool, List, true, false, cond, drop, length, ap, refl}
+use Rattle.std.proofs.lemmas.Grind.{common_steps}
+use Rattle.std.specs.{Char.is_ascii_digit, Prelude.get_or}
+use Rattle.qh_model.specs.declared.form.Form.{Form, TheVariants.Qhull, TheVariants.Off}
+use Rattle.qh_read.specs.contract.Holding.{Held, held_by, next_held}
+use Rattle.qh_read.specs.{contract.Progress.Progress, steps.Numbers.quiet, steps.Numbers.IsBegun, steps.Signs.is_minus}
+use Rattle.qh_read.specs.declared.token.Token.TheVariants.{Empty, Sign, Digits}
+use Rattle.qh_read.proofs.{CursorLaws.one-byte, numbers.first_digit.Goals.then-bytes-at-eq43, numbers.first_digit.Goals.else-bytes-at-eq43}
 
--- a sign or none, and a digit
-pub returns-clause-end : goal.returns-clause-end
-returns-clause-end c =
+unsigned : (form : Form) (p : Progress) (line d : ℕ) → is_ascii_digit d ≡ true
+    → next_held (quiet form p line Empty) d ≡ quiet form p line (Digits false (d - 48))
+unsigned form p line d h = grind (arith, common_steps)
+
+after_sign : (form : Form) (p : Progress) (line : ℕ) (minus : Bool) (d : ℕ) → is_ascii_digit d ≡ true
+    → next_held (quiet form p line (Sign minus)) d ≡ quiet form p line (Digits minus (d - 48))
+after_sign form p line minus d h = grind (arith, common_steps)
+
+sign : (form : Form) (p : Progress) (line : ℕ) (minus : Bool) → next_held (quiet form p line Empty) (cond minus 45 43) ≡ quiet form p line (Sign minus)
+sign Qhull p line true = refl
+sign Qhull p line false = refl
+sign Off p line true = refl
+sign Off p line false = refl
+
+-- a digit
+one : (bytes : List ℕ) (at start : ℕ) (minus : Bool) (digit : ℕ) → start ≡ at → start < length bytes → minus ≡ false
+    → is_ascii_digit (get_or bytes start 0) ≡ true → digit ≡ get_or bytes start 0 - 48 → IsBegun (drop at bytes) minus digit (drop (start + 1) bytes)
+one bytes at start minus digit e within plus h value form p line =
+    let d : ℕ = get_or bytes start 0 in
+    ap (λ (i : ℕ). held_by (quiet form p line Empty) (drop i bytes)) (omega arith)
+    ∙ one-byte (quiet form p line Empty) bytes start within
+    ∙ ap (λ (s : Held). held_by s (drop (start + 1) bytes)) (rw (plus, value) (unsigned form p line d h))
+
+-- a sign and a digit
+two : (bytes : List ℕ) (at start : ℕ) (minus : Bool) (digit : ℕ) → start ≡ at + 1 → start < length bytes → get_or bytes at 0 ≡ cond minus 45 43
+    → is_ascii_digit (get_or bytes start 0) ≡ true → digit ≡ get_or bytes start 0 - 48 → IsBegun (drop at bytes) minus digit (drop (start + 1) bytes)
+two bytes at start minus digit e within byte h value form p line =
+    let d : ℕ = get_or bytes start 0 in
+    one-byte (quiet form p line Empty) bytes at (omega arith)
+    ∙ ap (λ (s : Held). held_by s (drop (at + 1) bytes)) (ap (next_held (quiet form p line Empty)) byte ∙ sign form p line minus)
+    ∙ ap (λ (i : ℕ). held_by (quiet form p line (Sign minus)) (drop i bytes)) (omega arith)
+    ∙ one-byte (quiet form p line (Sign minus)) bytes start within
+    ∙ ap (λ (s : Held). held_by s (drop (start + 1) bytes)) (rw value (after_sign form p line minus d h))
+
+pub returns-clause-held : goal.returns-clause-held
+returns-clause-held c =
     let bytes : List ℕ = c.args.bytes.now in
-    let rest : List ℕ = c.in_ok-digit.rest.now in
-    let digit : IsEndOf rest c.if-first-eq43.unsigned.now = (c.in_ok-digit.digit.now ∷ [], c.in_ok-digit.ensures.cases.0) in
-    elim c.if-first-eq43.branch [
-      | then-first-eq43 w ↦ end-end rest c.in_ok-first.after.now bytes
-          (subst (IsEndOf rest) (ap (λ b. b.now) w.unsigned-is) digit) (c.in_ok-first.first.now ∷ [], c.in_ok-first.ensures.cases.0)
-      | else-first-eq43 w ↦ subst (IsEndOf rest) (ap (λ b. b.now) w.unsigned-is) digit
+    let start : ℕ = c.if-bytes-at-eq43.start in
+    let minus : Bool = is_minus c.if-minus-2.sign in
+    let digit : ℕ = c.digit_of-digit.result in
+    let h : is_ascii_digit (get_or bytes start 0) ≡ true = c.digit_of-digit.ensures.digit c.if-digit-gt9.false in
+    let value : digit ≡ get_or bytes start 0 - 48 = c.digit_of-digit.ensures.value c.if-digit-gt9.false in
+    elim c.if-bytes-at-eq43.branch [
+      | then-bytes-at-eq43 w ↦
+          let byte : get_or bytes c.args.at 0 ≡ cond minus 45 43 = grind (arith, common_steps) in
+          two bytes c.args.at start minus digit w.start-is (omega arith) byte h value
+      | else-bytes-at-eq43 w ↦
+          let plus : minus ≡ false = grind (arith, common_steps) in
+          one bytes c.args.at start minus digit w.start-is (omega arith) plus h value
     ]

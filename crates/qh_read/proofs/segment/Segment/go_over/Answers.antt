@@ -1,7 +1,7 @@
-use Rattle.std.proofs.Common.{arith, ◌≡◌, ◌-◌, List, ℕ, drop, length, length-drop, sym, subst}
-use Rattle.std.proofs.lemmas.List.{take_rest}
-use Rattle.qh_read.specs.steps.Numbers.{ArePoints, IsEndOf}
-use Rattle.qh_read.proofs.NumberLaws.{end-drop, end-end, end-is}
+use Rattle.std.proofs.Common.{arith, ◌≡◌, ◌∙◌, ◌++◌, [], List, ℕ, drop, ap, sym, subst, length}
+use Rattle.std.proofs.lemmas.Grind.{common_steps}
+use Rattle.qh_model.specs.headline.Vector.{Vector}
+use Rattle.qh_read.specs.steps.Numbers.{ArePoints}
 use Rattle.qh_read.proofs.segment.Segment.go_over.Goals as goal
 
 -- the points of what comes after the first line
@@ -9,15 +9,15 @@ pub returns : goal.returns
 returns c =
     let text : List ℕ = c.args.text.now in
     let head : ℕ = c.after_line-self.result in
-    let found = c.push_points-lines in
-    let rest : List ℕ = found.result.1.now in
-    let end : IsEndOf rest (drop head text) = subst (IsEndOf rest) (take_rest text head) found.ensures.end in
-    let is : drop (length text - length rest) text ≡ rest = end-is rest text (end-end rest (drop head text) text end (end-drop head text)) in
-    let told : ArePoints 0 (drop head text) found.new.points.items found.result.0 rest =
-    subst (λ (u : List ℕ). ArePoints 0 u found.new.points.items found.result.0 rest) (take_rest text head) found.ensures.told in
+    let end = c.push_points-end.result in
+    let pushed = c.push_points-end.ensures.pushed in
+    let none : c.clear.new.self.items ≡ [] = grind (arith, common_steps) in
+    let items : c.push_points-end.new.points.items ≡ pushed.more = pushed.items ∙ ap (λ (ps : List Vector). ps ++ pushed.more) none in
+    let told : ArePoints 0 (drop head text) pushed.more end.line (drop end.at text) =
+    subst (λ (u : List ℕ). ArePoints 0 (drop head text) pushed.more end.line (drop end.at u)) pushed.moved.same pushed.told in
     record {
-      told = subst (ArePoints 0 (drop head text) found.new.points.items found.result.0) (sym is) told;
-      room = omega (arith, found.ensures.room, length-drop head text, c.after_line-self.ensures);
-      lines = omega (arith, found.ensures.lines, length-drop head text, c.after_line-self.ensures);
-      within = omega arith;
+      told = subst (λ (ps : List Vector). ArePoints 0 (drop head text) ps end.line (drop end.at text)) (sym items) told;
+      room = omega (arith, pushed.moved, ap length items);
+      lines = omega (arith, pushed.moved);
+      within = omega (arith, end.within, ap length pushed.moved.same);
     }
