@@ -13,12 +13,11 @@ use Rattle.qh_read.specs.steps.Cursors.{ahead, held_from, IsOn, IsParted, ArePoi
 use Rattle.qh_read.specs.steps.Numbers.{quiet, ArePoints}
 
 -- one byte more
-pub one-byte : (h : Held) (bytes : List ℕ) (i : ℕ) → i < length bytes → held_by h (drop i bytes) ≡ held_by (next_held h (get_or bytes i 0)) (drop (i + 1) bytes)
-one-byte h bytes i k = ap (held_by h) (drop_more bytes i 0 k)
-
--- on, and on from there
-pub on-on : (a b c : Cursor) (m n : ℕ) → IsOn a b m → IsOn b c n → IsOn a c (m + n)
-on-on a b c m n h k = record { same = k.same ∙ h.same; on = omega arith; lines = omega arith }
+pub step : (h k : Held) (bytes : List ℕ) (i j : ℕ) → i < length bytes → j ≡ i + 1 → next_held h (get_or bytes i 0) ≡ k
+    → held_by h (drop i bytes) ≡ held_by k (drop j bytes)
+step h k bytes i j within e next =
+    ap (held_by h) (drop_more bytes i 0 within) ∙ ap (λ (s : Held). held_by s (drop (i + 1) bytes)) next
+    ∙ ap (λ (n : ℕ). held_by k (drop n bytes)) (sym e)
 
 -- what parts words after the points
 pub points-parted : (line : ℕ) (bytes : List ℕ) (points : List Vector) (mid to : Cursor) → ArePoints line bytes points mid.line (ahead mid)

@@ -1,11 +1,11 @@
 use Rattle.qh_read.proofs.numbers.few_digits.Goals as goal
-use Rattle.std.proofs.Common.{arith, ◌≡◌, ◌≤◌, ◌<◌, ◌+◌, ◌-◌, ◌*◌, ◌∙◌, ℕ, Bool, List, true, drop, length, ap, add-one}
+use Rattle.std.proofs.Common.{arith, ◌≡◌, ◌≤◌, ◌<◌, ◌+◌, ◌-◌, ◌*◌, ◌∙◌, ℕ, Bool, List, true, length, add-one}
 use Rattle.std.proofs.lemmas.Grind.{common_steps}
 use Rattle.std.specs.{Char.is_ascii_digit, Prelude.get_or}
 use Rattle.qh_model.specs.declared.form.Form.{Form}
-use Rattle.qh_read.specs.contract.Holding.{Held, held_by, next_held}
+use Rattle.qh_read.specs.contract.Holding.{next_held}
 use Rattle.qh_read.specs.{contract.Progress.Progress, declared.token.TheConstants.MAGNITUDE_CAP, declared.token.Token.TheVariants.Digits, steps.Numbers.quiet}
-use Rattle.qh_read.proofs.{DigitLaws.greatest, DigitLaws.greatest-rises, CursorLaws.one-byte}
+use Rattle.qh_read.proofs.{DigitLaws.greatest, DigitLaws.greatest-rises, CursorLaws.step}
 
 -- one digit more, below the cap
 digit_more : (form : Form) (p : Progress) (line : ℕ) (minus : Bool) (n d : ℕ) → is_ascii_digit d ≡ true
@@ -34,8 +34,7 @@ loop-i-preserved c =
     let small : 10 * n + (get_or bytes at 0 - 48) ≤ MAGNITUDE_CAP = omega (arith, greatest-rises (c.loop-i.i + 1) 8 (omega arith)) in
     record {
       continued = λ form p line minus. c.loop-i.invariant.continued form p line minus
-          ∙ one-byte (quiet form p line (Digits minus n)) bytes at within
-          ∙ ap (λ (s : Held). held_by s (drop (at + 1) bytes)) (rw value (digit_more form p line minus n (get_or bytes at 0) h small))
-          ∙ ap (λ (i : ℕ). held_by (quiet form p line (Digits minus (10 * n + digit))) (drop i bytes)) (omega arith);
+          ∙ step (quiet form p line (Digits minus n)) (quiet form p line (Digits minus (10 * n + digit))) bytes at (c.args.at + (c.loop-i.i + 1))
+          within (omega arith) (rw value (digit_more form p line minus n (get_or bytes at 0) h small));
       small = bound;
     }

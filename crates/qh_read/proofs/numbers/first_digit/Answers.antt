@@ -1,12 +1,12 @@
 use Rattle.qh_read.proofs.numbers.first_digit.Goals as goal
-use Rattle.std.proofs.Common.{arith, ◌≡◌, ◌<◌, ◌+◌, ◌-◌, ◌∙◌, ℕ, Bool, List, true, false, cond, drop, length, ap, refl}
+use Rattle.std.proofs.Common.{arith, ◌≡◌, ◌<◌, ◌+◌, ◌-◌, ◌∙◌, ℕ, Bool, List, true, false, cond, drop, length, ap, subst, refl}
 use Rattle.std.proofs.lemmas.Grind.{common_steps}
 use Rattle.std.specs.{Char.is_ascii_digit, Prelude.get_or}
 use Rattle.qh_model.specs.declared.form.Form.{Form, TheVariants.Qhull, TheVariants.Off}
-use Rattle.qh_read.specs.contract.Holding.{Held, held_by, next_held}
+use Rattle.qh_read.specs.contract.Holding.{next_held}
 use Rattle.qh_read.specs.{contract.Progress.Progress, steps.Numbers.quiet, steps.Numbers.IsBegun, steps.Signs.is_minus}
 use Rattle.qh_read.specs.declared.token.Token.TheVariants.{Empty, Sign, Digits}
-use Rattle.qh_read.proofs.{CursorLaws.one-byte, numbers.first_digit.Goals.then-bytes-at-eq43, numbers.first_digit.Goals.else-bytes-at-eq43}
+use Rattle.qh_read.proofs.{CursorLaws.step, numbers.first_digit.Goals.then-bytes-at-eq43, numbers.first_digit.Goals.else-bytes-at-eq43}
 
 unsigned : (form : Form) (p : Progress) (line d : ℕ) → is_ascii_digit d ≡ true
     → next_held (quiet form p line Empty) d ≡ quiet form p line (Digits false (d - 48))
@@ -23,24 +23,20 @@ sign Off p line true = refl
 sign Off p line false = refl
 
 -- a digit
-one : (bytes : List ℕ) (at start : ℕ) (minus : Bool) (digit : ℕ) → start ≡ at → start < length bytes → minus ≡ false
-    → is_ascii_digit (get_or bytes start 0) ≡ true → digit ≡ get_or bytes start 0 - 48 → IsBegun (drop at bytes) minus digit (drop (start + 1) bytes)
-one bytes at start minus digit e within plus h value form p line =
-    let d : ℕ = get_or bytes start 0 in
-    ap (λ (i : ℕ). held_by (quiet form p line Empty) (drop i bytes)) (omega arith)
-    ∙ one-byte (quiet form p line Empty) bytes start within
-    ∙ ap (λ (s : Held). held_by s (drop (start + 1) bytes)) (rw (plus, value) (unsigned form p line d h))
+one : (bytes : List ℕ) (start : ℕ) (digit : ℕ) → start < length bytes → is_ascii_digit (get_or bytes start 0) ≡ true
+    → digit ≡ get_or bytes start 0 - 48 → IsBegun (drop start bytes) false digit (drop (start + 1) bytes)
+one bytes start digit within h value form p line =
+    step (quiet form p line Empty) (quiet form p line (Digits false digit)) bytes start (start + 1) within refl
+    (rw value (unsigned form p line (get_or bytes start 0) h))
 
 -- a sign and a digit
 two : (bytes : List ℕ) (at start : ℕ) (minus : Bool) (digit : ℕ) → start ≡ at + 1 → start < length bytes → get_or bytes at 0 ≡ cond minus 45 43
     → is_ascii_digit (get_or bytes start 0) ≡ true → digit ≡ get_or bytes start 0 - 48 → IsBegun (drop at bytes) minus digit (drop (start + 1) bytes)
 two bytes at start minus digit e within byte h value form p line =
-    let d : ℕ = get_or bytes start 0 in
-    one-byte (quiet form p line Empty) bytes at (omega arith)
-    ∙ ap (λ (s : Held). held_by s (drop (at + 1) bytes)) (ap (next_held (quiet form p line Empty)) byte ∙ sign form p line minus)
-    ∙ ap (λ (i : ℕ). held_by (quiet form p line (Sign minus)) (drop i bytes)) (omega arith)
-    ∙ one-byte (quiet form p line (Sign minus)) bytes start within
-    ∙ ap (λ (s : Held). held_by s (drop (start + 1) bytes)) (rw value (after_sign form p line minus d h))
+    step (quiet form p line Empty) (quiet form p line (Sign minus)) bytes at start (omega arith) e
+    (ap (next_held (quiet form p line Empty)) byte ∙ sign form p line minus)
+    ∙ step (quiet form p line (Sign minus)) (quiet form p line (Digits minus digit)) bytes start (start + 1) within refl
+    (rw value (after_sign form p line minus (get_or bytes start 0) h))
 
 pub returns-clause-held : goal.returns-clause-held
 returns-clause-held c =
@@ -55,6 +51,7 @@ returns-clause-held c =
           let byte : get_or bytes c.args.at 0 ≡ cond minus 45 43 = grind (arith, common_steps) in
           two bytes c.args.at start minus digit w.start-is (omega arith) byte h value
       | else-bytes-at-eq43 w ↦
-          let plus : minus ≡ false = grind (arith, common_steps) in
-          one bytes c.args.at start minus digit w.start-is (omega arith) plus h value
+          let plus : false ≡ minus = grind (arith, common_steps) in
+          subst (λ (m : Bool). IsBegun (drop c.args.at bytes) m digit (drop (start + 1) bytes)) plus
+          (subst (λ (i : ℕ). IsBegun (drop i bytes) false digit (drop (start + 1) bytes)) w.start-is (one bytes start digit (omega arith) h value))
     ]

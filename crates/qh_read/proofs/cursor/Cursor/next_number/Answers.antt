@@ -1,9 +1,9 @@
 use Rattle.qh_read.proofs.cursor.Cursor.next_number.Goals as goal
 use Rattle.std.proofs.Common.{arith, refl, ap, sym, ◌∙◌, ◌+◌, ◌<◌, ℕ, List, length, drop, Bool, false}
 use Rattle.std.specs.Prelude.{ℤ, Some}
-use Rattle.qh_read.specs.{contract.Holding.Held, contract.Holding.held_by, contract.Progress.after, steps.Numbers.quiet, steps.Signs.is_minus}
+use Rattle.qh_read.specs.{contract.Holding.held_by, contract.Progress.after, steps.Numbers.quiet, steps.Signs.is_minus}
 use Rattle.qh_read.specs.declared.token.Token.TheVariants.{Empty, Digits}
-use Rattle.qh_read.proofs.CursorLaws.{one-byte}
+use Rattle.qh_read.proofs.CursorLaws.{step}
 
 -- a sign and a digit, more digits, and the byte after them, in turn
 pub returns : goal.returns
@@ -20,8 +20,8 @@ returns c =
         base + line,
         c.in_ok-sign.ensures.held form p (base + line)
             ∙ c.few_digits-magnitude.ensures.held form p (base + line) minus
-            ∙ one-byte (quiet form p (base + line) (Digits minus magnitude)) bytes end within
-            ∙ ap (λ (h : Held). held_by h (drop (end + 1) bytes)) (c.in_ok-line.ensures.held form p base minus magnitude)
+            ∙ step (quiet form p (base + line) (Digits minus magnitude)) _ bytes end (end + 1) within refl
+            (c.in_ok-line.ensures.held form p base minus magnitude)
             ∙ ap (λ (z : ℤ). held_by (quiet form (after p false (Some z) (base + line)) (base + later) Empty) (drop (end + 1) bytes))
             (sym c.signed_coordinate.ensures),
       );
