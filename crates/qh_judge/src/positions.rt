@@ -2,7 +2,7 @@
 //!
 //! Nothing is proved of the positions: the caller compares the points.
 use qh_model::{Id, Point};
-use qh_plane::{id_in, place_key};
+use qh_plane::{place_key, place_key_id};
 use std::alloc::{AllocError, Global};
 
 /// Returns the sorted keys of the points of some ids, and of those of a list: each with its position, those of the
@@ -48,7 +48,7 @@ fn positions_in(
     let mut positions = vec![in alloc; 0; list]?;
     let mut position = 0;
     for key in keys {
-        let number = id_in(*key).index();
+        let number = place_key_id(*key).index();
         if number < ids {
             position = number;
         } else if let Some(entry) = positions.get_mut(number - ids) {

@@ -1,15 +1,15 @@
--- The ids that are marked at the first key of each place are the distinct ids, whatever numbers tell the places.
-use Rattle.std.proofs.Common.{◌≡◌, ◌≢◌, ℕ, ◌+◌, ◌*◌, ◌%◌, ◌/◌, ◌<◌, ◌≤◌, List, length, get_or, map, replicate, arith, ap, sym, subst, ◌∙◌, refl, ◌↔◌, ◌⊎◌, inl}
+-- The distinct ids by marks; and what sorted keys of points tell of those that stand before, whatever numbers tell the places.
+use Rattle.std.proofs.Common.{◌≡◌, ℕ, ◌+◌, ◌-◌, ◌*◌, ◌%◌, ◌/◌, ◌<◌, ◌≤◌, List, length, get_or, map, arith, ap, sym, subst, ◌∙◌, refl, ◌↔◌, ◌⊎◌, inl}
 use Rattle.std.proofs.Common.{inr, ⊎_elim, true, false, Bool}
-use Rattle.std.proofs.lemmas.{Bool.cases_lt, Bool.Decides.nat_tests, List.length-replicate, Nat.div-mul-add, Nat.mod-mul-add}
-use Rattle.std.specs.{List.All, List.AllByRecursion as Every, List.Sorted.IsStrictlyIncreasing, List.Sorted.IsNonDecreasing, Prelude.IsPermutation}
-use Rattle.qh_model.proofs.{Members.In-get_or, Members.All-of, Members.every_of, Members.in_at, lists.Images.in_map, lists.Images.of_map}
+use Rattle.std.proofs.lemmas.{Bool.cases_lt, Bool.Decides.nat_tests, Nat.div-add-mod', Nat.div-mul-add, Nat.mod-mul-add}
+use Rattle.std.specs.{List.All, List.Sorted.IsStrictlyIncreasing, List.Sorted.IsNonDecreasing, Prelude.IsPermutation}
+use Rattle.qh_model.proofs.{Members.In-get_or, Members.All-of, Members.in_at}
 use Rattle.qh_model.specs.contract.IdSets.{IsIdSet}
 use Rattle.qh_model.specs.headline.{DistinctIds.IsDistinctId, DistinctIds.AreDistinctIds, Predicates.place, Sets.In, Vector.Vector}
-use Rattle.qh_plane.proofs.KeyOrder.{IsKeyIn, TellIds, key_told, key_listed, keys_rise}
-use Rattle.qh_plane.proofs.MarkedIds.{IsMarked, in_marked_ids, of_marked_ids, marked_ids-rise, marked_only, marked_has, blank}
-use Rattle.qh_plane.proofs.PlaceStarts.{Start, IsBefore, starts_only, starts_all}
-use Rattle.qh_plane.specs.steps.{Marks.place_starts, Marks.marked, Marks.marked_ids, PlaceKeys.AllIds, SortedPoints.AllDiffer}
+use Rattle.qh_plane.proofs.KeyOrder.{IsKeyIn, TellIds, code_le, key_told, key_listed, keys_rise}
+use Rattle.qh_plane.proofs.MarkedIds.{IsMarked, in_marked_ids, of_marked_ids, marked_ids-rise}
+use Rattle.qh_plane.specs.steps.{Marks.marked_ids, PlaceKeys.AllIds, PlaceKeys.ArePlaceRepeats, Repeats.IsRepeatedId, Repeats.AreAllRepeats}
+use Rattle.qh_plane.specs.steps.SortedPoints.{AllDiffer}
 
 -- the ids below a count rise
 pub rises_each : (n : ℕ) (all : List ℕ) → AllIds n all → IsStrictlyIncreasing all
@@ -57,6 +57,13 @@ pub record AreSortedKeys (pts : List Vector) (room : ℕ) (code : ℕ → ℕ) (
   pub rising : IsNonDecreasing keys
   pub small : (i : ℕ) → i < length pts → i < room
   pub equal : (i j : ℕ) → place pts i ≡ place pts j → code i ≡ code j
+
+-- of two keys of one place, the lower one has the lower id
+id_up : (room x y : ℕ) → x / room ≡ y / room → x ≤ y → x % room ≤ y % room
+id_up room x y e h = let a = div-add-mod' x room in let b = div-add-mod' y room in let q = ap (λ v. v * room) e in omega (arith, a, b, q, h)
+
+id_less : (room x y : ℕ) → x / room ≡ y / room → x < y → x % room < y % room
+id_less room x y e h = let a = div-add-mod' x room in let b = div-add-mod' y room in let q = ap (λ v. v * room) e in omega (arith, a, b, q, h)
 
 -- the key of id i stands at n, and tells the id and its place
 pub record StandsAt (room : ℕ) (code : ℕ → ℕ) (keys : List ℕ) (i n : ℕ) : Type 0 where
@@ -113,80 +120,75 @@ module _ (pts : List Vector) (room : ℕ) (code : ℕ → ℕ) (keys : List ℕ)
         record { within = r.1; place_told = ap (λ v. v / room) r.2 ∙ code_in_key i h; id_told = ap (λ v. v % room) r.2 ∙ id_in_key i h },
       )
 
-  -- ---- the first of each place, where the ids are all
-  module _ (every : (i : ℕ) → i < length pts → In i k.ids) (none : ℕ) (other : (i : ℕ) → i < length pts → code i ≢ none)
-      (apart : (i j : ℕ) → i < j → j < length pts → code i ≡ code j → place pts i ≡ place pts j) where
-    -- no key has the number of no place
-    fresh : IsBefore room none keys
-    fresh = inr (λ x m e. other (x % room) (index_in x m) (sym (code_told x m) ∙ e))
+  -- of two ids with one number, the key of the lower one stands before
+  pub stands_before : (i j p q : ℕ) → i < j → code i ≡ code j → StandsAt room code keys i p → StandsAt room code keys j q → p < q
+  stands_before i j p q l e s t = ⊎_elim (λ h. h) (λ h. absurd (back (id_up room (get_or keys q 0) (get_or keys p 0)
+      (t.place_told ∙ sym e ∙ sym s.place_told) (k.rising q p 0 h s.within)))) (cases_lt p q)
+    where
+      back : get_or keys q 0 % room ≤ get_or keys p 0 % room → ⊥
+      back h = let a = s.id_told in let b = t.id_told in omega (arith, l, h, a, b)
 
-    -- an id at the start of a place is a distinct id
-    first_from : (i : ℕ) → In i (map (λ x. x % room) (place_starts room none keys)) → IsDistinctId pts i
-    first_from i m = (lt, alone)
+  -- ---- the ids that stand before, where the keys are those of all ids
+  module _ (every : (i : ℕ) → i < length pts → In i k.ids) (apart : (i j : ℕ) → i < j → j < length pts → code i ≡ code j → place pts i ≡ place pts j)
+      (ids : List ℕ) (told : ArePlaceRepeats room keys (length keys) ids) where
+    -- the key of an id with a lower one of its place has the place of the key before
+    repeats : (i : ℕ) → IsRepeatedId pts i → In i ids
+    repeats i r = subst (λ v. In v ids) q.1.id_told (from_last (q.0 - 1) (omega (arith, before)))
       where
-        r : (x : ℕ) × In x (place_starts room none keys) × (i ≡ x % room)
-        r = of_map (λ x. x % room) (place_starts room none keys) i m
+        codes : code r.1 ≡ code i
+        codes = k.equal r.1 i r.3
 
-        s : Start room none keys r.0
-        s = starts_only room none keys r.0 up fresh r.1
+        p : (n : ℕ) × StandsAt room code keys r.1 n
+        p = position r.1 (every r.1 (let h = r.2 in let l = r.0 in omega (arith, h, l)))
 
-        is : r.0 ≡ key_by room code i
-        is = (told r.0 s.has).is ∙ ap (key_by room code) (sym r.2)
+        q : (n : ℕ) × StandsAt room code keys i n
+        q = position i (every i r.0)
 
-        lt : i < length pts
-        lt = subst (λ v. v < length pts) (sym r.2) (index_in r.0 s.has)
+        before : p.0 < q.0
+        before = stands_before r.1 i p.0 q.0 r.2 codes p.1 q.1
 
-        alone : (j : ℕ) → j < i → place pts j ≢ place pts i
-        alone j h e = late (omega (arith, subst (λ v. code i * room + i ≤ v * room + j) codes (subst (λ v. v ≤ key_by room code j) is first))) h
+        squeeze : (a b c : ℕ) → a ≤ b → b ≤ c → a ≡ c → b ≡ c
+        squeeze a b c g h e = omega (arith, g, h, e)
+
+        from_last : (n : ℕ) → n + 1 ≡ q.0 → In (get_or keys q.0 0 % room) ids
+        from_last n e = subst (λ m. In (get_or keys m 0 % room) ids) e (told.has n within within (subst (λ m. get_or keys n 0 / room ≡ get_or keys m 0 / room)
+            (sym e) (squeeze _ _ _ (code_le room _ _ (k.rising p.0 n 0 (omega (arith, before, e)) (omega (arith, within))))
+            (code_le room _ _ (k.rising n q.0 0 (omega (arith, e)) q.1.within)) (p.1.place_told ∙ codes ∙ sym q.1.place_told))))
           where
-            jt : j < length pts
-            jt = omega (arith, h, lt)
+            within : n + 1 < length keys
+            within = subst (λ m. m < length keys) (sym e) q.1.within
 
-            codes : code j ≡ code i
-            codes = k.equal j i e
-
-            first : r.0 ≤ key_by room code j
-            first = s.least (key_by room code j) (listed j (every j jt)) (code_in_key j jt ∙ codes ∙ sym (ap (λ v. v / room) is ∙ code_in_key i lt))
-
-            late : i ≤ j → j < i → ⊥
-            late p q = omega (arith, p, q)
-
-    -- a distinct id stands at the start of its place
-    from_first : (i : ℕ) → IsDistinctId pts i → In i (map (λ x. x % room) (place_starts room none keys))
-    from_first i f =
-        subst (λ v. In v (map (λ x. x % room) (place_starts room none keys))) (id_in_key i f.0)
-        (in_map (λ x. x % room) (place_starts room none keys) (key_by room code i) (starts_all room none keys (key_by room code i) up
-        (record { has = listed i (every i f.0); new = λ e. other i f.0 (sym (code_in_key i f.0) ∙ e); least = least })))
+    -- and a key that has it has such an id
+    repeated : (i : ℕ) → In i ids → IsRepeatedId pts i
+    repeated i m = subst (IsRepeatedId pts) (sym r.3) (inside, low, less, apart low high less inside codes)
       where
-        least : (y : ℕ) → In y keys → y / room ≡ key_by room code i / room → key_by room code i ≤ y
-        least y m e = ⊎_elim (λ h. absurd (f.1 (y % room) h (apart (y % room) i h f.0 codes)))
-            (λ h. subst (λ v. key_by room code i ≤ v) (sym ((told y m).is ∙ ap (λ v. v * room + y % room) codes)) (omega arith)) (cases_lt (y % room) i)
-          where
-            codes : code (y % room) ≡ code i
-            codes = sym (code_told y m) ∙ e ∙ code_in_key i f.0
+        r : (n : ℕ) × (n + 1 < length keys) × (get_or keys n 0 / room ≡ get_or keys (n + 1) 0 / room) × (i ≡ get_or keys (n + 1) 0 % room)
+        r = told.only i m
 
-    -- the ids at the starts are indices of the marks
-    within : Every (λ x. x % room < length (replicate (length pts) false)) (place_starts room none keys)
-    within =
-        every_of (λ x. x % room < length (replicate (length pts) false)) (place_starts room none keys) (λ x m.
-        subst (λ v. x % room < v) (sym (length-replicate (length pts) false)) (index_in x (starts_only room none keys x up fresh m).has))
+        here : In (get_or keys r.0 0) keys
+        here = In-get_or keys r.0 0 (let h = r.1 in omega (arith, h))
 
-    -- the ids that are marked at the starts are the distinct ids
-    pub distinct_ids : AreDistinctIds pts (marked_ids 0 (marked room (replicate (length pts) false) (place_starts room none keys)))
-    distinct_ids = marked_distinct pts marks (λ i. (only i, has i))
-      where
-        marks : List Bool
-        marks = marked room (replicate (length pts) false) (place_starts room none keys)
+        next : In (get_or keys (r.0 + 1) 0) keys
+        next = In-get_or keys (r.0 + 1) 0 r.1
 
-        has : (i : ℕ) → IsDistinctId pts i → get_or marks i false ≡ true
-        has i f = marked_has room (replicate (length pts) false) (place_starts room none keys) i within (inr (from_first i f))
+        low : ℕ
+        low = get_or keys r.0 0 % room
 
-        only : (i : ℕ) → get_or marks i false ≡ true → IsDistinctId pts i
-        only i e =
-            first_from i (⊎_elim (λ e. absurd (clash e)) (λ m. m) (marked_only room (replicate (length pts) false) (place_starts room none keys) i e))
-          where
-            clash : get_or (replicate (length pts) false) i false ≡ true → ⊥
-            clash e = let n = blank (length pts) i in cc
+        high : ℕ
+        high = get_or keys (r.0 + 1) 0 % room
+
+        inside : high < length pts
+        inside = index_in (get_or keys (r.0 + 1) 0) next
+
+        codes : code low ≡ code high
+        codes = sym (code_told (get_or keys r.0 0) here) ∙ r.2 ∙ code_told (get_or keys (r.0 + 1) 0) next
+
+        less : low < high
+        less = id_less room (get_or keys r.0 0) (get_or keys (r.0 + 1) 0) r.2 (up r.0 r.1)
+
+    -- so these are the ids of the points that stand before
+    pub all_repeats : AreAllRepeats pts ids
+    all_repeats = record { has = λ i _ r. repeats i r; only = repeated }
 
 -- the distinct ids are rising ids of distinct points
 pub id_set : (pts : List Vector) (ids : List ℕ) → AreDistinctIds pts ids → IsIdSet pts ids

@@ -1,7 +1,7 @@
 pub mod KeyOrder
 pub mod PlaceOrder
 pub mod MarkedIds
-pub mod PlaceStarts
+pub mod RepeatedPlaces
 pub mod SortedPoints
 pub mod DistinctLists
 pub mod KeysBelow

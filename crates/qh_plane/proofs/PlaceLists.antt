@@ -1,21 +1,17 @@
--- The distinct ids by each of the two keys: by the number of the place, and by a hash of it.
-use Rattle.std.proofs.Common.{⊎_elim, ◌≡◌, ◌≢◌, ℕ, ◌+◌, ◌-◌, ◌%◌, ◌/◌, ◌<◌, ◌≤◌, ◌⊎◌, inl, inr, List, length, get_or, replicate, false, arith, ap, sym, subst}
+-- The ids of points that stand before by each of the two keys: by the number of the place, and by a hash of it.
+use Rattle.std.proofs.Common.{◌≡◌, ℕ, ◌+◌, ◌-◌, ◌%◌, ◌/◌, ◌<◌, ◌≤◌, ◌⊎◌, inl, inr, List, length, get_or, arith, ap, sym, subst}
 use Rattle.std.proofs.{Common.◌∙◌, Common.IsPermutation, lemmas.Bool.cases_lt}
 use Rattle.std.specs.List.{All, Sorted.IsNonDecreasing}
 use Rattle.qh_model.proofs.Members.{All-In, In-get_or}
-use Rattle.qh_model.specs.{contract.Places.IsPlace, declared.limits.TheConstants.POINT_LIMIT}
-use Rattle.qh_model.specs.headline.{DistinctIds.AreDistinctIds, Predicates.place, Sets.In, Vector.Vector}
-use Rattle.qh_plane.proofs.DistinctLists.{AreSortedKeys, StandsAt, all_in, in_all, rises_each, all_within, index_in, up, position, distinct_ids}
-use Rattle.qh_plane.proofs.PlaceOrder.{place_code-same, biased_small}
-use Rattle.qh_plane.specs.declared.{distinct_points.TheConstants.NO_PLACE, hashed_keys.TheConstants.ID_ROOM, place_keys.TheConstants.ROOM}
+use Rattle.qh_model.specs.declared.limits.TheConstants.{POINT_LIMIT}
+use Rattle.qh_model.specs.headline.{Predicates.place, Sets.In, Vector.Vector}
+use Rattle.qh_plane.proofs.DistinctLists.{AreSortedKeys, StandsAt, all_in, in_all, rises_each, all_within, index_in, up, position, stands_before, all_repeats}
+use Rattle.qh_plane.proofs.PlaceOrder.{place_code-same}
+use Rattle.qh_plane.specs.declared.{hashed_keys.TheConstants.ID_ROOM, place_keys.TheConstants.ROOM}
 use Rattle.qh_plane.specs.steps.HashedKeys.{place_hash, hash_at, Hashes, WithHashes, AreKeysBelow, AreHashedKeys, IsRepeat, RepeatsTold}
-use Rattle.qh_plane.specs.steps.Marks.{place_starts, marked, marked_ids}
 use Rattle.qh_plane.specs.contract.PlaceNumbers.{place_code, place_key}
-use Rattle.qh_plane.specs.steps.{PlaceKeys.HasKey, PlaceKeys.ArePlaceKeys, Repeats.IsRepeatedId, Repeats.AreRepeats}
-
--- no number has the number of none
-below_none : {c n : ℕ} → c < n → c ≢ n
-below_none {c} {n} h e = omega (arith, h, e)
+use Rattle.qh_plane.specs.steps.PlaceKeys.{HasKey, ArePlaceKeys, ArePlaceRepeats}
+use Rattle.qh_plane.specs.steps.Repeats.{IsRepeatedId, AreRepeats, AreAllRepeats}
 
 -- ---- by the number of the place
 module _ (pts : List Vector) (keys : List ℕ) (k : ArePlaceKeys pts keys) (rising : IsNonDecreasing keys) where
@@ -37,26 +33,12 @@ module _ (pts : List Vector) (keys : List ℕ) (k : ArePlaceKeys pts keys) (risi
     equal = λ i j e. ap place_code e;
   }
 
-  other : (i : ℕ) → i < length pts → code i ≢ NO_PLACE
-  unfolding place_code
-  other i h = below_none (omega (arith, biased_small p.x in_place.x, biased_small p.y in_place.y, biased_small p.z in_place.z))
-    where
-      p : Vector
-      p = place pts i
-
-      in_place : IsPlace p
-      in_place = (known_at i h).place_in
-
-  -- the ids in the keys are indices
-  pub places_within : All (λ x. x % ROOM < length pts) keys
-  places_within = all_within pts ROOM code keys sorted
-
-  -- the marked ids are the distinct ones
-  pub distinct_places : AreDistinctIds pts (marked_ids 0 (marked ROOM (replicate (length pts) false) (place_starts ROOM NO_PLACE keys)))
+  -- the ids of the keys that have the place of the key before are those of the points that stand before
+  pub place_repeats : (ids : List ℕ) → ArePlaceRepeats ROOM keys (length keys) ids → AreAllRepeats pts ids
   unfolding sorted
-  distinct_places =
-      distinct_ids pts ROOM code keys sorted (all_in (length pts) k.ids k.all) NO_PLACE other
-      (λ i j l h e. place_code-same _ _ (known_at i (omega (arith, l, h))).place_in (known_at j h).place_in e)
+  place_repeats ids told =
+      all_repeats pts ROOM code keys sorted (all_in (length pts) k.ids k.all)
+      (λ i j l h e. place_code-same _ _ (known_at i (omega (arith, l, h))).place_in (known_at j h).place_in e) ids told
 
 -- ---- by a hash of the place
 module _ (pts : List Vector) (some : Hashes) (keys : List ℕ) (few : length pts ≤ POINT_LIMIT) (k : AreHashedKeys pts some keys)
@@ -86,14 +68,6 @@ module _ (pts : List Vector) (some : Hashes) (keys : List ℕ) (few : length pts
   abbrev key : ℕ → ℕ
   key n = get_or keys n 0
 
-  -- of two ids with one hash, the key of the lower one stands before
-  stands_before : (i j p q : ℕ) → i < j → hash i ≡ hash j → StandsAt ID_ROOM hash keys i p → StandsAt ID_ROOM hash keys j q → p < q
-  stands_before i j p q l e s t =
-      ⊎_elim (λ h. h) (λ h. absurd (back (key p) (key q) s.place_told t.place_told s.id_told t.id_told (rising q p 0 h s.within))) (cases_lt p q)
-    where
-      back : (x y : ℕ) → x / ID_ROOM ≡ hash i → y / ID_ROOM ≡ hash j → x % ID_ROOM ≡ i → y % ID_ROOM ≡ j → y ≤ x → ⊥
-      back x y a b c d h = omega (arith, l, e, a, b, c, d, h)
-
   module _ (ids : List ℕ) (told : RepeatsTold pts keys (length keys) ids) where
     -- the key of an id with a lower one of its place repeats the key before
     repeats : (i : ℕ) → some (hash i) → IsRepeatedId pts i → In i ids
@@ -122,7 +96,7 @@ module _ (pts : List Vector) (some : Hashes) (keys : List ℕ) (few : length pts
         same = p.1.place_told ∙ same_hash ∙ sym q.1.place_told
 
         before : p.0 < q.0
-        before = stands_before j i p.0 q.0 lower same_hash p.1 q.1
+        before = stands_before pts ID_ROOM hash keys hashed j i p.0 q.0 lower same_hash p.1 q.1
 
         third : (t : ℕ) → p.0 ≤ t → t + 2 < length keys → key p.0 / ID_ROOM ≡ key (t + 2) / ID_ROOM → In (key (t + 2) % ID_ROOM) ids
         third t g w s =

@@ -8,7 +8,7 @@ ghost use Rattle.std.specs.Prelude.{◌≡◌, ◌≤◌, ◌<◌, ◌↔◌, If
 ghost use Rattle.qh_model.specs.headline.DistinctIds.{AreDistinctIds};
 ghost use Rattle.qh_plane.specs.steps.CloseBoxes.{slot_of};
 
-use crate::finders::FoundIds;
+use crate::found_ids::FoundIds;
 use crate::place_keys::biased;
 use qh_model::{Id, POINT_LIMIT, Point};
 use qh_pred::in_line;

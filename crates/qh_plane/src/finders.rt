@@ -5,15 +5,13 @@ ghost use Rattle.qh_model.specs.headline.DistinctIds.{AreDistinctIds};
 ghost use Rattle.qh_plane.specs.steps.Repeats.{AreAllRepeats};
 
 use crate::close_points::{CloseBox, SHARED_SLOTS};
+use crate::found_ids::FoundIds;
 use crate::hash_parts::repeats_by_hash;
 use crate::repeats::{repeats_by_sort, repeats_of_all};
 use crate::slot_ranges::distinct_by_ranges;
-use qh_model::{Id, POINT_LIMIT, Point};
-use std::alloc::{AllocError, Global};
+use qh_model::{POINT_LIMIT, Point};
+use std::alloc::Global;
 use std::thread::Threads;
-
-/// The ids that a search found, or `None` where it does not tell them.
-pub type FoundIds = Result<Option<Vec<Id>>, AllocError>;
 
 /// The least number of points that keeps a thread busy.
 ///

@@ -5,7 +5,7 @@ ghost use Rattle.std.specs.Thread.{IsSync};
 ghost use Rattle.qh_model.specs.headline.Vector.{Vector};
 ghost use Rattle.qh_plane.specs.steps.Repeats.{Ids, AreRepeats, PartsBelow};
 
-use crate::finders::FoundIds;
+use crate::found_ids::FoundIds;
 use qh_model::{Id, POINT_LIMIT, Point};
 use std::alloc::{AllocError, Global};
 use std::thread::{self, Threads};

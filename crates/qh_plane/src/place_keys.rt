@@ -12,7 +12,7 @@ use qh_model::{COORDINATE_LIMIT, Id, Point};
 use qh_pred::point_at;
 use std::alloc::{AllocError, Global};
 
-/// The room of a coordinate and of an id in a key: 2^32.
+/// The room of a coordinate and of an id in a key of [`place_key`]: 2^32. Each is below it.
 pub const ROOM: u128 = 4294967296;
 
 /// Returns a coordinate, biased above 0.
@@ -53,7 +53,7 @@ pub(crate) fn place_in(key: u128) -> u128
 }
 
 /// Returns the id in a key of [`place_key`].
-pub fn id_in(key: u128) -> Id
+pub fn place_key_id(key: u128) -> Id
     ensures { result ≡ key % ROOM }
 {
     Id::new((key % ROOM) as u32)

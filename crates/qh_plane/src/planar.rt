@@ -13,7 +13,7 @@ ghost use Rattle.qh_plane.specs.steps.InnerPlaces.{IsFlatSet};
 
 use crate::chains::{chain, turns_left};
 use crate::inner_places::outer_ids;
-use crate::place_keys::{id_in, place_keys};
+use crate::place_keys::{place_key_id, place_keys};
 use qh_model::{Id, Memory, Point, Polygon};
 use qh_pred::Normal;
 use std::alloc::{AllocError, Global};
@@ -30,7 +30,7 @@ fn by_place(alloc: Global, pts: &[Point], ids: &[Id]) -> Result<Vec<Id>, AllocEr
     let mut sorted = Vec::with_capacity(alloc, ids.len())?;
     let ordered: &[u128] = &keys;
     for key in ordered {
-        sorted.push(id_in(*key))?;
+        sorted.push(place_key_id(*key))?;
     }
     Ok(sorted)
 }

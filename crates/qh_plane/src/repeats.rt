@@ -5,7 +5,7 @@ ghost use Rattle.std.specs.List.Sorted.{IsNonDecreasing};
 ghost use Rattle.qh_plane.specs.steps.HashedKeys.{PartHashes, WithHashes, AreHashedKeys, RepeatsTold};
 ghost use Rattle.qh_plane.specs.steps.Repeats.{AreRepeats, AreAllRepeats};
 
-use crate::finders::FoundIds;
+use crate::found_ids::FoundIds;
 use crate::hash_parts::Part;
 use crate::hashed_keys::{ID_ROOM, hash_in, hashed_keys, id_in, is_repeat};
 use crate::shared_slots::{keys_in_slots, shared_slots};

@@ -7,7 +7,7 @@ ghost use Rattle.qh_plane.specs.steps.Repeats.{AreRepeats};
 
 use crate::close_points::{CloseBox, NO_ID, same_point};
 use crate::distinct_points::distinct_without;
-use crate::finders::FoundIds;
+use crate::found_ids::FoundIds;
 use crate::parts::{Parts, repeats_in_parts};
 use qh_model::{Id, POINT_LIMIT, Point};
 use std::alloc::Global;

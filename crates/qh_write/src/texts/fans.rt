@@ -1,20 +1,15 @@
-//! The text of `offt`: that of `off`, with fans of triangles in place of the faces.
+//! Fans of triangles in place of the faces.
 ghost use Rattle.std.specs.Prelude.{◌≡◌, ◌++◌, ◌<◌, OnOk, IfOk, All, length, decimal};
 ghost use Rattle.std.specs.List.{flat_map};
 ghost use Rattle.qh_model.specs.headline.Fan.{fan, fans, edge_count};
-ghost use Rattle.qh_model.specs.headline.Text.{line, spaced, off_text, in_triangles};
-ghost use Rattle.qh_model.specs.contract.IdSets.{AreIndices};
-ghost use Rattle.qh_write.specs.contract.Pieces.{bytes_in};
+ghost use Rattle.qh_model.specs.headline.Text.{line, spaced};
 ghost use Rattle.qh_write.specs.steps.Numberings.{HasNumber, AreNumbered, face_by_numbers};
 
 use super::edges::fan_edges;
-use super::forms::Form;
 use super::lines::{push_line_end, push_number, push_spaced};
 use super::numbering::VertexNumbers;
-use super::off::{push_face, push_numbered};
-use super::scribes::{Scribe, Vertices};
-use crate::pieces::Pieces;
-use qh_model::{Body, Id, Point, Polygon};
+use super::off::push_face;
+use qh_model::{Body, Id, Polygon};
 use std::alloc::{AllocError, Global};
 
 /// Appends a face as a fan of triangles, or as it is where it has fewer than three corners.
@@ -69,7 +64,7 @@ fn fan_faces(faces: &[Polygon]) -> Result<usize, AllocError>
 }
 
 /// Appends the numbers of vertices, of triangles and of their edges.
-fn push_fan_counts(text: &mut Vec<u8>, alloc: Global, body: &Body) -> Result<(), AllocError>
+pub fn push_fan_counts(text: &mut Vec<u8>, alloc: Global, body: &Body) -> Result<(), AllocError>
     ensures { OnOk result (text.new.items ≡ text.old.items ++ line (decimal (length body.now.extremes)
         ++ spaced (length (fans body.now.polygons)) ++ spaced (edge_count (fans body.now.polygons)))) }
 {
@@ -79,23 +74,4 @@ fn push_fan_counts(text: &mut Vec<u8>, alloc: Global, body: &Body) -> Result<(),
     push_spaced(text, faces as u64)?;
     push_spaced(text, edges as u64)?;
     push_line_end(text)
-}
-
-/// Appends the text of `offt`.
-pub fn push_off_triangles<S: Scribe>(
-    scribe: &S,
-    text: &mut Pieces,
-    alloc: Global,
-    body: &Body,
-    pts: &[Point],
-) -> Result<(), AllocError>
-    requires indices { AreIndices pts.now body.now.extremes }
-    requires ready { S.ready scribe.now }
-    ensures { OnOk result (bytes_in text.new ≡ bytes_in text.old ++ off_text (in_triangles body.now) pts.now) }
-{
-    text.last.extend_from_slice(b"OFF\n")?;
-    push_fan_counts(&mut text.last, alloc, body)?;
-    let ids = &body.extremes;
-    scribe.push_vertices(text, alloc, Vertices { pts, ids })?;
-    push_numbered(scribe, text, alloc, Form::Fans, body, pts.len())
 }

@@ -1,15 +1,16 @@
 //! The forms in which faces are shown: each as a whole, or as a fan of triangles.
-ghost use Rattle.std.specs.Prelude.{◌≡◌, ◌++◌, OnOk, All};
+ghost use Rattle.std.specs.Prelude.{◌≡◌, ◌++◌, OnOk, All, length, decimal};
 ghost use Rattle.std.specs.List.{flat_map};
-ghost use Rattle.qh_write.specs.steps.Forms.{shown};
+ghost use Rattle.qh_model.specs.headline.Text.{line, spaced};
+ghost use Rattle.qh_write.specs.steps.Forms.{shown, edges_shown};
 ghost use Rattle.qh_write.specs.steps.Numberings.{AreNumbered, face_by_numbers};
 
-use super::fans::push_fans;
+use super::fans::{push_fan_counts, push_fans};
 use super::numbering::VertexNumbers;
-use super::off::push_faces;
+use super::off::{push_counts, push_faces};
 use super::room::{faces_room, fans_room};
-use qh_model::Polygon;
-use std::alloc::AllocError;
+use qh_model::{Body, Polygon};
+use std::alloc::{AllocError, Global};
 
 /// A form of faces.
 #[derive(Clone, Copy, Debug, PartialEq, Eq)]
@@ -34,6 +35,22 @@ impl Form {
         match self {
             Form::Whole => push_faces(text, numbers, faces),
             Form::Fans => push_fans(text, numbers, faces),
+        }
+    }
+
+    /// Appends the numbers of vertices, of faces in this form, and of their edges.
+    pub fn push_counts(
+        self,
+        text: &mut Vec<u8>,
+        alloc: Global,
+        body: &Body,
+    ) -> Result<(), AllocError>
+        ensures { OnOk result (text.new.items ≡ text.old.items ++ line (decimal (length body.now.extremes)
+            ++ spaced (length (shown self body.now.polygons)) ++ spaced (edges_shown self body.now))) }
+    {
+        match self {
+            Form::Whole => push_counts(text, body),
+            Form::Fans => push_fan_counts(text, alloc, body),
         }
     }
 

@@ -1,10 +1,10 @@
-//! The texts of `Fx` and `off`.
+//! The text of `Fx`, and that of an OFF file.
 ghost use Rattle.std.specs.Prelude.{◌≡◌, ◌++◌, ◌∷◌, ◌<◌, OnOk, All, length, slice_index, decimal, codes};
 ghost use Rattle.std.specs.List.{flat_map};
 ghost use Rattle.qh_model.specs.headline.Text.{line, spaced, extremes_text, vertex_text, face_text, off_text};
 ghost use Rattle.qh_model.specs.contract.Bodies.{IsBodyInOrder};
 ghost use Rattle.qh_model.specs.headline.Predicates.{place};
-ghost use Rattle.qh_write.specs.steps.Forms.{shown};
+ghost use Rattle.qh_write.specs.steps.Forms.{shown, edges_shown, body_shown};
 ghost use Rattle.qh_write.specs.steps.Numberings.{AreNumbered, face_by_numbers, number_in};
 ghost use Rattle.qh_model.specs.contract.IdSets.{AreIndices};
 ghost use Rattle.qh_write.specs.contract.Pieces.{bytes_in};
@@ -130,7 +130,8 @@ pub fn push_numbered<S: Scribe>(
     Ok(())
 }
 
-fn push_counts(text: &mut Vec<u8>, body: &Body) -> Result<(), AllocError>
+/// Appends the numbers of vertices, faces and edges.
+pub fn push_counts(text: &mut Vec<u8>, body: &Body) -> Result<(), AllocError>
     ensures { OnOk result (text.new.items ≡ text.old.items ++ line (decimal (length body.now.extremes)
         ++ spaced (length body.now.polygons) ++ spaced body.now.edges)) }
 {
@@ -141,28 +142,29 @@ fn push_counts(text: &mut Vec<u8>, body: &Body) -> Result<(), AllocError>
 }
 
 /// Appends the lines before the vertices.
-fn push_head(text: &mut Vec<u8>, body: &Body) -> Result<(), AllocError>
+fn push_head(text: &mut Vec<u8>, alloc: Global, form: Form, body: &Body) -> Result<(), AllocError>
     ensures { OnOk result (text.new.items ≡ text.old.items ++ codes "OFF\n" ++ line (decimal (length body.now.extremes)
-        ++ spaced (length body.now.polygons) ++ spaced body.now.edges)) }
+        ++ spaced (length (shown form body.now.polygons)) ++ spaced (edges_shown form body.now))) }
 {
     text.extend_from_slice(b"OFF\n")?;
-    push_counts(text, body)
+    form.push_counts(text, alloc, body)
 }
 
-/// Appends the text of `off`.
+/// Appends the OFF text of a hull, with its faces in a form.
 pub fn push_off<S: Scribe>(
     scribe: &S,
     text: &mut Pieces,
     alloc: Global,
+    form: Form,
     body: &Body,
     pts: &[Point],
 ) -> Result<(), AllocError>
     requires indices { AreIndices pts.now body.now.extremes }
     requires ready { S.ready scribe.now }
-    ensures { OnOk result (bytes_in text.new ≡ bytes_in text.old ++ off_text body.now pts.now) }
+    ensures { OnOk result (bytes_in text.new ≡ bytes_in text.old ++ off_text (body_shown form body.now) pts.now) }
 {
-    push_head(&mut text.last, body)?;
+    push_head(&mut text.last, alloc, form, body)?;
     let ids = &body.extremes;
     scribe.push_vertices(text, alloc, Vertices { pts, ids })?;
-    push_numbered(scribe, text, alloc, Form::Whole, body, pts.len())
+    push_numbered(scribe, text, alloc, form, body, pts.len())
 }

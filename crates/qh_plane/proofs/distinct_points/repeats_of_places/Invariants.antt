@@ -1,0 +1,7 @@
+use Rattle.std.proofs.Common.{◌≤◌}
+use Rattle.qh_plane.specs.{declared.place_keys.TheConstants.ROOM, steps.PlaceKeys.ArePlaceRepeats}
+use Rattle.qh_plane.proofs.distinct_points.repeats_of_places.Given as goal
+
+-- the keys before j are told
+abbrev pub invariant-loop-j : goal.invariant-loop-j
+invariant-loop-j l = (1 ≤ l.j) × ArePlaceRepeats ROOM l.keys l.j l.repeats.items
