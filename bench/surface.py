@@ -1,10 +1,10 @@
 #!/usr/bin/env python3
-"""Times the surface alone: the CPU time within `solid_mesh`, of a million points of a sphere in one block.
+"""Times the surface alone: the CPU time within `surface_from`, of a million points of a sphere in one block.
 
     apt-get install gdb binutils
     bench/surface.py PROGRAM PROGRAM-BEFORE --rounds 10
 
-The programs take turns. Each runs under gdb, which stops where `solid_mesh` is entered and left and reads the time on the
+The programs take turns. Each runs under gdb, which stops where `surface_from` is entered and left and reads the time on the
 processor from the system; the calls for samples count too. By hand: no gate asks for it.
 """
 import argparse
@@ -46,7 +46,7 @@ print("surface %.3f" % total)
 def surface(program, path, folder):
     """The CPU seconds of one run."""
     names = subprocess.run(["nm", program], stdout=subprocess.PIPE, check=True).stdout.decode()
-    offset = int(re.search(r"^([0-9a-f]+) . qh_block::solids::solid_mesh$", names, re.M)[1], 16)
+    offset = int(re.search(r"^([0-9a-f]+) . qh_surface::quickhull::surfaces::surface_from$", names, re.M)[1], 16)
     steps = os.path.join(folder, "steps.py")
     with open(steps, "w") as out:
         out.write(STEPS.replace("POINTS", path).replace("ADDRESS", hex(BASE + offset)))

@@ -83,8 +83,8 @@ ALL_TRIPLES = (
             "    if supporting_triples(set) == 1 {\n        return Err(Memory);\n    }\n    match rank(set.pts, set.ids) {\n",
         ),
         (
-            "use std::thread::Threads;\n",
-            "use std::thread::Threads;\n\n"
+            "use std::alloc::Global;\n",
+            "use std::alloc::Global;\n\n"
             "/// The number of triples of ids that have no id above their plane.\n"
             "fn supporting_triples(set: IdSet) -> usize {\n"
             "    let at = |id: &Id| set.pts[id.index()];\n"

@@ -4,9 +4,9 @@ ghost use Rattle.qh_plane.specs.contract.Shapes.{IsInLine, IsInPlane, Each, IsFi
 ghost use Rattle.qh_block.specs.steps.IdSets.{IsHullOf};
 
 use crate::bodies::{flat_body, polygon_of};
-use crate::id_set::IdSet;
 use crate::normals::forward;
 use crate::segment::first_along;
+use qh_interior::IdSet;
 use qh_model::{Body, Id, Memory};
 use qh_plane::polygon;
 use qh_pred::{cross, point_at};

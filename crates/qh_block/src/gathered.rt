@@ -9,35 +9,16 @@ ghost use Rattle.qh_mesh.specs.contract.Names.{name_in};
 use qh_model::{Id, Memory};
 use std::alloc::{AllocError, Global};
 
-/// Returns the numbers below a count, rising.
-///
-/// `Err` says that an allocation failed, or that there are more than numbers of 32 bits.
-pub fn numbers_below(alloc: Global, count: usize) -> Result<Vec<u32>, Memory>
-    ensures { IfOk result (λ v. v.items ≡ range_with_len 0 count) }
-{
-    let Ok(end) = u32::try_from(count) else {
-        return Err(Memory);
-    };
-    let mut numbers = Vec::with_capacity(alloc, count)?;
-    for number in 0..end {
-        numbers.push_reserved(number);
-    }
-    Ok(numbers)
-}
-
 /// Returns the positions below a count, rising.
 ///
 /// `Err` says that an allocation failed, or that there are more than ids have numbers.
 pub fn positions_below(alloc: Global, count: usize) -> Result<Vec<Id>, Memory>
     ensures { IfOk result (λ v. v.items ≡ range_with_len 0 count) }
 {
-    let numbers = numbers_below(alloc, count)?;
-    Ok(
-        numbers
-            .into_iter()
-            .map(|number| Id::new(number))
-            .collect(alloc)?,
-    )
+    let Ok(end) = u32::try_from(count) else {
+        return Err(Memory);
+    };
+    Ok((0..end).map(|number| Id::new(number)).collect(alloc)?)
 }
 
 /// Returns the id at a position, or the position itself if it is past the end of the list.

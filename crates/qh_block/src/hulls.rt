@@ -12,15 +12,12 @@ ghost use Rattle.qh_block.specs.steps.IdSets.{AreExtremesOf, IsHullOf};
 use crate::bodies::{flat_body, polygon_of};
 use crate::flat_sets::{polygon_hull, segment_hull};
 use crate::gathered::{ids_at, positions_below};
-use crate::id_set::IdSet;
-use crate::inner_points::sieves::InThreads;
-use crate::inner_points::{cull_alone, cull_ids};
 use crate::solids::{solid_body, solid_extremes, solid_mesh};
+use qh_interior::{IdSet, cull_alone};
 use qh_model::{Body, Id, Memory, Point};
 use qh_plane::{Shape, rank};
 use qh_surface::{Simplex, points_of};
 use std::alloc::Global;
-use std::thread::Threads;
 
 /// Returns the extreme ids of a set, rising, by a run over all of its ids where they stand.
 fn extremes_in_place(alloc: Global, set: IdSet) -> Result<Vec<Id>, Memory>
@@ -66,38 +63,8 @@ fn hull_of_all(alloc: Global, set: IdSet) -> Result<Body, Memory>
     }
 }
 
-/// Returns the ids of a large set but those that the interior filter finds strictly inside, by at most
-/// `threads` threads; `None` if no filter pays: the set is small, or the sample says that few ids are inside.
-///
-/// `ids` has at least one id, each the index of one of the points. What is left has all extreme ids, so
-/// its hull is that of the set, and rises where `ids` does.
-///
-/// # Errors
-///
-/// `Memory` if an allocation failed.
-pub fn cull_interior<R: Threads + Sync>(
-    rt: &R,
-    alloc: Global,
-    pts: &[Point],
-    ids: &[Id],
-    threads: u32,
-) -> Result<Option<Vec<Id>>, Memory>
-    requires some { 0 < length ids.now }
-    requires indices { AreIndices pts.now ids.now }
-    ensures some { IfOk result (λ found. IfSome found (λ v. 0 < length v.items)) }
-    ensures rising { IfOk result (λ found. IfSome found (λ v. IsStrictlyIncreasing ids.now → IsStrictlyIncreasing v.items)) }
-    ensures within { IfOk result (λ found. IfSome found (λ v. (i : ℕ) → In i v.items → In i ids.now)) }
-    ensures extremes { IfOk result (λ found. IfSome found (λ v. (i : ℕ) → Extreme (place pts.now) (Members ids.now) i → In i v.items)) }
-{
-    let sieve = InThreads {
-        rt,
-        threads: threads as usize,
-    };
-    cull_ids(&sieve, alloc, IdSet { pts, ids })
-}
-
 /// Returns the extreme ids of a set, as [`extremes`] gives them, by a run over all of its ids: for a
-/// set that was given to [`cull_interior`] before, or that is a part of a culled set.
+/// set that was given to [`cull_interior`](qh_interior::cull_interior) before, or that is a part of a culled set.
 ///
 /// # Errors
 ///

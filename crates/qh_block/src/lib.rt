@@ -5,7 +5,7 @@
 //! triangles plane by plane. A set in a point, a line or a plane gets its body at once: a point, the
 //! segment between the ends of the line, or the polygon in the plane.
 //!
-//! Of a large set `inner_points` drops most of what is inside first. `qh_surface` makes the surface. A walk
+//! Of a large set `qh_interior` drops most of what is inside first. `qh_surface` makes the surface. A walk
 //! finds the triangles of one plane (`plane_walk`), of which `faces` makes the polygon.
 //! `face_order` and `solid_edges` order the faces, most of them by the numbers of `face_keys`, and count their edges,
 //! and `solids` puts them together. `unsorted_faces` keeps faces of parts of a set until all are there. `gathered` puts the points of a set next to each other.
@@ -22,8 +22,6 @@ mod faces;
 mod flat_sets;
 mod gathered;
 mod hulls;
-mod id_set;
-mod inner_points;
 mod normals;
 mod plane_walk;
 mod segment;
@@ -33,7 +31,8 @@ mod unsorted_faces;
 
 pub use blocking::{BLOCK_ALONE, TELLING, WHOLE_ALONE, are_few, block_size, tree_pays};
 pub use faces::{PartedFaces, parted_faces};
-pub use hulls::{cull_interior, extremes, extremes_unculled, hull};
+pub use hulls::{extremes, extremes_unculled, hull};
+pub use qh_interior::cull_interior;
 pub use qh_surface::surface;
 pub use solids::{Tally, body_of_faces, tally_of};
 pub use unsorted_faces::UnsortedFaces;

@@ -2,7 +2,7 @@
 ghost use Rattle.std.specs.Prelude.{◌≡◌, ◌⊎◌, ◌<◌, ◌≤ℤ◌, length};
 ghost use Rattle.qh_block.specs.steps.Segments.{position, IsFirstAlong};
 
-use crate::id_set::IdSet;
+use qh_interior::IdSet;
 use qh_model::{Id, Point};
 use qh_pred::{along, point_at};
 

@@ -17,8 +17,8 @@ ghost use Rattle.qh_surface.specs.contract.NamedMeshes.{named, IsNamedMesh};
 
 use crate::face_order::sort_faces;
 use crate::faces::faces;
-use crate::id_set::IdSet;
 use crate::solid_edges::edge_count;
+use qh_interior::IdSet;
 use qh_model::{Body, Id, Memory, Point, Polygon};
 use qh_plane::rising_ids;
 use qh_surface::{NamedMesh, Simplex, surface_from};

@@ -1,5 +1,5 @@
 //! Guesses by which the hulls of parts of a set are joined. What they say is checked where it is used
-//! (`qh_seam`), so a wrong guess costs time and no more.
+//! (`qh_seam`, `qh_join`), so a wrong guess costs time and no more.
 //!
 //! A set is cut into parts of consecutive ids along a curve, and some ids belong to every part (`qh_curve`). Each
 //! part shows the others its outline: its corners with boxes round them (`outlines`). Of the facets of a part those

@@ -16,8 +16,9 @@ use crate::given::{given_in_threads, outlines_in_threads};
 use crate::pieces::{are_indices, parts_along_curve};
 use qh_block::{TELLING, UnsortedFaces, are_few, extremes, hull};
 use qh_guess::{Outline, bridge_over, is_worth, is_worth_parting};
+use qh_join::{body_of_joined, join_faces};
 use qh_model::{Body, Id, Memory, Point};
-use qh_seam::{Divided, body_of_joined, join_faces, kept_ids};
+use qh_seam::{Divided, kept_ids};
 use std::alloc::Global;
 use std::thread::Threads;
 

@@ -7,9 +7,6 @@ pub mod RingFacets
 pub mod ListedCorners
 pub mod Chunked
 pub mod PartCorners
-pub mod JoinedLists
 pub mod StayingParts
 pub mod LeftIds
 pub mod OnceListed
-pub mod LevelPlanes
-pub mod BridgeLevels

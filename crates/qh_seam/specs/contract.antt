@@ -1,3 +1,2 @@
 -- What the contracts of public functions cite.
-pub mod Joined
 pub mod Parts

@@ -1,6 +1,5 @@
 -- What private functions speak of: nothing to believe.
 pub mod Apart
-pub mod Bridges
 pub mod RingKeys
 pub mod Triangles
 pub mod Witnesses

@@ -36,7 +36,7 @@ fn corners_of_parts(alloc: Global, parts: &[Part]) -> Result<Vec<Id>, AllocError
 }
 
 /// Returns true if two lists of ids are the same.
-pub(crate) fn are_same(ids: &[Id], others: &[Id]) -> bool
+fn are_same(ids: &[Id], others: &[Id]) -> bool
     ensures { IsTrue result → ids.now ≡ others.now }
 {
     ids == others

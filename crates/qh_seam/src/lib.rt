@@ -1,4 +1,4 @@
-//! Hulls of parts of a set, joined at a checked seam.
+//! Parts of a set, and the faces of them that stay at a checked seam.
 //!
 //! A set is cut into parts (`chunks`), each with a finished mesh and its corners (`parts`). The corners of
 //! all are what is kept of the set (`kept`): all extreme ids are among them.
@@ -9,17 +9,12 @@
 //! middle of four points that belong to every part (`triangles`). And the facets that stay beside one that
 //! is removed have all others strictly below them (`rings`). Then no facet that stays sees a corner of the
 //! others (`qh_seam_laws::ring_hides_rest`), though few are tested, and their polygons are faces of the set.
-//!
-//! Such polygons and others that are faces of what is kept of all parts, and close up, are the hull (`joined`). They
-//! close up where the others have the border of the polygons that are removed.
+//! `qh_join` makes the hull of these and others.
 #![tactic(auto)]
 
-mod bridges;
 mod chunks;
-mod joined;
 mod kept;
 mod marked;
-mod near_parts;
 mod parts;
 mod rings;
 mod seams;
@@ -28,7 +23,6 @@ mod triangles;
 mod witnesses;
 
 pub use chunks::parts_of;
-pub use joined::{body_of_joined, join_faces};
 pub use kept::kept_ids;
 pub use parts::Part;
 pub use staying::{Divided, Guess, staying_faces};

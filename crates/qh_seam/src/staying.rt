@@ -7,8 +7,7 @@ ghost use Rattle.qh_model.specs.contract.IdSets.{AreIndices, HasDistinctPoints};
 ghost use Rattle.qh_surface.specs.contract.Walks.{mark_at};
 ghost use Rattle.qh_seam_laws.specs.contract.Parts.{IsPartFace};
 ghost use Rattle.qh_seam.specs.declared.parts.Part.{Part};
-ghost use Rattle.qh_seam.specs.contract.Joined.{CloseUp};
-ghost use Rattle.qh_seam.specs.contract.Parts.{ids_in, KeepsCorners, IsPartOf, IsStayingPart};
+ghost use Rattle.qh_seam.specs.contract.Parts.{ids_in, KeepsCorners, IsPartOf, IsStayingPart, CloseUp};
 
 use crate::marked::Marked;
 use crate::parts::Part;

@@ -1,5 +1,5 @@
-//! Tests of the public calls of qh_seam, qh_curve and qh_guess: what is guessed and kept of a cube in two parts, and
-//! how its faces are joined.
+//! Tests of the public calls of qh_seam, qh_join, qh_curve and qh_guess: what is guessed and kept of a cube in two parts,
+//! and how its faces are joined.
 //!
 //! They stand apart so that the proofs of the libraries are checked without them: where a crate has tests of its
 //! own, all of it is proved once more with them.

@@ -8,7 +8,7 @@ use Rattle.qh_seam_laws.specs.contract.Parts.{IsPartFace}
 use Rattle.qh_seam.specs.declared.parts.Part.{Part}
 use Rattle.qh_parts.specs.declared.given.Contribution.{Contribution}
 use Rattle.qh_parts.specs.declared.given.Given.{Given}
-use Rattle.qh_seam.specs.contract.{Joined.CloseUp, Parts.ids_in, Parts.KeepsCorners}
+use Rattle.qh_seam.specs.contract.Parts.{ids_in, KeepsCorners, CloseUp}
 
 -- each polygon is one of a facet that stays in a part, for every set that has the ids of all parts
 abbrev pub AreGiven : List Vector → List ℕ → List Part → List (List ℕ) → Type 0

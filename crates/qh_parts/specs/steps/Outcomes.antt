@@ -3,7 +3,7 @@
 use Rattle.std.specs.Prelude.{ℕ, List}
 use Rattle.qh_model.specs.headline.{Vector.Vector, Hull.IsBody, Predicates.place, Sets.In, Sets.Members}
 use Rattle.qh_model.specs.contract.ClosedPolygons.{AreClosed}
-use Rattle.qh_seam.specs.contract.Joined.{IsJoined}
+use Rattle.qh_join.specs.contract.Joined.{IsJoined}
 use Rattle.qh_parts.specs.declared.hulls.Outcome.{Outcome}
 use Rattle.qh_parts.specs.declared.hulls.Outcome.TheVariants.{Hull, Faces}
 

@@ -4,21 +4,23 @@ use Rattle.std.specs.Prelude.{IfOk}
 use Rattle.std.proofs.lemmas.Result.{IfOk-weaker}
 use Rattle.qh_model.specs.headline.{Hull.IsBody, Predicates.place, Sets.Members}
 use Rattle.qh_model.specs.contract.IdSets.{IsIdSet}
+use Rattle.qh_model.specs.laws.HullLaws.{HasExtremes}
 use Rattle.qh_model.proofs.hulls.ExtremeParts.{part_indices, part_body}
-use Rattle.qh_block.specs.steps.InnerPoints.{IsOuterPart}
 use Rattle.qh_block.proofs.hulls.hull.Goals as goal
 
 pub invariant_of-hull_of_all : goal.invariant_of-hull_of_all
 invariant_of-hull_of_all c =
     let pts = c.args.pts.now in let ids = c.args.ids.now in let outer = c.in-Some.outer.items in
-    let part : IsOuterPart pts ids outer = rw (c.in-Some.is) at c.in_ok-outer.ensures.part in
-    record { indices = rw (c.deref.ensures.value) (part_indices pts ids outer c.requires.indices part.extremes.within) }
+    let within = rw (c.in-Some.is) at c.in_ok-outer.ensures.within in
+    record { indices = rw (c.deref.ensures.value) (part_indices pts ids outer c.requires.indices within) }
 
 pub returns-in-Some : goal.returns-in-Some
 returns-in-Some c =
     let pts = c.args.pts.now in let ids = c.args.ids.now in let outer = c.in-Some.outer.items in
-    let part : IsOuterPart pts ids outer = rw (c.in-Some.is) at c.in_ok-outer.ensures.part in
+    let rising = rw (c.in-Some.is) at c.in_ok-outer.ensures.rising in
+    let part : HasExtremes pts ids outer =
+    record { within = rw (c.in-Some.is) at c.in_ok-outer.ensures.within; extremes = rw (c.in-Some.is) at c.in_ok-outer.ensures.extremes } in
     IfOk-weaker c.hull_of_all.result _ _
-    (λ b h set. part_body pts ids outer b set (part.rising set.rising) part.extremes h)
+    (λ b h set. part_body pts ids outer b set (rising set.rising) part h)
     (subst (λ xs. IfOk c.hull_of_all.result (λ b. IsIdSet pts xs → IsBody (place pts) (Members xs) b))
     c.deref.ensures.value c.hull_of_all.ensures)

@@ -1,0 +1,37 @@
+-- Boxes below planes: a product over a range is greatest at an end of it, a scalar product over a box at a corner.
+use Rattle.std.proofs.Common.{◌≡◌, ◌&&◌, Bool, true, false, IsTrue, arith, refl}
+use Rattle.std.proofs.lemmas.Int.{ints, by_lt_z}
+use Rattle.std.specs.Prelude.{ℤ, ◌↔◌, pos, ◌*ℤ◌, neg_ℤ, ◌≤ℤ◌, ◌<ℤ◌}
+use Rattle.qh_model.specs.headline.Vector.{Vector}
+use Rattle.qh_model.proofs.algebra.{Order.mul-le, Integers.neg_mul}
+use Rattle.qh_pred.specs.contract.Planes.{PlaneValue, height}
+use Rattle.qh_interior.specs.declared.bounds.Bounds.{Bounds}
+use Rattle.qh_interior.specs.steps.InnerPoints.{IsBetween, IsWithin, IsFarEnd}
+
+-- two tests together
+pub both : {P Q : Type 0} (a b : Bool) → (IsTrue a ↔ P) → (IsTrue b ↔ Q) → IsTrue (a && b) ↔ (P × Q)
+both true b p q = (λ t. (p.0 refl, q.0 t), λ h. q.1 h.1)
+both false b p q = (λ t. cc, λ h. p.1 h.0)
+
+-- beyond the end of a range to which a factor points products are no less than in the range: with a factor above 0
+-- beyond the greatest number, with one not above 0 beyond the least
+pub beyond : (a l h n e : ℤ) → (pos 0 <ℤ a → h ≤ℤ e) → (a ≤ℤ pos 0 → e ≤ℤ l) → IsBetween l n h → (a *ℤ n) ≤ℤ (a *ℤ e)
+beyond a l h n e above below in_range =
+    let least = in_range.0 in let most = in_range.1 in
+    by_lt_z (pos 0) a
+    (λ up. let q = above up in mul-le a n e (omega (arith, ints)) (omega (arith, ints)))
+    (λ down. let q = below down in let more = mul-le (neg_ℤ a) e n (omega (arith, ints)) (omega (arith, ints)) in
+    omega (arith, ints, neg_mul a e, neg_mul a n, more))
+
+-- so the product with the far end of a range is the greatest
+greatest : (a l h e n : ℤ) → IsFarEnd a l h e → IsBetween l n h → (a *ℤ n) ≤ℤ (a *ℤ e)
+greatest a l h e n far in_range =
+    beyond a l h n e (λ up. let q = far.0 up in omega (arith, ints)) (λ down. let q = far.1 down in omega (arith, ints)) in_range
+
+-- so a box is below a plane where its corner that lies furthest along the normal is
+pub below_by_corner : (b : Bounds) (plane : PlaneValue) (n q : Vector) → n ≡ plane.normal → IsFarEnd n.x b.low.x b.high.x q.x
+    → IsFarEnd n.y b.low.y b.high.y q.y → IsFarEnd n.z b.low.z b.high.z q.z → height plane q <ℤ pos 0
+    → (p : Vector) → IsWithin b p → height plane p <ℤ pos 0
+below_by_corner b plane n q e x y z h p w =
+    let at_x = rw e at (greatest n.x b.low.x b.high.x q.x p.x x w.x) in let at_y = rw e at (greatest n.y b.low.y b.high.y q.y p.y y w.y) in
+    let at_z = rw e at (greatest n.z b.low.z b.high.z q.z p.z z w.z) in omega (arith, ints, at_x, at_y, at_z, h)

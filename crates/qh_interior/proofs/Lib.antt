@@ -1,0 +1,5 @@
+pub mod CellParts
+pub mod CoarsePlanes
+pub mod CornerBoxes
+pub mod InnerBoxes
+pub mod InnerPoints

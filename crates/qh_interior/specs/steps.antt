@@ -1,0 +1,4 @@
+-- What private functions speak of: nothing to believe.
+pub mod CoarsePlanes
+pub mod CornerBoxes
+pub mod InnerPoints

@@ -1,0 +1,92 @@
+//! When the filter runs, and over how much of a set: every number and rule, with its reason.
+//!
+//! These rules change the time and never an answer, since what the filter leaves has the same hull.
+//! docs/PERFORMANCE.md has the measurements.
+ghost use Rattle.std.specs.Prelude.{◌<◌};
+
+/// A round of the interior filter: the sets that it takes, and its sample.
+#[derive(Clone, Copy, Drop)]
+pub struct Round {
+    /// The round takes sets of at least this many ids.
+    pub from: usize,
+    /// The round's sample has about this many ids, spread evenly over the set.
+    pub sample: usize,
+    /// The round's grid has 2 to this power columns along each axis.
+    pub side_bits: u32,
+}
+
+impl Round {
+    /// Returns how many ids of a set of this length stand between two of the sample, the first of them
+    /// among these.
+    pub fn stride(&self, count: usize) -> usize
+        ensures { 0 < result }
+    {
+        count.checked_div(self.sample).unwrap_or(1).max(1)
+    }
+}
+
+/// The one round of a set too small for the first of two rounds.
+///
+/// Its sample and its grid are small, so that they cost little where the set is small, too. Of fewer ids
+/// the sample is a large part.
+pub const SMALL_ROUND: Round = Round {
+    from: 8_192,
+    sample: 128,
+    side_bits: 3,
+};
+
+/// The first round tests all ids. The hull of a small sample has most of them inside if it has any.
+///
+/// Of fewer ids the sample is a large part.
+pub const FIRST_ROUND: Round = Round {
+    from: 50_000,
+    sample: 2_048,
+    side_bits: 5,
+};
+
+/// The second round goes over what the first leaves, which lies near the surface of the hull.
+///
+/// Its sample is larger, since a point near the surface is outside of the hull of a small one. The
+/// hull of a still larger sample takes as much longer as the tree above the filter is faster.
+pub const SECOND_ROUND: Round = Round {
+    from: 32_768,
+    sample: 8_192,
+    side_bits: 5,
+};
+
+/// Returns the round that goes over all ids of a set of this length.
+pub fn round_of_all(count: usize) -> Round {
+    if count < FIRST_ROUND.from {
+        SMALL_ROUND
+    } else {
+        FIRST_ROUND
+    }
+}
+
+/// The least number of ids of a set whose corner box a single thread uses.
+///
+/// The box of fewer points holds few of them.
+pub const BOX_FROM: usize = 256;
+
+/// About the size of the sample, spread over the set, that decides whether the corner box has most of its points.
+pub const BOX_SAMPLE: usize = 128;
+
+/// The least number of ids that threads filter together.
+pub const SHARED_FROM: usize = 16_384;
+
+/// The least number of columns whose cells threads make together.
+pub const SHARED_COLUMNS: usize = 256;
+
+/// Returns true if the hull of the interior filter's sample has few enough facets.
+///
+/// A hull of n points has at most 2 n - 4 facets. More than half of this number say that most of the sample
+/// is extreme, so that few points of the set are inside.
+pub fn sample_pays(facets: usize, sample: usize) -> bool {
+    facets <= sample
+}
+
+/// Returns true if the interior filter finds at least half of its sample inside, so that it pays to
+/// filter the whole set.
+pub fn filter_pays(inside: usize, sample: usize) -> bool {
+    inside >= sample / 2
+}

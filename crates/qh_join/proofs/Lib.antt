@@ -1,0 +1,3 @@
+pub mod JoinedLists
+pub mod LevelPlanes
+pub mod BridgeLevels

@@ -1,0 +1,38 @@
+-- The plane of the three has nothing above it, and the polygon of what is in it is the claimed one.
+use Rattle.std.proofs.Common.{◌≡◌, ◌∙◌, Bool, true, false, subst, sym}
+use Rattle.std.specs.Cmp.Lexicographic.{same_text}
+use Rattle.qh_model.specs.headline.{Predicates.place, Predicates.AreInLine, Sets.Members}
+use Rattle.qh_model.specs.headline.Polygons.{IsFacePolygon}
+use Rattle.qh_check.proofs.ClaimedFaces.{triple, face}
+use Rattle.qh_join.proofs.BridgeLevels.{level_indices}
+use Rattle.qh_join.proofs.bridges.is_face_at.Goals as goal
+
+pub polygon-requires : goal.polygon-requires
+polygon-requires c =
+    rw c.deref-2.ensures.value
+    (level_indices c.args.set.pts.now c.args.set.shared.now c.args.set.parts.now c.requires.parts c.requires.shared c.through-plane.result
+    c.in-Some.level.items (rw c.in-Some.is at c.in_ok-level.ensures.level))
+
+pub returns : goal.returns
+returns c = λ yes kept keeps distinct.
+    let pts = c.args.set.pts.now in
+    let x = c.point_at-a.ensures in let y = c.point_at-b.ensures in let z = c.point_at-c.ensures in
+    let level = (rw c.in-Some.is at c.in_ok-level.ensures.level) kept keeps in
+    let rising = rw c.in-Some.is at c.in_ok-level.ensures.rising in
+    let told = rw (x, y, z) at c.through-plane.ensures in
+    let made = rw (c.deref-2.ensures.value, c.cross.ensures, x, y, z) at c.in_ok-face.ensures in
+    let has_i = rw c.deref.ensures.value at (c.is_in.ensures.i c.if-not-is_in.false) in
+    let has_j = rw c.deref.ensures.value at (c.is_in.ensures.j c.if-not-is_in.false) in
+    let has_k = rw c.deref.ensures.value at (c.is_in.ensures.k c.if-not-is_in.false) in
+    let area = λ (e : AreInLine (place pts _) (place pts _) (place pts _)).
+    (let w = c.in_line.ensures.1 (rw (x, y, z) e) in let n = c.if-in_line.false in false_true w n) in (
+      c.args.three.i,
+      c.args.three.j,
+      c.args.three.k,
+      triple pts kept c.through-plane.result _ level _ _ _ told area has_i has_j has_k,
+      subst (IsFacePolygon (place pts) (Members kept) _ _ _) (rw (c.ids.ensures, c.ids-2.ensures) at (same_text _ _ (sym yes ∙ c.eq.ensures)))
+          (face pts kept c.through-plane.result _ level _ _ _ told area has_i has_j has_k rising distinct _ made),
+    )
+  where
+    false_true : {b : Bool} → b ≡ true → b ≡ false → ⊥
+    false_true p q = cc
