@@ -5,10 +5,10 @@ pub mod RepeatedPlaces
 pub mod SortedPoints
 pub mod DistinctLists
 pub mod KeysBelow
+pub mod HashGroups
 pub mod PlaceLists
 pub mod RepeatedIds
 pub mod SharedSlots
-mod SlotRanges
 pub mod KeptIds
 pub mod SeenPlaces
 pub mod PlaneDirections

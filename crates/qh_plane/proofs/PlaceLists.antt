@@ -87,10 +87,10 @@ module _ (pts : List Vector) (some : Hashes) (keys : List ℕ) (few : length pts
         same_hash = ap place_hash r.3
 
         q : (n : ℕ) × StandsAt ID_ROOM hash keys i n
-        q = position pts ID_ROOM hash keys hashed i (k.known.has i lt some_of)
+        q = position pts ID_ROOM hash keys hashed i (k.known.has i (omega arith) lt some_of)
 
         p : (n : ℕ) × StandsAt ID_ROOM hash keys j n
-        p = position pts ID_ROOM hash keys hashed j (k.known.has j (omega (arith, lower, lt)) (subst some (sym same_hash) some_of))
+        p = position pts ID_ROOM hash keys hashed j (k.known.has j (omega arith) (omega (arith, lower, lt)) (subst some (sym same_hash) some_of))
 
         same : key p.0 / ID_ROOM ≡ key q.0 / ID_ROOM
         same = p.1.place_told ∙ same_hash ∙ sym q.1.place_told

@@ -4,6 +4,7 @@ pub mod CloseBoxes
 pub mod Marks
 pub mod PlaceKeys
 pub mod HashedKeys
+pub mod HashGroups
 pub mod Repeats
 pub mod InnerPlaces
 pub mod SortedPoints

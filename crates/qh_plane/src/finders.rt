@@ -4,11 +4,10 @@ ghost use Rattle.std.specs.Thread.{IsSync};
 ghost use Rattle.qh_model.specs.headline.DistinctIds.{AreDistinctIds};
 ghost use Rattle.qh_plane.specs.steps.Repeats.{AreAllRepeats};
 
-use crate::close_points::{CloseBox, SHARED_SLOTS};
+use crate::close_points::CloseBox;
 use crate::found_ids::FoundIds;
 use crate::hash_parts::repeats_by_hash;
 use crate::repeats::{repeats_by_sort, repeats_of_all};
-use crate::slot_ranges::distinct_by_ranges;
 use qh_model::{POINT_LIMIT, Point};
 use std::alloc::Global;
 use std::thread::Threads;
@@ -23,14 +22,17 @@ pub trait Finder {
     /// What is known of one that finds them.
     ghost ready: { Self → Type 0 };
 
-    /// Returns the distinct ids of points, rising, each of which has a slot of its place; `None` if different points have
-    /// the same slot, or a point has no slot.
-    fn by_slots(&self, alloc: Global, pts: &[Point], close: CloseBox) -> FoundIds
+    /// Returns the distinct ids of points that lie close together or in one line, rising; `None` if they do not, or another
+    /// way is faster.
+    fn by_slots(&self, alloc: Global, pts: &[Point]) -> FoundIds
         requires ready { ready self.now }
         requires few { length pts.now ≤ POINT_LIMIT }
         ensures { IfOk result (λ found. IfSome found (λ v. AreDistinctIds pts.now v.items)) }
     {
-        close.distinct_ids(alloc, pts)
+        match CloseBox::around(pts) {
+            Some(close) => close.distinct_ids(alloc, pts),
+            None => Ok(None),
+        }
     }
 
     /// Returns the ids of all points that stand before; `None` if too many have one hash.
@@ -83,12 +85,12 @@ impl<R> InThreads<'_, R> {
 impl<R: Threads + Sync> Finder for InThreads<'_, R> {
     ghost ready = { λ _. IsSync R.row };
 
-    fn by_slots(&self, alloc: Global, pts: &[Point], close: CloseBox) -> FoundIds {
-        let count = self.for_points(pts);
-        if count < 2 || close.slots < SHARED_SLOTS {
-            return close.distinct_ids(alloc, pts);
+    /// Leaves the points to a search by hashes, if they keep several threads busy: a table of slots is gone over by one.
+    fn by_slots(&self, alloc: Global, pts: &[Point]) -> FoundIds {
+        if self.for_points(pts) < 2 {
+            return Alone.by_slots(alloc, pts);
         }
-        distinct_by_ranges(self.rt, alloc, pts, close, count)
+        Ok(None)
     }
 
     fn repeats(&self, alloc: Global, pts: &[Point]) -> FoundIds {

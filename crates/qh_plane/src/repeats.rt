@@ -2,11 +2,10 @@
 ghost use Rattle.std.specs.Prelude.{◌≡◌, ◌≤◌, ◌<◌, ◌%◌, IfOk, IfSome, length};
 ghost use Rattle.std.specs.List.{All};
 ghost use Rattle.std.specs.List.Sorted.{IsNonDecreasing};
-ghost use Rattle.qh_plane.specs.steps.HashedKeys.{PartHashes, WithHashes, AreHashedKeys, RepeatsTold};
-ghost use Rattle.qh_plane.specs.steps.Repeats.{AreRepeats, AreAllRepeats};
+ghost use Rattle.qh_plane.specs.steps.HashedKeys.{AreHashedKeys, RepeatsTold};
+ghost use Rattle.qh_plane.specs.steps.Repeats.{AreAllRepeats};
 
 use crate::found_ids::FoundIds;
-use crate::hash_parts::Part;
 use crate::hashed_keys::{ID_ROOM, hash_in, hashed_keys, id_in, is_repeat};
 use crate::shared_slots::{keys_in_slots, shared_slots};
 use qh_model::{POINT_LIMIT, Point};
@@ -24,7 +23,7 @@ const TABLE_TO: usize = 65_536;
 /// different points past its first two keys.
 ///
 /// So points that differ meet, among the keys of one hash, at most in its first two.
-fn repeats_told(alloc: Global, pts: &[Point], keys: &[u64]) -> FoundIds
+pub fn repeats_told(alloc: Global, pts: &[Point], keys: &[u64]) -> FoundIds
     requires { All (λ k. k % ID_ROOM < length pts.now) keys.now }
     ensures { IfOk result (λ found. IfSome found (λ v. RepeatsTold pts.now keys.now (length keys.now) v.items)) }
 {
@@ -84,18 +83,5 @@ pub fn repeats_by_sort<R: Threads + Sync>(rt: &R, alloc: Global, pts: &[Point]) 
 {
     let mut keys = hashed_keys(alloc, pts)?;
     par_sort_unstable(rt, &mut keys);
-    repeats_told(alloc, pts, &keys)
-}
-
-/// Returns the ids of the points that stand before and have hashes of a part; `None` if too many have
-/// one hash.
-pub fn repeats_of_part(alloc: Global, pts: &[Point], part: Part) -> FoundIds
-    requires few { length pts.now ≤ POINT_LIMIT }
-    requires some { 0 < part.parts }
-    requires parts { part.parts ≤ ID_ROOM }
-    ensures { IfOk result (λ found. IfSome found (λ v. AreRepeats pts.now (WithHashes pts.now (PartHashes part.parts part.number)) v.items)) }
-{
-    let mut keys = part.keys(alloc, pts)?;
-    keys.sort_unstable();
     repeats_told(alloc, pts, &keys)
 }

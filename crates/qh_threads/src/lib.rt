@@ -5,7 +5,9 @@
 #![tactic(auto)]
 
 mod chunks;
+mod claimed;
 mod indices;
 
 pub use chunks::map_chunks;
+pub use claimed::map_claimed;
 pub use indices::map_indices;

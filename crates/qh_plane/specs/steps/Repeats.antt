@@ -1,9 +1,10 @@
 -- Points that stand in a list before. Only private functions speak of them.
-use Rattle.std.specs.Prelude.{ℕ, ◌≡◌, ◌<◌, List, Bool, true, false, length, slice_index_or}
+use Rattle.std.specs.Prelude.{ℕ, ◌≡◌, ◌<◌, List, Bool, true, false, Option, Result, Vec, IfOk, IfSome, length, slice_index_or}
+use Rattle.std.specs.declared.alloc.{AllocError.AllocError, Global.Global}
 use Rattle.qh_model.specs.headline.Predicates.{place}
 use Rattle.qh_model.specs.headline.Sets.{In}
 use Rattle.qh_model.specs.headline.Vector.{Vector}
-use Rattle.qh_plane.specs.steps.HashedKeys.{AllHashes, WithHashes}
+use Rattle.qh_plane.specs.steps.HashedKeys.{AllHashes, PartHashes, WithHashes}
 
 -- a lower id has the same point
 abbrev pub IsRepeatedId : List Vector → ℕ → Type 0
@@ -31,3 +32,9 @@ pub record MarksWithout (count : ℕ) (ids : List ℕ) (marks : List Bool) : Typ
   pub len : length marks ≡ count
   pub has : (i : ℕ) → i < count → (In i ids → ⊥) → slice_index_or marks i false ≡ true
   pub only : (i : ℕ) → slice_index_or marks i false ≡ true → In i ids → ⊥
+
+-- what was found in parts of the hashes are the ids of their points that stand before, unless memory ran out or a part does not tell them
+abbrev pub ArePartsRepeats : List Vector → ℕ → List (Result (Option (Vec ℕ Global)) AllocError) → Type 0
+ArePartsRepeats pts parts found =
+    (i : ℕ) (d : Result (Option (Vec ℕ Global)) AllocError) → i < length found
+    → IfOk (slice_index_or found i d) (λ some. IfSome some (λ v. AreRepeats pts (WithHashes pts (PartHashes parts i)) v.items))

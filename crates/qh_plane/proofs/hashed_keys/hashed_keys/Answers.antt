@@ -1,11 +1,11 @@
 use Rattle.qh_plane.proofs.hashed_keys.hashed_keys.Goals as goal
-use Rattle.std.proofs.Common.{◌≡◌, ◌∙◌, ◌+◌, ◌*◌, ◌∷◌, ◌++◌, [], ap, sym, subst}
+use Rattle.std.proofs.Common.{◌≡◌, ◌∙◌, arith, ◌+◌, ◌*◌, ◌∷◌, ◌++◌, [], ap, sym, subst}
 use Rattle.qh_plane.proofs.{KeysBelow.no_keys, KeysBelow.key_added, SeenPlaces.point_read}
 use Rattle.qh_plane.specs.declared.hashed_keys.TheConstants.{ID_ROOM}
 use Rattle.qh_plane.specs.steps.HashedKeys.{place_hash, hashed_key_at, AllHashes, AreKeysBelow}
 
 pub loop-number-init : goal.loop-number-init
-loop-number-init c = rw c.in_ok-keys.ensures.items (no_keys c.args.pts.now AllHashes)
+loop-number-init c = rw c.in_ok-keys.ensures.items (no_keys c.args.pts.now AllHashes 0)
 
 pub loop-number-preserved : goal.loop-number-preserved
 loop-number-preserved c =
@@ -14,4 +14,4 @@ loop-number-preserved c =
     c.key_of.ensures ∙ ap (λ h. h * ID_ROOM + n)
     (c.place_hash.ensures.value ∙ ap place_hash (point_read pts n c.index-pts-number.result c.loop-number-test.true c.index-pts-number.is)) in
     subst (AreKeysBelow pts AllHashes (n + 1)) (sym (c.in_ok-push.ensures.items ∙ ap (λ k. keys ++ k ∷ []) key))
-    (key_added pts AllHashes n keys c.loop-number.invariant tt)
+    (key_added pts AllHashes 0 n keys c.loop-number.invariant (omega arith) tt)

@@ -1,5 +1,5 @@
 use Rattle.qh_plane.proofs.shared_slots.keys_in_slots.Goals as goal
-use Rattle.std.proofs.Common.{◌≡◌, ◌∙◌, ℕ, ◌+◌, ◌*◌, ◌∷◌, ◌++◌, [], true, false, ap, sym, subst, Vec, Global}
+use Rattle.std.proofs.Common.{◌≡◌, ◌∙◌, arith, ℕ, ◌+◌, ◌*◌, ◌∷◌, ◌++◌, [], true, false, ap, sym, subst, Vec, Global}
 use Rattle.qh_plane.proofs.{KeysBelow.key_added, KeysBelow.key_left_out, SeenPlaces.point_read}
 use Rattle.qh_plane.proofs.shared_slots.keys_in_slots.Goals.{then-is_marked+in_ok-push, else-is_marked}
 use Rattle.qh_plane.specs.declared.hashed_keys.TheConstants.{ID_ROOM}
@@ -18,8 +18,8 @@ loop-number-preserved c =
       | then-is_marked+in_ok-push w ↦
           subst (AreKeysBelow pts some (n + 1)) (sym (ap (λ (v : Vec ℕ Global). v.items) w.keys-is ∙ w.in_ok-push.ensures.items
           ∙ ap (λ k. keys ++ k ∷ []) (w.key_of.ensures ∙ ap (λ h. h * ID_ROOM + n) hash)))
-          (key_added pts some n keys before (subst some hash (c.is_marked.ensures.0 w.if-is_marked.true)))
+          (key_added pts some 0 n keys before (omega arith) (subst some hash (c.is_marked.ensures.0 w.if-is_marked.true)))
       | else-is_marked w ↦
           subst (AreKeysBelow pts some (n + 1)) (sym (ap (λ (v : Vec ℕ Global). v.items) w.keys-is))
-          (key_left_out pts some n keys before (λ p. clash (sym (c.is_marked.ensures.1 (subst some (sym hash) p)) ∙ w.if-is_marked.false)))
+          (key_left_out pts some 0 n keys before (λ p. clash (sym (c.is_marked.ensures.1 (subst some (sym hash) p)) ∙ w.if-is_marked.false)))
     ]

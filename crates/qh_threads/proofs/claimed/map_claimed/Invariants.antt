@@ -1,0 +1,12 @@
+-- What stands in the slots is right, and so are the answers that are left.
+use Rattle.std.proofs.Common.{◌≡◌, length, All}
+use Rattle.std.specs.Vec.Iter.{into_iter_items}
+use Rattle.qh_threads.specs.Answers.{AreAnswers, ArePlaced}
+use Rattle.qh_threads.proofs.claimed.map_claimed.Given as goal
+
+abbrev pub invariant-loop-answers : goal.invariant-loop-answers
+invariant-loop-answers g l = record {
+  len : length l.slots.items ≡ l.fn.count;
+  placed : ArePlaced g.F.Fn l.fn.f l.slots.items;
+  left : All (AreAnswers g.F.Fn l.fn.f l.fn.count) (into_iter_items l.answers-iterator);
+}

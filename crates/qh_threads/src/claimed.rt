@@ -1,0 +1,138 @@
+//! The calls of a closure at indices, which threads claim one after the other.
+ghost use Rattle.std.specs.Prelude.{◌≡◌, ◌<◌, ℕ, IfOk, length};
+ghost use Rattle.std.specs.List.{All};
+ghost use Rattle.std.specs.Fork.{GivesEach};
+ghost use Rattle.std.specs.Thread.{IsSend, IsSync};
+ghost use Rattle.qh_threads.specs.Answers.{IsAnswer, AreAnswers, ArePlaced};
+
+use crate::indices::map_indices;
+use std::alloc::{AllocError, Global};
+use std::sync::atomic::{AtomicUsize, Ordering};
+use std::thread::Threads;
+
+/// What the call at an index returned.
+#[derive(Drop)]
+struct Answer<X> {
+    index: usize,
+    value: X,
+}
+
+/// Calls `f` at the indices that it claims from `next`, until none below `count` is left.
+fn claim<X: Send + Drop, F: Fn(usize) -> X + Sync>(
+    alloc: Global,
+    next: &AtomicUsize,
+    count: usize,
+    f: &F,
+) -> Result<Vec<Answer<X>>, AllocError>
+    requires { (i : ℕ) → i < count → F.pre f.now i }
+    ensures { AreAnswers F.Fn f.now count result }
+{
+    let mut answers = Vec::new(alloc);
+    for _ in 0..count {
+        let index = next.fetch_add(1, Ordering::SeqCst);
+        if index >= count {
+            return Ok(answers);
+        }
+        answers.push(Answer {
+            index,
+            value: f(index),
+        })?;
+    }
+    Ok(answers)
+}
+
+/// Returns the slots with each value put into that of its index.
+fn place<X: Send + Drop, F: Fn(usize) -> X + Sync>(
+    answers: Vec<Answer<X>>,
+    slots: Vec<Option<X>>,
+    f: &F,
+) -> Vec<Option<X>>
+    requires answers { All (IsAnswer F.Fn f.now (length slots.items)) answers.items }
+    requires placed { ArePlaced F.Fn f.now slots.items }
+    ensures len { length result.items ≡ length slots.items }
+    ensures placed { ArePlaced F.Fn f.now result.items }
+{
+    let mut slots = slots;
+    for answer in answers {
+        let Answer { index, value } = answer;
+        if index < slots.len() {
+            slots[index] = Some(value);
+        }
+    }
+    slots
+}
+
+/// Returns an empty slot for each index below `count`.
+fn empty_slots<X: Send + Drop, F: Fn(usize) -> X + Sync>(
+    alloc: Global,
+    count: usize,
+    f: &F,
+) -> Result<Vec<Option<X>>, AllocError>
+    ensures len { IfOk result (λ v. length v.items ≡ count) }
+    ensures placed { IfOk result (λ v. ArePlaced F.Fn f.now v.items) }
+{
+    let mut slots = Vec::with_capacity(alloc, count)?;
+    for _ in 0..count {
+        slots.push_reserved(None);
+    }
+    Ok(slots)
+}
+
+/// Takes the values out of the slots, in order. The call at an index whose slot is empty is made here.
+fn values<X: Send + Drop, F: Fn(usize) -> X + Sync>(
+    alloc: Global,
+    slots: Vec<Option<X>>,
+    f: &F,
+) -> Result<Vec<X>, AllocError>
+    requires accepts { (i : ℕ) → i < length slots.items → F.pre f.now i }
+    requires placed { ArePlaced F.Fn f.now slots.items }
+    ensures len { IfOk result (λ v. length v.items ≡ length slots.items) }
+    ensures each { IfOk result (λ v. GivesEach F.Fn f.now (length slots.items) v.items) }
+{
+    let mut slots = slots;
+    let mut values = Vec::with_capacity(alloc, slots.len())?;
+    for index in 0..slots.len() {
+        let value = match slots[index].take() {
+            Some(value) => value,
+            None => f(index),
+        };
+        values.push(value)?;
+    }
+    Ok(values)
+}
+
+/// Calls `f` at each index below `count`, by at most `threads` threads, and returns the results in order.
+///
+/// The calling thread is one of them. Each thread claims the next index until none is left, so that a thread that is
+/// slower makes fewer calls. With one thread, or none, no other is started.
+///
+/// # Errors
+///
+/// `AllocError` where an allocation failed. The results are dropped then.
+pub fn map_claimed<R: Threads, X: Send + Drop, F: Fn(usize) -> X + Sync>(
+    rt: &R,
+    alloc: Global,
+    threads: usize,
+    count: usize,
+    f: &F,
+) -> Result<Vec<X>, AllocError>
+    requires { (i : ℕ) → i < count → F.pre f.now i }
+    ensures len { IfOk result (λ v. length v.items ≡ count) }
+    ensures each { IfOk result (λ v. GivesEach F.Fn f.now count v.items) }
+{
+    let next = AtomicUsize::new(0);
+    let claimed = map_indices(
+        rt,
+        alloc,
+        threads.clamp(1, count.max(1)),
+        &|_thread: usize| -> Result<Vec<Answer<X>>, AllocError>
+            requires { IsSync F.row × IsSend X.row × ((i : ℕ) → i < count → F.pre f.now i) }
+            ensures { AreAnswers F.Fn f.entry.now count result }
+        { claim(alloc, &next, count, f) },
+    )?;
+    let mut slots = empty_slots(alloc, count, f)?;
+    for answers in claimed {
+        slots = place(answers?, slots, f);
+    }
+    values(alloc, slots, f)
+}
