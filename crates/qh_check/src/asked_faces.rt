@@ -46,8 +46,7 @@ pub fn are_faces<R: Threads>(
         polygons,
         order: &order,
     };
-    let size = polygons.len() / workers.max(1) + 1;
-    let found = first_fault_in_parts(rt, alloc, set, asked, size)?;
+    let found = first_fault_in_parts(rt, alloc, set, asked, workers)?;
     match found {
         Some(_) => Ok(false),
         None => Ok(true),

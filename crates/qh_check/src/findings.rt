@@ -100,6 +100,9 @@ pub(crate) struct Asked<'a> {
     pub order: &'a [usize],
 }
 
+/// How many parts of a list there are for each thread. A thread that is slower takes fewer of them.
+const PARTS_FOR_EACH: usize = 4;
+
 /// Returns the first finding among answers.
 fn first_of(answers: &[Result<Option<Finding>, Memory>]) -> Result<Option<Finding>, Memory>
     ensures { IfOk result (λ found. MatchOption found (All (λ a. a ≡ Ok None) answers.now) (λ f. In (Ok (Some f)) answers.now)) }
@@ -112,26 +115,26 @@ fn first_of(answers: &[Result<Option<Finding>, Memory>]) -> Result<Option<Findin
     Ok(None)
 }
 
-/// Returns a polygon that is no face of the set, if there is one among those at the positions of a list, by a
-/// thread for each part of `size` positions.
+/// Returns a polygon that is no face of the set, if there is one among those at the positions of a list, by a number of
+/// threads, which claim parts of the list. No `workers` means one.
 pub(crate) fn first_fault_in_parts<R: Threads>(
     rt: &R,
     alloc: Global,
     set: PlacedSet,
     asked: Asked,
-    size: usize,
+    workers: usize,
 ) -> Result<Option<Finding>, Memory>
-    requires { 0 < size }
     ensures { IfOk result (λ found. (ids : List ℕ) → ArePlaces set.entry.pts.now ids set.entry.places.now
         → MatchOption found (All (IsFaceAmong set.entry.extent set.entry.pts.now ids asked.entry.polygons.now) asked.entry.order.now)
         (IsFound set.entry.extent set.entry.pts.now ids asked.entry.polygons.now)) }
 {
     let polygons = asked.polygons;
+    let size = asked.order.len() / workers.max(1).saturating_mul(PARTS_FOR_EACH) + 1;
     let look = move |_start: usize, part: &[usize]| -> Result<Option<Finding>, Memory>
         ensures { IfOk result (λ found. (ids : List ℕ) → ArePlaces set.entry.pts.now ids set.entry.places.now
             → MatchOption found (All (IsFaceAmong set.entry.extent set.entry.pts.now ids polygons.entry.now) part.now)
             (IsFound set.entry.extent set.entry.pts.now ids polygons.entry.now)) }
     { first_fault(alloc, set, polygons, part) };
-    let answers = map_chunks(rt, alloc, asked.order, size, &look)?;
+    let answers = map_chunks(rt, alloc, workers, asked.order, size, &look)?;
     first_of(&answers)
 }

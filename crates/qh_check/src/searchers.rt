@@ -34,7 +34,7 @@ impl Searcher for Alone {
     }
 }
 
-/// A runtime and a number of its threads, each at a part of the polygons. No `workers` means one, and for one no
+/// A runtime and a number of its threads, which claim parts of the polygons. No `workers` means one, and for one no
 /// thread is started.
 #[derive(Clone, Copy, Debug)]
 pub(crate) struct InThreads<'a, R> {
@@ -47,8 +47,7 @@ impl<R: Threads> Searcher for InThreads<'_, R> {
         if self.workers < 2 {
             return first_fault(alloc, set, asked.polygons, asked.order);
         }
-        let size = asked.order.len() / self.workers + 1;
-        first_fault_in_parts(self.rt, alloc, set, asked, size)
+        first_fault_in_parts(self.rt, alloc, set, asked, self.workers)
     }
 }
 

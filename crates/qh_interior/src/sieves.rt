@@ -14,8 +14,12 @@ use crate::regions::Region;
 use crate::rules::{SHARED_COLUMNS, SHARED_FROM};
 use qh_model::{Id, Memory};
 use qh_pred::point_at;
+use qh_threads::map_claimed;
 use std::alloc::{AllocError, Global};
 use std::thread::{self, Threads};
+
+/// How many parts of a set there are for each thread. A thread that is slower takes fewer of them.
+const PARTS_FOR_EACH: usize = 4;
 
 /// A way to make the cells of columns, and to go over the ids of a set.
 pub trait Sieve {
@@ -84,8 +88,7 @@ fn joined(
     Ok(kept)
 }
 
-/// Returns the ids that the columns don't hold, in their order, by a number of threads, each at a part of
-/// the ids.
+/// Returns the ids that the columns don't hold, in their order, by a number of threads, which claim parts of the ids.
 fn ids_outside_in_threads<R: Threads + Sync>(
     rt: &R,
     alloc: Global,
@@ -98,11 +101,13 @@ fn ids_outside_in_threads<R: Threads + Sync>(
     if threads < 2 || set.ids.len() < SHARED_FROM {
         return ids_outside(alloc, set, columns);
     }
-    let size = set.ids.len() / threads + 1;
-    let parts = thread::map_indices(
+    let count = threads.saturating_mul(PARTS_FOR_EACH);
+    let size = set.ids.len() / count + 1;
+    let parts = map_claimed(
         rt,
         alloc,
         threads,
+        count,
         &move |number: usize| -> Result<Vec<Id>, AllocError>
             ensures { IfOk result (λ v. KeepsExtremes set.entry.pts.now (HoldsPoint columns.entry.now)
                 (take size (drop (number * size) set.entry.ids.now)) v.items) }

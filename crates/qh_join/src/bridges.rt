@@ -273,6 +273,9 @@ fn are_all(answers: &[Result<bool, Memory>]) -> Result<bool, Memory>
     Ok(true)
 }
 
+/// How many parts of the bridges there are for each thread. A thread that is slower takes fewer of them.
+const PARTS_FOR_EACH: usize = 4;
+
 /// Returns true if each of some polygons is a face of what is kept of a set, by a number of threads. No `workers`
 /// means one.
 pub(crate) fn are_bridges<R: Threads>(
@@ -293,7 +296,7 @@ pub(crate) fn are_bridges<R: Threads>(
         ensures { IfOk result (λ yes. IsTrue yes → All
             (IsBridge set.entry.pts.now set.entry.parts.now set.entry.shared.now) part.now) }
     { are_faces(alloc, set, part) };
-    let size = bridges.len() / workers.max(1) + 1;
-    let answers = map_chunks(rt, alloc, bridges, size, &look)?;
+    let size = bridges.len() / workers.max(1).saturating_mul(PARTS_FOR_EACH) + 1;
+    let answers = map_chunks(rt, alloc, workers, bridges, size, &look)?;
     are_all(&answers)
 }

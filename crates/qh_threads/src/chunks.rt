@@ -2,7 +2,7 @@
 ghost use Rattle.std.specs.Prelude.{◌≡◌, ◌+◌, ◌*◌, ◌/◌, ◌%◌, ◌<◌, ℕ, IfOk, length, min};
 ghost use Rattle.std.specs.Fork.{AcceptsChunks, GivesChunk, GivesChunks, IsChunk};
 
-use crate::indices::map_indices;
+use crate::claimed::map_claimed;
 use std::alloc::{AllocError, Global};
 use std::thread::Threads;
 
@@ -27,8 +27,8 @@ fn chunk_at<T>(s: &[T], size: usize, number: usize) -> &[T]
     chunk
 }
 
-/// Calls `f` at each chunk of `size` elements and the index at which it begins, as [`map_indices`] calls a closure
-/// at indices.
+/// Calls `f` at each chunk of `size` elements and the index at which it begins, by at most `threads` threads, as
+/// [`map_claimed`] calls a closure at indices.
 ///
 /// # Errors
 ///
@@ -36,6 +36,7 @@ fn chunk_at<T>(s: &[T], size: usize, number: usize) -> &[T]
 pub fn map_chunks<R: Threads, T: Sync, X: Send + Drop, F: Fn(usize, &[T]) -> X + Sync>(
     rt: &R,
     alloc: Global,
+    threads: usize,
     s: &[T],
     size: usize,
     f: &F,
@@ -49,5 +50,5 @@ pub fn map_chunks<R: Threads, T: Sync, X: Send + Drop, F: Fn(usize, &[T]) -> X +
         requires { (0 < size) × (number * size < length s.now) × AcceptsChunks F.Fn f.now size s.now }
         ensures { GivesChunk F.Fn f.entry.now size s.entry.now number result }
     { f(number * size, chunk_at(s, size, number)) };
-    map_indices(rt, alloc, chunk_count(s.len(), size), &part)
+    map_claimed(rt, alloc, threads, chunk_count(s.len(), size), &part)
 }

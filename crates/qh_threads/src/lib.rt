@@ -1,7 +1,8 @@
-//! Calls of one closure, each in a thread of its own.
+//! Calls of one closure by threads.
 //!
 //! [`map_indices`] and [`map_chunks`] have the contracts of std's functions of these names. They ask less of
-//! the runtime: no thread starts another one, so the runtime is not shared with them.
+//! the runtime: no thread starts another one, so the runtime is not shared with them. The first has a thread for each
+//! call; in the second, as in [`map_claimed`], a number of threads claim the calls one after the other.
 #![tactic(auto)]
 
 mod chunks;

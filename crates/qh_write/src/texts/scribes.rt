@@ -14,11 +14,15 @@ use super::off::push_vertices;
 use super::room::{room_for, vertices_room};
 use crate::pieces::Pieces;
 use qh_model::{Body, Id, Out, Point, Polygon};
+use qh_threads::map_claimed;
 use std::alloc::{AllocError, Global};
-use std::thread::{self, Threads};
+use std::thread::Threads;
 
 /// Threads share the lines of at least this many vertices or faces.
 const SHARED_FROM: usize = 16_384;
+
+/// How many parts of a text there are for each thread. A thread that is slower takes fewer of them.
+const PARTS_FOR_EACH: usize = 4;
 
 /// The vertices of a text.
 #[derive(Clone, Copy)]
@@ -155,7 +159,7 @@ impl<R> InThreads<'_, R> {
     }
 }
 
-/// Appends the points of vertices by a number of threads, each at a part of them.
+/// Appends the points of vertices by a number of threads, which claim parts of them.
 fn push_vertices_in_threads<R: Threads + Sync>(
     scribe: &InThreads<'_, R>,
     text: &mut Pieces,
@@ -167,12 +171,13 @@ fn push_vertices_in_threads<R: Threads + Sync>(
         ++ flat_map (λ i. vertex_text (place vertices.entry.pts.now i)) vertices.entry.ids.now) }
 {
     let Vertices { pts, ids } = vertices;
-    let threads = scribe.threads.max(1);
-    let size = ids.len() / threads + 1;
-    let parts = thread::map_indices(
+    let count = scribe.threads.max(1).saturating_mul(PARTS_FOR_EACH);
+    let size = ids.len() / count + 1;
+    let parts = map_claimed(
         scribe.rt,
         alloc,
-        threads,
+        scribe.threads,
+        count,
         &move |number: usize| -> Result<Vec<u8>, AllocError>
             requires { All (λ i. i < length pts.now) ids.now }
             ensures { IfOk result (λ t. t.items ≡ flat_map (λ i. vertex_text (place pts.entry.now i)) (take size (drop (number * size) ids.entry.now))) }
@@ -181,7 +186,7 @@ fn push_vertices_in_threads<R: Threads + Sync>(
     text.append_parts(alloc, parts)
 }
 
-/// Appends faces by a number of threads, each at a part of them.
+/// Appends faces by a number of threads, which claim parts of them.
 fn push_faces_in_threads<R: Threads + Sync>(
     scribe: &InThreads<'_, R>,
     text: &mut Pieces,
@@ -197,12 +202,13 @@ fn push_faces_in_threads<R: Threads + Sync>(
         numbers,
         polygons,
     } = faces;
-    let threads = scribe.threads.max(1);
-    let size = polygons.len() / threads + 1;
-    let parts = thread::map_indices(
+    let count = scribe.threads.max(1).saturating_mul(PARTS_FOR_EACH);
+    let size = polygons.len() / count + 1;
+    let parts = map_claimed(
         scribe.rt,
         alloc,
-        threads,
+        scribe.threads,
+        count,
         &move |number: usize| -> Result<Vec<u8>, AllocError>
             requires { All (AreNumbered numbers.now) polygons.now }
             ensures { IfOk result (λ t. t.items ≡ flat_map (face_by_numbers numbers.entry.now)
