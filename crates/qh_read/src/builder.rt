@@ -173,7 +173,7 @@ impl Builder {
     }
 
     /// Takes the points that come next, as far as they are expected and there is room. Returns the place after
-    /// them and the separators behind them.
+    /// them.
     pub fn take_points<'a>(&mut self, from: Cursor<'a>) -> Cursor<'a>
         ensures held { (form : Form) (base : ℕ) → held_from form (shown self.old) base from.entry
             ≡ held_from form (shown self.new) base result }

@@ -88,7 +88,7 @@ impl<'a> Cursor<'a> {
         Some((signed_coordinate(sign, magnitude), after))
     }
 
-    /// Skips the separators that come next. Returns nothing if fewer than `count` bytes are left then.
+    /// Skips the separators that come next. Returns nothing if fewer than `count` bytes are left after them.
     #[inline(always)]
     fn before_word(self, count: usize) -> Option<Cursor<'a>>
         requires some { 0 < count }
@@ -106,7 +106,7 @@ impl<'a> Cursor<'a> {
         Some(word)
     }
 
-    /// Takes three numbers, if that many bytes are left that no number can pass the end.
+    /// Takes three numbers. Returns nothing if numbers of the greatest length could pass the end of the text.
     #[inline(always)]
     fn next_point(self) -> Option<(Coordinate, Coordinate, Coordinate, Cursor<'a>)>
         ensures { IfSome result (λ r. ArePoint self.entry r.0.value r.1.value r.2.value r.3) }
@@ -122,8 +122,7 @@ impl<'a> Cursor<'a> {
         Some((x, y, z, after_z))
     }
 
-    /// Pushes the points that come next, until the vector has `limit` points. Returns the place after them and the
-    /// separators behind them.
+    /// Pushes the points that come next, until the vector has `limit` points. Returns the place after them.
     pub fn push_points(self, points: &mut Vec<Point>, limit: usize) -> Cursor<'a>
         requires fewer { vec_len points.old ≤ limit }
         requires room { limit ≤ vec_capacity points.old }

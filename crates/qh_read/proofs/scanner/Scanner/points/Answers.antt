@@ -1,5 +1,5 @@
 use Rattle.qh_read.proofs.scanner.Scanner.points.Goals as goal
-use Rattle.std.proofs.{Common.arith, Common.◌≡◌, Common.◌∙◌, Common.ℕ, Common.Bool, Common.List, Common.ap, Common.sym, lemmas.Grind.common_steps}
+use Rattle.std.proofs.{Common.arith, Common.◌≡◌, Common.◌∙◌, Common.ℕ, Common.Bool, Common.List, Common.false, Common.ap, Common.sym, lemmas.Grind.common_steps}
 use Rattle.qh_read.specs.contract.{Holding.held_by, Progress.Progress}
 use Rattle.qh_read.specs.declared.{cursor.Cursor.Cursor, token.Token.Token, token.Token.TheVariants.Empty}
 use Rattle.qh_read.specs.steps.{Building.shown, Cursors.ahead, Numbers.quiet}
@@ -12,7 +12,7 @@ returns-clause-held c =
     let old : Progress = shown was.builder in
     let new : Progress = shown c.take_points-cursor.new.self in
     let cursor : Cursor = c.take_points-cursor.result in
-    let quieted = c.if-self.false in
+    let quieted : was.comment ≡ false = grind (arith, common_steps) in
     let empty : c.args.token ≡ Empty = grind (arith, common_steps) in
     ap (λ (u : List ℕ). held_by (record (quiet form new cursor.line c.args.token) { comment = was.comment }) u) c.rest.ensures
     ∙ ap (λ (t : Token). held_by (record (quiet form new cursor.line t) { comment = was.comment }) (ahead cursor)) empty
