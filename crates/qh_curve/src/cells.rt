@@ -3,7 +3,7 @@
 //!
 //! Source: Skilling 2004 (Hilbert's order from places, by exchanges and turns of their bits).
 use qh_model::Point;
-use qh_surface::Axes;
+use qh_surface::{Axes, morton_number};
 use std::alloc::{AllocError, Global};
 
 /// The bits of a place along an axis. Three of them fit a cell's number.
@@ -35,14 +35,6 @@ pub(crate) struct Cells {
     turned: Vec<u32>,
 }
 
-/// Returns the lowest 10 bits of a number, each with two zeros before it.
-fn spread(number: u32) -> u32 {
-    let bytes = (number | number << 16) & 0x0300_00ff;
-    let nibbles = (bytes | bytes << 8) & 0x0300_f00f;
-    let pairs = (nibbles | nibbles << 4) & 0x030c_30c3;
-    (pairs | pairs << 2) & 0x0924_9249
-}
-
 impl Cell {
     /// Returns the cell of a point.
     pub fn of(axes: &Axes, point: Point) -> Cell {
@@ -50,9 +42,9 @@ impl Cell {
         Cell { x, y, z }
     }
 
-    /// Returns the number in Morton's order: the bits of the places, taken in turn.
+    /// Returns the number in Morton's order.
     pub fn interleaved(self) -> u32 {
-        spread(self.x) << 2 | spread(self.y) << 1 | spread(self.z)
+        morton_number(self.x, self.y, self.z)
     }
 
     /// Returns the cell after the turns that a bit of its places asks for. `below` has the bits

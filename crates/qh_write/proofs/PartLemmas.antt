@@ -1,5 +1,5 @@
 -- A text of a list, made part by part.
-use Rattle.std.proofs.Common.{◌≡◌, ◌∙◌, ℕ, suc, ◌+◌, ◌*◌, ◌<◌, ◌≤◌, List, [], ◌∷◌, ◌++◌, length, map, arith, ap, ap₂, sym, subst, take, drop, get_or, Ok}
+use Rattle.std.proofs.Common.{◌≡◌, ◌∙◌, ℕ, suc, ◌+◌, ◌*◌, ◌<◌, ◌≤◌, List, [], ◌∷◌, ◌++◌, length, arith, ap, ap₂, sym, subst, take, drop, get_or, Ok}
 use Rattle.std.proofs.Common.{Result, Vec, Global, take-append-drop, length-drop}
 use Rattle.std.proofs.{Math.ListN.get_or-map, Math.ListN.length-map, lemmas.List.drop-drop}
 use Rattle.std.specs.{Prelude.IfOk, declared.alloc.AllocError.AllocError}

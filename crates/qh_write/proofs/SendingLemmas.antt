@@ -1,6 +1,6 @@
 -- What has gone out through a sink after some of the bytes.
-use Rattle.std.proofs.Common.{◌≡◌, ◌∙◌, ℕ, suc, ◌+◌, ◌-◌, ◌<◌, ◌≤◌, List, [], ◌∷◌, ◌++◌, length, take, drop, get_or, Vec, Global, ap, arith, sym, append_assoc}
-use Rattle.std.proofs.Common.{append-nil, length-append, subst, take_all}
+use Rattle.std.proofs.Common.{◌≡◌, ◌∙◌, ℕ, suc, ◌+◌, ◌-◌, ◌<◌, ◌≤◌, List, ◌∷◌, ◌++◌, length, take, drop, get_or, Vec, Global, ap, arith, sym, append_assoc}
+use Rattle.std.proofs.Common.{length-append, subst, take_all}
 use Rattle.std.proofs.{KnownBytes.Appends-trans, Math.Seq.drop-cons, Math.Seq.take-append-add, lemmas.Grind.flat_map-append}
 use Rattle.std.proofs.lemmas.List.{take-append-drop, take-append-le, take_rest, length-drop, length-take-le}
 use Rattle.std.specs.{Io.KnownBytes.Appends, Io.KnownBytes.Keeps, Prelude.Option, Prelude.Some, Prelude.None}

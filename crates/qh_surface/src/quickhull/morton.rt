@@ -2,12 +2,11 @@
 //!
 //! A run reads the points of a facet one after the other, and then those of its neighbours. Where they
 //! also lie together in memory, a large run seldom waits for it. No answer depends on the order.
-//!
-//! Source: Morton 1966 (the order of cells along a Z-shaped curve).
 ghost use Rattle.std.specs.Prelude.{◌≡◌, IfOk, map, IsPermutation};
 ghost use Rattle.qh_model.specs.contract.IdSets.{AreIndices};
 ghost use Rattle.qh_keys.specs.contract.Halves.{low_of};
 
+use crate::cell_numbers::morton_number;
 use qh_keys::Packed;
 use qh_model::{Id, Memory, Point};
 use qh_pred::point_at;
@@ -22,14 +21,6 @@ const PLACE_BITS: u32 = 10;
 struct Cells {
     least: Point,
     width_bits: u32,
-}
-
-/// Returns the lowest 10 bits of a number, each with two zeros before it.
-fn spread(number: u32) -> u32 {
-    let bytes = (number | number << 16) & 0x0300_00ff;
-    let nibbles = (bytes | bytes << 8) & 0x0300_f00f;
-    let pairs = (nibbles | nibbles << 4) & 0x030c_30c3;
-    (pairs | pairs << 2) & 0x0924_9249
 }
 
 impl Cells {
@@ -55,12 +46,12 @@ impl Cells {
         coordinate.abs_diff(least).wrapping_shr(self.width_bits)
     }
 
-    /// Returns the number of a point's cell: the bits of its places, taken in turn.
+    /// Returns the number of a point's cell in Morton order.
     fn number(&self, point: Point) -> u32 {
-        let x = spread(self.place(point.x(), self.least.x()));
-        let y = spread(self.place(point.y(), self.least.y()));
-        let z = spread(self.place(point.z(), self.least.z()));
-        x << 2 | y << 1 | z
+        let x = self.place(point.x(), self.least.x());
+        let y = self.place(point.y(), self.least.y());
+        let z = self.place(point.z(), self.least.z());
+        morton_number(x, y, z)
     }
 }
 

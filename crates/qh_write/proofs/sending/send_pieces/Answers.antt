@@ -3,7 +3,7 @@ use Rattle.qh_write.proofs.sending.send_pieces.Goals as goal
 use Rattle.std.proofs.Common.{◌≡◌, ◌∙◌, ◌<◌, ◌≤◌, ◌++◌, [], suc, List, length, take, drop, get_or, Vec, Global, Result, Ok, Err, ap, ap₂, sym, subst}
 use Rattle.std.proofs.{Common.append-nil, Common.take_all, KnownBytes.Appends-trans, lemmas.Result.err_from_is_err_and}
 use Rattle.std.specs.{Io.KnownBytes.Appends, Prelude.ℕ, Prelude.OnErr}
-use Rattle.qh_write.specs.contract.Pieces.{bytes_of, bytes_in}
+use Rattle.qh_write.specs.contract.Pieces.{bytes_of}
 use Rattle.qh_write.proofs.SendingLemmas.{beginning_after, beginning_kept, piece_among}
 
 -- in one of the pieces

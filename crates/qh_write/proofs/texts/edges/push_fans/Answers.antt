@@ -1,7 +1,7 @@
 use Rattle.qh_write.proofs.texts.edges.push_fans.Goals as goal
 use Rattle.std.proofs.{Common.subst, lemmas.List.drop_all}
-use Rattle.qh_model.specs.headline.Fan.{fan, fans}
-use Rattle.qh_write.specs.steps.EdgeKeys.{AddsPairs, Completes, pairs_of}
+use Rattle.qh_model.specs.headline.Fan.{fans}
+use Rattle.qh_write.specs.steps.EdgeKeys.{Completes, pairs_of}
 use Rattle.qh_write.proofs.EdgeKeyLemmas.{adds_none, completes_more, fans_left}
 
 pub loop-face-preserved : goal.loop-face-preserved

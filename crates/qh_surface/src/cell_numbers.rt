@@ -1,0 +1,21 @@
+//! The numbers of cells in Morton order.
+//!
+//! Source: Morton 1966 (the order of cells along a Z-shaped curve).
+
+/// Returns the lowest 10 bits of a number, each with two zeros before it.
+#[inline]
+fn spread(number: u32) -> u32 {
+    let bytes = (number | number << 16) & 0x0300_00ff;
+    let nibbles = (bytes | bytes << 8) & 0x0300_f00f;
+    let pairs = (nibbles | nibbles << 4) & 0x030c_30c3;
+    (pairs | pairs << 2) & 0x0924_9249
+}
+
+/// Returns the number of a cell in Morton order: the bits of its places along the three axes, taken in turn, the highest of
+/// `x` first. Of each place the lowest 10 bits are taken.
+///
+/// No answer depends on it, so nothing is proved of it.
+#[inline]
+pub fn morton_number(x: u32, y: u32, z: u32) -> u32 {
+    spread(x) << 2 | spread(y) << 1 | spread(z)
+}
