@@ -12,7 +12,8 @@ returns g c =
     let lines : List (List ℕ) → List ℕ = λ qs. flat_map line_of (shown form qs) in
     let size = length faces / c.saturating_mul-count.result + 1 in let parts = c.in_ok-parts.parts in
     let len : length parts.items ≡ c.saturating_mul-count.result = omega (arith, c.in_ok-parts.ensures.len) in
-    let all : length faces ≤ length parts.items * size = omega (arith, c.saturating_mul-count.ensures, c.max.ensures, ap (λ n. n * (length faces / c.saturating_mul-count.result)) len) in
+    let all : length faces ≤ length parts.items * size =
+    omega (arith, c.saturating_mul-count.ensures, c.max.ensures, ap (λ n. n * (length faces / c.saturating_mul-count.result)) len) in
     let each : (i : ℕ) (d : Result (Vec ℕ Global) AllocError) → i < length parts.items
     → IfOk (get_or parts.items i d) (λ t. t.items ≡ lines (take size (drop (i * size) faces))) = search rules in
     on_ok_weaker c.append_parts.result (λ told. told (lines faces) (parts_of_list lines (ap (flat_map line_of) (shown_none form))

@@ -12,7 +12,8 @@ returns g c =
     let line_of : ℕ → List ℕ = λ i. vertex_text (place c.args.vertices.pts.now i) in
     let size = length ids / c.saturating_mul-count.result + 1 in let parts = c.in_ok-parts.parts in
     let len : length parts.items ≡ c.saturating_mul-count.result = omega (arith, c.in_ok-parts.ensures.len) in
-    let all : length ids ≤ length parts.items * size = omega (arith, c.saturating_mul-count.ensures, c.max.ensures, ap (λ n. n * (length ids / c.saturating_mul-count.result)) len) in
+    let all : length ids ≤ length parts.items * size =
+    omega (arith, c.saturating_mul-count.ensures, c.max.ensures, ap (λ n. n * (length ids / c.saturating_mul-count.result)) len) in
     let each : (i : ℕ) (d : Result (Vec ℕ Global) AllocError) → i < length parts.items
     → IfOk (get_or parts.items i d) (λ t. t.items ≡ flat_map line_of (take size (drop (i * size) ids))) = search rules in
     on_ok_weaker c.append_parts.result (λ told. told (flat_map line_of ids)
