@@ -113,41 +113,52 @@ pub fn shown(alloc: Global, bytes: &[u8]) -> Result<Outcome, AllocError> {
     })
 }
 
-/// Returns the outcome of `answer`, watched by a gate.
-///
-/// # Errors
-///
-/// `AllocError` if the outcome itself cannot be allocated.
-pub fn answered_by<R: Threads + Sync, G: Gate>(
-    rt: &R,
-    alloc: Global,
-    input: &[u8],
-    settings: &Settings,
-    gate: &G,
-) -> Result<Outcome, AllocError> {
-    match answer(rt, alloc, input, settings, gate) {
-        Ok(text) => shown(alloc, &text),
-        Err(fault) => refusal(alloc, &fault),
-    }
+/// A call of `answer` or `serve`, watched by a gate.
+#[derive(Clone, Copy, Drop)]
+pub struct Call<'a, G> {
+    input: &'a [u8],
+    settings: &'a Settings,
+    gate: &'a G,
 }
 
-/// Returns the outcome of `serve` between memory devices, watched by a gate.
-///
-/// # Errors
-///
-/// `AllocError` if the outcome itself cannot be allocated.
-pub fn served_by<R: Threads + Sync, G: Gate>(
-    rt: &R,
-    alloc: Global,
-    input: &[u8],
-    settings: &Settings,
-    gate: &G,
-) -> Result<Outcome, AllocError> {
-    let mut source = MemSource::new(input);
-    let mut sink = MemSink::new(alloc);
-    match serve(rt, alloc, &mut source, &mut sink, settings, gate) {
-        Ok(()) => shown(alloc, sink.bytes()),
-        Err(fault) => refusal(alloc, &fault),
+impl<'a, G: Gate> Call<'a, G> {
+    /// Returns the call for the bytes of an input under settings, whose workers a gate watches.
+    pub fn new(input: &'a [u8], settings: &'a Settings, gate: &'a G) -> Call<'a, G> {
+        Call {
+            input,
+            settings,
+            gate,
+        }
+    }
+
+    /// Returns the outcome of `answer`.
+    ///
+    /// # Errors
+    ///
+    /// `AllocError` if the outcome itself cannot be allocated.
+    pub fn answered<R: Threads + Sync>(
+        &self,
+        rt: &R,
+        alloc: Global,
+    ) -> Result<Outcome, AllocError> {
+        match answer(rt, alloc, self.input, self.settings, self.gate) {
+            Ok(text) => shown(alloc, &text),
+            Err(fault) => refusal(alloc, &fault),
+        }
+    }
+
+    /// Returns the outcome of `serve` between memory devices.
+    ///
+    /// # Errors
+    ///
+    /// `AllocError` if the outcome itself cannot be allocated.
+    pub fn served<R: Threads + Sync>(&self, rt: &R, alloc: Global) -> Result<Outcome, AllocError> {
+        let mut source = MemSource::new(self.input);
+        let mut sink = MemSink::new(alloc);
+        match serve(rt, alloc, &mut source, &mut sink, self.settings, self.gate) {
+            Ok(()) => shown(alloc, sink.bytes()),
+            Err(fault) => refusal(alloc, &fault),
+        }
     }
 }
 

@@ -12,7 +12,7 @@ mod refusals;
 mod rows;
 mod solids;
 
-use qh_outcomes::{Asked, Told, answered_by, served_by};
+use qh_outcomes::{Asked, Call, Told};
 use qh_run::NoGate;
 use std::process::Abort;
 use std::test::Fail;
@@ -31,7 +31,7 @@ fn assert_answered<R: AllocGlobal + Abort + Threads + Sync>(
     want: Told,
 ) -> Result<(), Fail> {
     let settings = asked.settings(rt.alloc())?;
-    let answered = answered_by(rt, rt.alloc(), input, &settings, &NoGate)?;
+    let answered = Call::new(input, &settings, &NoGate).answered(rt, rt.alloc())?;
     let begins = beginning(input);
     assert_eq!(rt; answered.told(), want, "answer at {asked:?}: {begins:?}");
     Ok(())
@@ -46,7 +46,7 @@ fn assert_gives<R: AllocGlobal + Abort + Threads + Sync>(
 ) -> Result<(), Fail> {
     assert_answered(rt, asked, input, want)?;
     let settings = asked.settings(rt.alloc())?;
-    let served = served_by(rt, rt.alloc(), input, &settings, &NoGate)?;
+    let served = Call::new(input, &settings, &NoGate).served(rt, rt.alloc())?;
     let begins = beginning(input);
     assert_eq!(rt; served.told(), want, "serve at {asked:?}: {begins:?}");
     Ok(())

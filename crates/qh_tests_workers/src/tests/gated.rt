@@ -9,7 +9,7 @@ ghost use Rattle.qh_model.specs.declared.limits.TheConstants.{POINT_LIMIT};
 use qh_fixtures::files::{OCTAHEDRON, OCTAHEDRON_OFF};
 use qh_fixtures::points::octahedron;
 use qh_model::{Body, Cut, Id, Memory, Point};
-use qh_outcomes::{Asked, OFF, Outcome, answered_by, refusal, served_by, shown};
+use qh_outcomes::{Asked, Call, OFF, Outcome, refusal, shown};
 use qh_plane::distinct;
 use qh_read::ReadFault;
 use qh_run::{Gate, NoGate, RunError, run_hull};
@@ -173,11 +173,11 @@ pub(super) fn outcome_by<R: AllocGlobal + Threads + Sync, G: Gate>(
     gate: &G,
 ) -> Result<Outcome, Fail> {
     let settings = asked.settings(rt.alloc())?;
-    let input = OCTAHEDRON.as_bytes();
+    let call = Call::new(OCTAHEDRON.as_bytes(), &settings, gate);
     match watched {
         Watched::RunHull => hulled_by(rt, rt.alloc(), &settings, gate),
-        Watched::Answer => Ok(answered_by(rt, rt.alloc(), input, &settings, gate)?),
-        Watched::Serve => Ok(served_by(rt, rt.alloc(), input, &settings, gate)?),
+        Watched::Answer => Ok(call.answered(rt, rt.alloc())?),
+        Watched::Serve => Ok(call.served(rt, rt.alloc())?),
     }
 }
 

@@ -2,7 +2,7 @@
 use super::paraboloid::{asked_in, points};
 use super::stored_points::STORED;
 use qh_model::{Body, Id, Memory, Point};
-use qh_outcomes::{Asked, answered_by};
+use qh_outcomes::{Asked, Call};
 use qh_run::{Gate, NoGate};
 use std::alloc::{AllocError, Global};
 use std::sync::atomic::{AtomicU64, Ordering};
@@ -65,7 +65,7 @@ fn joins_of<R: AllocGlobal + Threads + Sync>(
 ) -> Result<u64, Fail> {
     let gate = Joins::of(rt.alloc(), blocks)?;
     let settings = asked.settings(rt.alloc())?;
-    let outcome = answered_by(rt, rt.alloc(), input, &settings, &gate)?;
+    let outcome = Call::new(input, &settings, &gate).answered(rt, rt.alloc())?;
     if outcome.status != 0 {
         return Err("the run answers".into());
     }

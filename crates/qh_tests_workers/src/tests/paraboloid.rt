@@ -1,6 +1,6 @@
 //! The 20,000 points of a paraboloid, all of them extreme, in four settings, and 60,000 whose hull is taken by
 //! threads.
-use qh_outcomes::{Asked, OFFT, Outcome, SUMMARY, answered_by, push_point};
+use qh_outcomes::{Asked, Call, OFFT, Outcome, SUMMARY, push_point};
 use qh_run::{Gate, NoGate};
 use qh_serve::Threaded;
 use qh_write::Out;
@@ -52,7 +52,7 @@ fn outcome_of<R: AllocGlobal + Threads + Sync, G: Gate>(
     gate: &G,
 ) -> Result<Outcome, Fail> {
     let settings = asked.settings(rt.alloc())?;
-    Ok(answered_by(rt, rt.alloc(), input, &settings, gate)?)
+    Ok(Call::new(input, &settings, gate).answered(rt, rt.alloc())?)
 }
 
 /// Asserts that the text of an input in a way is another one.
