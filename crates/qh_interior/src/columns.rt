@@ -27,7 +27,9 @@ pub struct Columns {
 /// Planes, and the grid of the columns whose cells lie between them.
 #[derive(Clone, Copy, Drop)]
 pub struct Plan<'a> {
+    /// The planes between which the cells lie.
     pub planes: &'a [CoarsePlane],
+    /// The grid of the columns.
     pub grid: &'a Grid,
     /// Along each axis the grid has 2 to this power of columns.
     pub side_bits: u32,
