@@ -1,11 +1,9 @@
 //! The extreme ids and the hull of a set, in every dimension.
-ghost use Rattle.std.specs.Prelude.{◌<◌, ℕ, IfOk, IfSome, length};
-ghost use Rattle.std.specs.List.Sorted.{IsStrictlyIncreasing};
+ghost use Rattle.std.specs.Prelude.{◌<◌, IfOk, length};
 ghost use Rattle.qh_model.specs.contract.IdSets.{IsIdSet};
 ghost use Rattle.qh_model.specs.headline.Hull.{AreExtremes, IsBody};
 ghost use Rattle.qh_model.specs.headline.Predicates.{place};
-ghost use Rattle.qh_model.specs.headline.Extreme.{Extreme};
-ghost use Rattle.qh_model.specs.headline.Sets.{In, Members};
+ghost use Rattle.qh_model.specs.headline.Sets.{Members};
 ghost use Rattle.qh_model.specs.contract.IdSets.{AreIndices};
 ghost use Rattle.qh_block.specs.steps.IdSets.{AreExtremesOf, IsHullOf};
 

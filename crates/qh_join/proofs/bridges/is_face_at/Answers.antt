@@ -24,13 +24,14 @@ returns c = λ yes kept keeps distinct.
     let has_i = rw c.deref.ensures.value at (c.is_in.ensures.i c.if-not-is_in.false) in
     let has_j = rw c.deref.ensures.value at (c.is_in.ensures.j c.if-not-is_in.false) in
     let has_k = rw c.deref.ensures.value at (c.is_in.ensures.k c.if-not-is_in.false) in
+    let alike : c.ids.result.now ≡ c.ids-2.result.now = same_text _ _ (sym yes ∙ c.eq.ensures) in
     let area = λ (e : AreInLine (place pts _) (place pts _) (place pts _)).
     (let w = c.in_line.ensures.1 (rw (x, y, z) e) in let n = c.if-in_line.false in false_true w n) in (
       c.args.three.i,
       c.args.three.j,
       c.args.three.k,
       triple pts kept c.through-plane.result _ level _ _ _ told area has_i has_j has_k,
-      subst (IsFacePolygon (place pts) (Members kept) _ _ _) (rw (c.ids.ensures, c.ids-2.ensures) at (same_text _ _ (sym yes ∙ c.eq.ensures)))
+      subst (IsFacePolygon (place pts) (Members kept) _ _ _) (rw (c.ids.ensures, c.ids-2.ensures) at alike)
           (face pts kept c.through-plane.result _ level _ _ _ told area has_i has_j has_k rising distinct _ made),
     )
   where
