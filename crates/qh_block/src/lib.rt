@@ -29,7 +29,7 @@ mod solid_edges;
 mod solids;
 mod unsorted_faces;
 
-pub use blocking::{BLOCK_ALONE, TELLING, WHOLE_ALONE, are_few, block_size, tree_pays};
+pub use blocking::{BLOCK_ALONE, LEAST_LEFT, TELLING, WHOLE_ALONE, are_few, block_size, tree_pays};
 pub use faces::{PartedFaces, parted_faces};
 pub use hulls::{extremes, extremes_unculled, hull};
 pub use qh_interior::cull_interior;

@@ -13,7 +13,7 @@ use std::thread;
 use std::thread::Threads;
 
 /// Fewer bytes are parsed by the calling thread, which takes less time than the start of others.
-const SHARED_FROM: usize = 393_216;
+const SHARED_FROM: usize = 196_608;
 
 /// Creates `count` empty segments, each with room for the points of `bytes` bytes.
 pub fn new_segments(alloc: Global, count: usize, bytes: usize) -> Result<Vec<Segment>, AllocError>

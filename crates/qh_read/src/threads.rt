@@ -22,7 +22,7 @@ use std::thread::{Threads, join_mut};
 const START_LENGTH: u32 = 655_360;
 
 /// The number of bytes of a batch: few enough for the caches, and enough to pay for the threads that start.
-const BATCH_LENGTH: usize = 1048576;
+const BATCH_LENGTH: usize = 524288;
 
 /// The most segments of a batch. More do not pay, since the calling thread takes as long for its own part.
 const SEGMENT_LIMIT: usize = 3;

@@ -4,7 +4,7 @@ ghost use Rattle.qh_model.specs.contract.Cut.{positions};
 ghost use Rattle.qh_run.specs.steps.Parts.{StandsFor};
 
 use crate::job::Job;
-use qh_block::cull_interior;
+use qh_block::{LEAST_LEFT, cull_interior};
 use qh_model::{Cut, Id, Memory};
 use std::alloc::{AllocError, Global};
 use std::thread::Threads;
@@ -14,13 +14,13 @@ use std::thread::Threads;
 pub(crate) struct Filtered {
     /// The ids that are left, rising.
     pub ids: Vec<Id>,
-    /// The job's blocks without the ids that were removed, empty blocks left out.
+    /// The job's blocks without the ids that were removed. A block with few ids left is joined to those after it.
     pub cut: Cut,
     ghost whole: { positions cut ≡ length ids.items },
 }
 
-/// Returns where the blocks of a job begin among the ids that are left of its own, empty blocks left out, and the
-/// end of the last.
+/// Returns where the blocks of a job begin among the ids that are left of its own, and the end of the last. A block with
+/// fewer than `LEAST_LEFT` ids is joined to those after it.
 fn bounds_among(alloc: Global, job: &Job, left: &[Id]) -> Result<Vec<u32>, AllocError>
     requires some { 0 < length left.now }
     requires few { length left.now ≤ positions job.now.cut.now }
@@ -33,7 +33,7 @@ fn bounds_among(alloc: Global, job: &Job, left: &[Id]) -> Result<Vec<u32>, Alloc
         let (from, _) = job.cut.block(block);
         let first = job.ids[from as usize];
         let at = left.partition_point(|id| *id < first);
-        if at > last && at < left.len() {
+        if at.saturating_sub(last) >= LEAST_LEFT && at < left.len() {
             bounds.push(at as u32)?;
             last = at;
         }

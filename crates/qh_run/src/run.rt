@@ -66,7 +66,7 @@ fn finished<G: Gate>(
 /// conditions.
 ///
 /// The calling thread filters a large set first: it removes points that it finds inside from the
-/// blocks, and leaves out the blocks that are empty then (`qh_block::cull_interior`). The workers share the
+/// blocks (`qh_block::cull_interior`), and joins a block with few ids left to those after it. The workers share the
 /// blocks, no more workers than blocks, and the gate learns of each. Then the calling thread calls the
 /// gate's `finish` once: with the extreme ids that came out of all blocks; where a worker gave up, with
 /// the ids that the filter left; where an allocation for the filter, the board or a thread failed, with all
