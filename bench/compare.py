@@ -16,7 +16,7 @@ import sys
 import tempfile
 import time
 
-FAMILIES = ["ball", "cube", "cube-surface", "flat", "grid", "line", "paraboloid", "sphere"]
+FAMILIES = ["ball", "cube", "cube-surface", "flat", "grid", "line", "paraboloid", "paraboloid-in-rows", "sphere"]
 
 sys.path.insert(0, os.path.join(os.path.dirname(os.path.dirname(os.path.abspath(__file__))), "scripts"))
 from lib.paths import PROGRAM  # noqa: E402

@@ -38,11 +38,16 @@ def ball(rng, n):
     return points
 
 
-def paraboloid(rng, n):
-    """(x, y, x^2 + y^2) around 0, shuffled: all are extreme."""
+def paraboloid_in_rows(_rng, n):
+    """(x, y, x^2 + y^2) around 0, row by row: all are extreme."""
     side = math.isqrt(n)
     low = -(side // 2)
-    points = [(x, y, x * x + y * y) for x in range(low, low + side) for y in range(low, low + side)]
+    return [(x, y, x * x + y * y) for x in range(low, low + side) for y in range(low, low + side)]
+
+
+def paraboloid(rng, n):
+    """The same, shuffled."""
+    points = paraboloid_in_rows(rng, n)
     rng.shuffle(points)
     return points
 
@@ -81,6 +86,7 @@ FAMILIES = {
     "ball": ball,
     "sphere": sphere,
     "paraboloid": paraboloid,
+    "paraboloid-in-rows": paraboloid_in_rows,
     "grid": grid,
     "cube-surface": cube_surface,
     "flat": flat,

@@ -17,11 +17,11 @@ import tempfile
 
 import compare
 
-FAMILIES = "cube,ball,cube-surface,grid,flat,line,sphere,paraboloid"
+FAMILIES = "cube,ball,cube-surface,grid,flat,line,sphere,paraboloid,paraboloid-in-rows"
 QHULL = {"s": "s", "off": "o"}
 ONE_WORKER_LIMIT = 1.05
 # Families of which several workers take the hull by parts, which takes more work.
-BY_PARTS = ("sphere", "paraboloid")
+BY_PARTS = ("sphere", "paraboloid", "paraboloid-in-rows")
 
 
 def wanted_cpu(family):
