@@ -9,7 +9,7 @@ ghost use Rattle.qh_check.specs.steps.Findings.{IsFaceAmong, IsFound};
 use crate::faces::{NearSet, PlacedSet, fault_of};
 use crate::verdict::FaceFault;
 use qh_model::{Id, Memory, Polygon};
-use qh_threads::map_chunks;
+use qh_threads::{PARTS_FOR_EACH, map_chunks};
 use std::alloc::Global;
 use std::thread::Threads;
 
@@ -99,9 +99,6 @@ pub(crate) struct Asked<'a> {
     pub polygons: &'a [Polygon],
     pub order: &'a [usize],
 }
-
-/// How many parts of a list there are for each thread. A thread that is slower takes fewer of them.
-const PARTS_FOR_EACH: usize = 4;
 
 /// Returns the first finding among answers.
 fn first_of(answers: &[Result<Option<Finding>, Memory>]) -> Result<Option<Finding>, Memory>

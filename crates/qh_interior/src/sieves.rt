@@ -14,12 +14,9 @@ use crate::regions::Region;
 use crate::rules::{SHARED_COLUMNS, SHARED_FROM};
 use qh_model::{Id, Memory};
 use qh_pred::point_at;
-use qh_threads::map_claimed;
+use qh_threads::{PARTS_FOR_EACH, map_claimed};
 use std::alloc::{AllocError, Global};
 use std::thread::{self, Threads};
-
-/// How many parts of a set there are for each thread. A thread that is slower takes fewer of them.
-const PARTS_FOR_EACH: usize = 4;
 
 /// A way to make the cells of columns, and to go over the ids of a set.
 pub trait Sieve {

@@ -21,7 +21,7 @@ use qh_model::{Id, Memory, Point, Polygon};
 use qh_plane::{polygon, rising_ids};
 use qh_pred::{Plane, cross, in_line, point_at};
 use qh_seam::{Divided, Part};
-use qh_threads::map_chunks;
+use qh_threads::{PARTS_FOR_EACH, map_chunks};
 use std::alloc::{AllocError, Global};
 use std::thread::Threads;
 
@@ -272,9 +272,6 @@ fn are_all(answers: &[Result<bool, Memory>]) -> Result<bool, Memory>
     }
     Ok(true)
 }
-
-/// How many parts of the bridges there are for each thread. A thread that is slower takes fewer of them.
-const PARTS_FOR_EACH: usize = 4;
 
 /// Returns true if each of some polygons is a face of what is kept of a set, by a number of threads. No `workers`
 /// means one.

@@ -11,6 +11,7 @@ pub mod RepeatedIds
 pub mod SharedSlots
 pub mod KeptIds
 pub mod SeenPlaces
+pub mod FirstIds
 pub mod PlaneDirections
 pub mod LinesAndPlanes
 pub mod ShapeDimension

@@ -1,131 +1,30 @@
--- Points of a small box, point by point: what stands in the slots, and which ids are distinct.
-use Rattle.std.proofs.Common.{◌≡◌, ◌≢◌, ◌∙◌, ℕ, ◌+◌, ◌<◌, ◌≤◌, ◌⊎◌, inl, inr, List, [], ◌∷◌, ◌++◌, length, set, replicate, slice_index_or, arith, ap, sym}
-use Rattle.std.proofs.Common.{subst, get_or-set_same, get_or-set_other}
-use Rattle.std.proofs.lemmas.List.{get_or_read, length-set, get_or-replicate, length-replicate}
+-- Points that come to slots, one after the other: what stands in the slots, and which ids are distinct.
+use Rattle.std.proofs.Common.{◌≡◌, ◌≢◌, ◌∙◌, ℕ, zero, suc, ◌+◌, ◌<◌, ◌≤◌, ◌⊎◌, inl, inr, List, [], ◌∷◌, ◌++◌, length, set, replicate, slice_index_or}
+use Rattle.std.proofs.Common.{arith, ap, sym, subst, get_or-set_same, get_or-set_other}
 use Rattle.std.specs.List.Sorted.{IsStrictlyIncreasing}
+use Rattle.std.proofs.lemmas.List.{get_or_read, length-set, get_or-replicate, length-replicate}
 use native.Mathlib.Decide.{ℕ_discrete}
 use Rattle.qh_model.specs.declared.limits.TheConstants.{POINT_LIMIT}
 use Rattle.qh_model.specs.headline.{DistinctIds.IsDistinctId, DistinctIds.AreDistinctIds, Predicates.place, Sets.In, Vector.Vector, Vector.origin}
 use Rattle.qh_model.proofs.lists.{Joined.in_append, Joined.of_append, Rising.rising_append}
-use Rattle.qh_plane.specs.declared.close_points.{CloseBox.CloseBox, TheConstants.NO_ID}
-use Rattle.qh_plane.specs.steps.CloseBoxes.{slot_of, slot_at, HasFirst, HaveFirsts, AreSeen}
+use Rattle.qh_plane.specs.declared.close_points.CloseBox.{CloseBox}
+use Rattle.qh_plane.specs.declared.first_ids.TheConstants.{NO_ID}
+use Rattle.qh_plane.specs.steps.{CloseBoxes.slot_of, FirstIds.slot_at, FirstIds.HasFirst, FirstIds.HaveFirsts, Repeats.IsRepeatedId}
 
 -- a point that was read is that of its id
 pub point_read : (pts : List Vector) (k : ℕ) (p : Vector) → k < length pts → p ≡ slice_index_or pts k p → p ≡ place pts k
 unfolding place
 point_read pts k p l e = get_or_read pts k p l e origin
 
--- no id of the points stands for none
+-- an id of the points is not the content of a slot that no point has
 id_is_none : (k n : ℕ) → k < n → n ≤ POINT_LIMIT → k ≢ NO_ID
 id_is_none k n l h e = omega (arith, l, h, e)
 
--- ---- what stands in the slots
--- what stands in a slot that holds an id
-held_id : (k n : ℕ) → (n ≡ NO_ID) ⊎ (n < k) → n ≢ NO_ID → n < k
-held_id k n (inl e) ne = absurd (ne e)
-held_id k n (inr l) ne = l
-
--- at first nothing
-pub no_firsts : (pts : List Vector) (some : Vector → Type 0) (at : Vector → ℕ) (n : ℕ) → HaveFirsts pts some at (replicate n NO_ID) 0
-no_firsts pts some at n = record {
+-- at first no point came
+pub no_firsts : (pts : List Vector) (b : CloseBox) (n : ℕ) → HaveFirsts pts b (replicate n NO_ID) 0 []
+no_firsts pts b n = record {
   firsts = λ j l. absurd (omega (arith, l));
   held = λ s l. inl (get_or-replicate n s NO_ID NO_ID (subst (λ (v : ℕ). s < v) (length-replicate n NO_ID) l));
-}
-
--- the id that is read from a slot is one that was seen
-pub seen_id : (pts : List Vector) (some : Vector → Type 0) (at : Vector → ℕ) (slots : List ℕ) (k : ℕ) → HaveFirsts pts some at slots k
-    → (s n i : ℕ) → s < length slots
-    → n ≡ slice_index_or slots s n → n ≢ NO_ID → i ≡ slice_index_or slots s i → i < k
-seen_id pts some at slots k old s n i room e ne f =
-    subst (λ m. m < k) (sym (get_or_read slots s i room f NO_ID))
-    (held_id k (slot_at slots s) (old.held s room) (λ q. ne (get_or_read slots s n room e NO_ID ∙ q)))
-
-module _ (pts : List Vector) (some : Vector → Type 0) (at : Vector → ℕ) (slots : List ℕ) (k : ℕ) (old : HaveFirsts pts some at slots k)
-    (within : k < length pts) (few : length pts ≤ POINT_LIMIT) where
-  -- a point before has the same equal point
-  more_seen : (p : Vector) → HasFirst pts at slots k p → HasFirst pts at slots (k + 1) p
-  more_seen p h = let l = h.seen in record { first = h.first; seen = omega (arith, l); is = h.is; same = h.same }
-
-  -- and no other one has the slot of this point, where that is free
-  module _ (room : at (place pts k) < length slots) (free : slot_at slots (at (place pts k)) ≡ NO_ID) where
-    abbrev here : ℕ
-    here = at (place pts k)
-
-    abbrev after : List ℕ
-    after = set slots here k
-
-    kept_slot : (j : ℕ) → j < k → some (place pts j) → at (place pts j) ≢ here
-    kept_slot j l m e = let f = old.firsts j l m in
-        id_is_none f.first (length pts) (let s = f.seen in omega (arith, s, within)) few (sym f.is ∙ ap (slot_at slots) e ∙ free)
-
-    -- so no point before is equal
-    pub new_place : some (place pts k) → (j : ℕ) → j < k → place pts j ≢ place pts k
-    new_place m j l e = kept_slot j l (subst some (sym e) m) (ap at e)
-
-    firsts_after : (j : ℕ) → j < k + 1 → some (place pts j) → HasFirst pts at after (k + 1) (place pts j)
-    firsts_after j l m = by_decision (ℕ_discrete j k)
-      where
-        by_decision : Dec (j ≡ k) → HasFirst pts at after (k + 1) (place pts j)
-        by_decision (yes e) = record {
-          first = k;
-          seen = omega arith;
-          is = ap (λ (n : ℕ). slot_at after (at (place pts n))) e ∙ get_or-set_same slots here k NO_ID room;
-          same = ap (place pts) (sym e);
-        }
-        by_decision (no ne) =
-            let below : j < k = omega (arith, l, ne) in let f = old.firsts j below m in let s = f.seen in
-            record {
-              first = f.first;
-              seen = omega (arith, s);
-              is = get_or-set_other slots here (at (place pts j)) k NO_ID (kept_slot j below m) ∙ f.is;
-              same = f.same;
-            }
-
-    held_after : (s : ℕ) → s < length after → (slot_at after s ≡ NO_ID) ⊎ (slot_at after s < k + 1)
-    held_after s l = by_decision (ℕ_discrete s here)
-      where
-        lower : (n m : ℕ) → n ≡ m → m < k → n < k + 1
-        lower n m e h = omega (arith, e, h)
-
-        likewise : (n m : ℕ) → n ≡ m → (m ≡ NO_ID) ⊎ (m < k) → (n ≡ NO_ID) ⊎ (n < k + 1)
-        likewise n m e (inl h) = inl (e ∙ h)
-        likewise n m e (inr h) = inr (lower n m e h)
-
-        own : (n : ℕ) → n ≡ k → n < k + 1
-        own n e = omega (arith, e)
-
-        by_decision : Dec (s ≡ here) → (slot_at after s ≡ NO_ID) ⊎ (slot_at after s < k + 1)
-        by_decision (yes e) = inr (own (slot_at after s) (ap (slot_at after) e ∙ get_or-set_same slots here k NO_ID room))
-        by_decision (no ne) = likewise (slot_at after s) (slot_at slots s) (get_or-set_other slots here s k NO_ID ne)
-            (old.held s (subst (λ (n : ℕ). s < n) (length-set slots here k) l))
-
-    pub new_firsts : HaveFirsts pts some at after (k + 1)
-    new_firsts = record { firsts = firsts_after; held = held_after }
-
-  -- where the point has an equal one in its slot, or lies in none of the places, the slots stay
-  pub kept_firsts : (some (place pts k) → HasFirst pts at slots (k + 1) (place pts k)) → HaveFirsts pts some at slots (k + 1)
-  kept_firsts own = record { firsts = firsts; held = λ s h. later s (old.held s h) }
-    where
-      firsts : (j : ℕ) → j < k + 1 → some (place pts j) → HasFirst pts at slots (k + 1) (place pts j)
-      firsts j h m = by_decision (ℕ_discrete j k)
-        where
-          by_decision : Dec (j ≡ k) → HasFirst pts at slots (k + 1) (place pts j)
-          by_decision (yes q) = subst (λ (n : ℕ). HasFirst pts at slots (k + 1) (place pts n)) (sym q) (own (subst (λ n. some (place pts n)) q m))
-          by_decision (no ne) = more_seen (place pts j) (old.firsts j (omega (arith, h, ne)) m)
-
-      later : (s : ℕ) → (slot_at slots s ≡ NO_ID) ⊎ (slot_at slots s < k) → (slot_at slots s ≡ NO_ID) ⊎ (slot_at slots s < k + 1)
-      later s (inl h) = inl h
-      later s (inr h) = inr (omega (arith, h))
-
-  -- an equal point in its slot
-  pub its_first : (i : ℕ) → slot_at slots (at (place pts k)) ≡ i → i < k → place pts i ≡ place pts k → HasFirst pts at slots (k + 1) (place pts k)
-  its_first i is l e = record { first = i; seen = omega (arith, l); is = is; same = e }
-
--- ---- which ids are distinct
--- at first no point was seen
-pub none_seen : (pts : List Vector) (b : CloseBox) (n : ℕ) → AreSeen pts b (replicate n NO_ID) 0 []
-none_seen pts b n = record {
-  firsts = no_firsts pts (λ _. Unit {0}) (slot_of b) n;
   rising = λ k l. absurd (omega (arith, l));
   members = λ i. ((λ m. absurd m), (λ h. absurd (nothing i h.1)));
 }
@@ -133,60 +32,140 @@ none_seen pts b n = record {
     nothing : (i : ℕ) → i < 0 → ⊥
     nothing i l = omega (arith, l)
 
-module _ (pts : List Vector) (b : CloseBox) (slots : List ℕ) (k : ℕ) (ids : List ℕ) (old : AreSeen pts b slots k ids)
-    (within : k < length pts) (few : length pts ≤ POINT_LIMIT) where
-  abbrev every : Vector → Type 0
-  every _ = Unit {0}
-
-  -- a slot that no point has come to: one more distinct id
-  module _ (room : slot_of b (place pts k) < length slots) (free : slot_at slots (slot_of b (place pts k)) ≡ NO_ID) where
-    pub new_seen : AreSeen pts b (set slots (slot_of b (place pts k)) k) (k + 1) (ids ++ k ∷ [])
-    new_seen = record { firsts = new_firsts pts every (slot_of b) slots k old.firsts within few room free; rising = rises; members = λ i. (to i, from i) }
-      where
-        one : (i : ℕ) → In i ids ⊎ In i (k ∷ []) → IsDistinctId pts i × (i < k + 1)
-        one i (inl m) = let h = (old.members i).0 m in let l = h.1 in (h.0, omega (arith, l))
-        one i (inr (inl e)) = subst (λ (n : ℕ). IsDistinctId pts n × (n < k + 1)) (sym e)
-            ((within, new_place pts every (slot_of b) slots k old.firsts within few room free tt), omega arith)
-        one i (inr (inr m)) = absurd m
-
-        to : (i : ℕ) → In i (ids ++ k ∷ []) → IsDistinctId pts i × (i < k + 1)
-        to i m = one i (of_append ids (k ∷ []) i m)
-
-        from : (i : ℕ) → IsDistinctId pts i × (i < k + 1) → In i (ids ++ k ∷ [])
-        from i h = by_decision (ℕ_discrete i k)
-          where
-            by_decision : Dec (i ≡ k) → In i (ids ++ k ∷ [])
-            by_decision (yes e) = in_append ids (k ∷ []) i (inr (inl e))
-            by_decision (no ne) = let l = h.1 in in_append ids (k ∷ []) i (inl ((old.members i).1 (h.0, omega (arith, l, ne))))
-
-        rises : IsStrictlyIncreasing (ids ++ k ∷ [])
-        rises = rising_append ids (k ∷ []) old.rising (λ n l. absurd (omega (arith, l))) (λ x y m i. below x y m i)
-          where
-            below : (x y : ℕ) → In x ids → In y (k ∷ []) → x < y
-            below x y m (inl e) = let l = ((old.members x).0 m).1 in subst (λ (n : ℕ). x < n) (sym e) l
-            below x y m (inr n) = absurd n
-
-  -- a slot with the id of an equal point: none more
-  pub again_seen : (i : ℕ) → slot_at slots (slot_of b (place pts k)) ≡ i → i < k → place pts i ≡ place pts k → AreSeen pts b slots (k + 1) ids
-  again_seen i is l e = record {
-    firsts = kept_firsts pts every (slot_of b) slots k old.firsts within few
-        (λ _. its_first pts every (slot_of b) slots k old.firsts within few i is l e);
-    rising = old.rising;
-    members = λ j. (to j, from j);
-  }
+module _ (pts : List Vector) (b : CloseBox) (slots : List ℕ) (k : ℕ) (ids : List ℕ) (old : HaveFirsts pts b slots k ids) where
+  -- the id that is read from a slot is one that was seen
+  pub seen_id : (s n : ℕ) → s < length slots → n ≡ slice_index_or slots s n → n ≢ NO_ID → n < k
+  seen_id s n room e ne = below (old.held s room)
     where
-      to : (j : ℕ) → In j ids → IsDistinctId pts j × (j < k + 1)
-      to j m = let h = (old.members j).0 m in let n = h.1 in (h.0, omega (arith, n))
+      read : n ≡ slot_at slots s
+      read = get_or_read slots s n room e NO_ID
 
-      from : (j : ℕ) → IsDistinctId pts j × (j < k + 1) → In j ids
-      from j h = by_decision (ℕ_discrete j k)
+      below : (slot_at slots s ≡ NO_ID) ⊎ (slot_at slots s < k) → n < k
+      below (inl q) = absurd (ne (read ∙ q))
+      below (inr l) = subst (λ m. m < k) (sym read) l
+
+  module _ (within : k < length pts) (few : length pts ≤ POINT_LIMIT) where
+    -- a point before has the same equal point
+    more_seen : (p : Vector) → HasFirst pts b slots k p → HasFirst pts b slots (k + 1) p
+    more_seen p h = let l = h.seen in record { first = h.first; seen = omega (arith, l); is = h.is; same = h.same }
+
+    -- a slot that no point has come to: one more distinct id
+    module _ (room : slot_of b (place pts k) < length slots) (free : slot_at slots (slot_of b (place pts k)) ≡ NO_ID) where
+      abbrev here : ℕ
+      here = slot_of b (place pts k)
+
+      abbrev after : List ℕ
+      after = set slots here k
+
+      other_slot : (j : ℕ) → j < k → slot_of b (place pts j) ≢ here
+      other_slot j l e = let f = old.firsts j l in
+          id_is_none f.first (length pts) (let s = f.seen in omega (arith, s, within)) few (sym f.is ∙ ap (slot_at slots) e ∙ free)
+
+      -- so no point before is equal
+      new_place : (j : ℕ) → j < k → place pts j ≢ place pts k
+      new_place j l e = other_slot j l (ap (slot_of b) e)
+
+      firsts_after : (j : ℕ) → j < k + 1 → HasFirst pts b after (k + 1) (place pts j)
+      firsts_after j l = by_decision (ℕ_discrete j k)
         where
-          by_decision : Dec (j ≡ k) → In j ids
-          by_decision (yes q) = absurd ((subst (IsDistinctId pts) q h.0).1 i l e)
-          by_decision (no ne) = let n = h.1 in (old.members j).1 (h.0, omega (arith, n, ne))
+          by_decision : Dec (j ≡ k) → HasFirst pts b after (k + 1) (place pts j)
+          by_decision (yes e) = record {
+            first = k;
+            seen = omega arith;
+            is = ap (λ (n : ℕ). slot_at after (slot_of b (place pts n))) e ∙ get_or-set_same slots here k NO_ID room;
+            same = ap (place pts) (sym e);
+          }
+          by_decision (no ne) =
+              let below : j < k = omega (arith, l, ne) in let f = old.firsts j below in let s = f.seen in
+              record {
+                first = f.first;
+                seen = omega (arith, s);
+                is = get_or-set_other slots here (slot_of b (place pts j)) k NO_ID (other_slot j below) ∙ f.is;
+                same = f.same;
+              }
+
+      held_after : (s : ℕ) → s < length after → (slot_at after s ≡ NO_ID) ⊎ (slot_at after s < k + 1)
+      held_after s l = by_decision (ℕ_discrete s here)
+        where
+          lower : (n m : ℕ) → n ≡ m → m < k → n < k + 1
+          lower n m e h = omega (arith, e, h)
+
+          likewise : (n m : ℕ) → n ≡ m → (m ≡ NO_ID) ⊎ (m < k) → (n ≡ NO_ID) ⊎ (n < k + 1)
+          likewise n m e (inl h) = inl (e ∙ h)
+          likewise n m e (inr h) = inr (lower n m e h)
+
+          own : (n : ℕ) → n ≡ k → n < k + 1
+          own n e = omega (arith, e)
+
+          by_decision : Dec (s ≡ here) → (slot_at after s ≡ NO_ID) ⊎ (slot_at after s < k + 1)
+          by_decision (yes e) = inr (own (slot_at after s) (ap (slot_at after) e ∙ get_or-set_same slots here k NO_ID room))
+          by_decision (no ne) = likewise (slot_at after s) (slot_at slots s) (get_or-set_other slots here s k NO_ID ne)
+              (old.held s (subst (λ (n : ℕ). s < n) (length-set slots here k) l))
+
+      pub new_seen : HaveFirsts pts b after (k + 1) (ids ++ k ∷ [])
+      new_seen = record { firsts = firsts_after; held = held_after; rising = rises; members = λ i. (to i, from i) }
+        where
+          one : (i : ℕ) → In i ids ⊎ In i (k ∷ []) → IsDistinctId pts i × (i < k + 1)
+          one i (inl m) = let h = (old.members i).0 m in let l = h.1 in (h.0, omega (arith, l))
+          one i (inr (inl e)) = subst (λ (n : ℕ). IsDistinctId pts n × (n < k + 1)) (sym e) ((within, new_place), omega arith)
+          one i (inr (inr m)) = absurd m
+
+          to : (i : ℕ) → In i (ids ++ k ∷ []) → IsDistinctId pts i × (i < k + 1)
+          to i m = one i (of_append ids (k ∷ []) i m)
+
+          from : (i : ℕ) → IsDistinctId pts i × (i < k + 1) → In i (ids ++ k ∷ [])
+          from i h = by_decision (ℕ_discrete i k)
+            where
+              by_decision : Dec (i ≡ k) → In i (ids ++ k ∷ [])
+              by_decision (yes e) = in_append ids (k ∷ []) i (inr (inl e))
+              by_decision (no ne) = let l = h.1 in in_append ids (k ∷ []) i (inl ((old.members i).1 (h.0, omega (arith, l, ne))))
+
+          rises : IsStrictlyIncreasing (ids ++ k ∷ [])
+          rises = rising_append ids (k ∷ []) old.rising (λ n l. absurd (omega (arith, l))) (λ x y m i. below x y m i)
+            where
+              below : (x y : ℕ) → In x ids → In y (k ∷ []) → x < y
+              below x y m (inl e) = let l = ((old.members x).0 m).1 in subst (λ (n : ℕ). x < n) (sym e) l
+              below x y m (inr n) = absurd n
+
+    -- a point that stands before: none more
+    pub repeat_seen : (i : ℕ) → i < k → place pts i ≡ place pts k → HaveFirsts pts b slots (k + 1) ids
+    repeat_seen i l e = record {
+      firsts = λ j h. firsts j h (ℕ_discrete j k);
+      held = λ s h. later s (old.held s h);
+      rising = old.rising;
+      members = λ j. (to j, from j);
+    }
+      where
+        firsts : (j : ℕ) → j < k + 1 → Dec (j ≡ k) → HasFirst pts b slots (k + 1) (place pts j)
+        firsts j h (yes q) = subst (HasFirst pts b slots (k + 1)) (e ∙ ap (place pts) (sym q)) (more_seen (place pts i) (old.firsts i l))
+        firsts j h (no ne) = more_seen (place pts j) (old.firsts j (omega (arith, h, ne)))
+
+        later : (s : ℕ) → (slot_at slots s ≡ NO_ID) ⊎ (slot_at slots s < k) → (slot_at slots s ≡ NO_ID) ⊎ (slot_at slots s < k + 1)
+        later s (inl h) = inl h
+        later s (inr h) = inr (omega (arith, h))
+
+        to : (j : ℕ) → In j ids → IsDistinctId pts j × (j < k + 1)
+        to j m = let h = (old.members j).0 m in let n = h.1 in (h.0, omega (arith, n))
+
+        from : (j : ℕ) → IsDistinctId pts j × (j < k + 1) → In j ids
+        from j h = by_decision (ℕ_discrete j k)
+          where
+            by_decision : Dec (j ≡ k) → In j ids
+            by_decision (yes q) = absurd ((subst (IsDistinctId pts) q h.0).1 i l e)
+            by_decision (no ne) = let n = h.1 in (old.members j).1 (h.0, omega (arith, n, ne))
+
+-- points that all stand before: none more
+pub repeats_seen : (pts : List Vector) (b : CloseBox) (slots : List ℕ) (k m : ℕ) (ids : List ℕ) → HaveFirsts pts b slots k ids → length pts ≤ POINT_LIMIT
+    → ((i : ℕ) → i < m → IsRepeatedId pts (k + i)) → HaveFirsts pts b slots (k + m) ids
+repeats_seen pts b slots k zero ids old few each = subst (λ n. HaveFirsts pts b slots n ids) {x = k} {y = k + 0} (omega arith) old
+repeats_seen pts b slots k (suc m) ids old few each =
+    let r = each m (omega arith) in
+    subst (λ n. HaveFirsts pts b slots n ids) {x = k + m + 1} {y = k + suc m} (omega arith)
+    (repeat_seen pts b slots (k + m) ids (repeats_seen pts b slots k m ids old few (λ i l. each i (omega (arith, l)))) r.0 few r.1 r.2 r.3)
 
 -- when all were seen, the ids are the distinct ones
-pub all_seen : (pts : List Vector) (b : CloseBox) (slots : List ℕ) (k : ℕ) (ids : List ℕ) → AreSeen pts b slots k ids → length pts ≤ k → AreDistinctIds pts ids
+pub all_seen : (pts : List Vector) (b : CloseBox) (slots : List ℕ) (k : ℕ) (ids : List ℕ) → HaveFirsts pts b slots k ids → length pts ≤ k
+    → AreDistinctIds pts ids
 all_seen pts b slots k ids h l = record { rising = h.rising; members = λ i. ((λ m. ((h.members i).0 m).0), (λ d. (h.members i).1 (d, below i d.0))) }
   where
     below : (i : ℕ) → i < length pts → i < k

@@ -1,6 +1,8 @@
 -- What private functions speak of: nothing to believe.
 pub mod Chains
 pub mod CloseBoxes
+pub mod Pieces
+pub mod FirstIds
 pub mod Marks
 pub mod PlaceKeys
 pub mod HashedKeys

@@ -1,18 +1,11 @@
-//! The distinct points of a list whose points lie close together, as those of lattices and grids do, or in
-//! one line. Each place of the box around them has a slot for the id that stands for it, or each place along
-//! the line; so nothing is sorted.
-//!
-//! No proof asks that different places have different slots: a point that comes to the slot of another
-//! place ends the try.
-ghost use Rattle.std.specs.Prelude.{◌≡◌, ◌≤◌, ◌<◌, ◌↔◌, IfOk, IfSome, IsTrue, length};
-ghost use Rattle.qh_model.specs.headline.DistinctIds.{AreDistinctIds};
+//! Slots for points that lie close together, as those of lattices and grids do, or in one line: one for each place of the
+//! box around them, or for each place along the line.
+ghost use Rattle.std.specs.Prelude.{◌≡◌, ◌≤◌, ◌<◌, ◌↔◌, IsTrue, length};
 ghost use Rattle.qh_plane.specs.steps.CloseBoxes.{slot_of};
 
-use crate::found_ids::FoundIds;
 use crate::place_keys::biased;
-use qh_model::{Id, POINT_LIMIT, Point};
+use qh_model::{POINT_LIMIT, Point};
 use qh_pred::in_line;
-use std::alloc::Global;
 
 /// The greatest number of slots of a box for each point.
 const SLOTS_FOR_EACH: u64 = 2;
@@ -27,11 +20,8 @@ const LOOKED_AT: usize = 32;
 /// list, the others are not tested.
 const FIRST_POINTS: usize = 4096;
 
-/// Fewer slots than this lie in a processor's own memory, where a single thread takes no longer.
+/// Fewer slots than this lie in a processor's own memory.
 pub const SHARED_SLOTS: u64 = 65_536;
-
-/// The content of a slot that no point has.
-pub const NO_ID: u32 = 4294967295;
 
 /// The numbers from one to another.
 #[derive(Clone, Copy, Drop)]
@@ -218,40 +208,6 @@ impl CloseBox {
             .saturating_sub(self.z)
             .wrapping_mul(self.z_factor);
         x.wrapping_add(y).wrapping_add(z)
-    }
-
-    /// Returns the distinct ids of points, rising. Returns `None` if different points come to the same slot, or a point has
-    /// no slot.
-    pub fn distinct_ids(self, alloc: Global, pts: &[Point]) -> FoundIds
-        requires { length pts.now ≤ POINT_LIMIT }
-        ensures { IfOk result (λ found. IfSome found (λ v. AreDistinctIds pts.now v.items)) }
-    {
-        let mut slots = vec![in alloc; NO_ID; self.slots as usize]?;
-        let mut ids = Vec::with_capacity(alloc, pts.len().min(slots.len()))?;
-        for number in 0..pts.len() {
-            let slot = self.slot(pts[number]) as usize;
-            if slot >= slots.len() {
-                return Ok(None);
-            }
-            if slots[slot] == NO_ID {
-                slots[slot] = number as u32;
-                ids.push(Id::new(number as u32))?;
-            } else if !same_point(pts[slots[slot] as usize], pts[number]) {
-                return Ok(None);
-            }
-        }
-        Ok(Some(ids))
-    }
-
-    /// Calls [`distinct_ids`](CloseBox::distinct_ids) if there are fewer than `SHARED_SLOTS` slots, and else returns `None`.
-    pub fn distinct_if_small(self, alloc: Global, pts: &[Point]) -> FoundIds
-        requires { length pts.now ≤ POINT_LIMIT }
-        ensures { IfOk result (λ found. IfSome found (λ v. AreDistinctIds pts.now v.items)) }
-    {
-        if self.slots >= SHARED_SLOTS {
-            return Ok(None);
-        }
-        self.distinct_ids(alloc, pts)
     }
 }
 

@@ -5,6 +5,7 @@ ghost use Rattle.qh_model.specs.headline.DistinctIds.{AreDistinctIds};
 ghost use Rattle.qh_plane.specs.steps.Repeats.{AreAllRepeats};
 
 use crate::close_points::CloseBox;
+use crate::first_ids::{distinct_in_pieces, distinct_in_slots};
 use crate::found_ids::FoundIds;
 use crate::hash_parts::repeats_by_hash;
 use crate::repeats::{repeats_by_sort, repeats_of_all};
@@ -22,6 +23,15 @@ pub trait Finder {
     /// What is known of one that finds them.
     ghost ready: { Self → Type 0 };
 
+    /// Returns the distinct ids of points in a box of few slots, rising; `None` if the points do not all lie in it.
+    fn in_box(&self, alloc: Global, close: CloseBox, pts: &[Point]) -> FoundIds
+        requires ready { ready self.now }
+        requires few { length pts.now ≤ POINT_LIMIT }
+        ensures { IfOk result (λ found. IfSome found (λ v. AreDistinctIds pts.now v.items)) }
+    {
+        distinct_in_slots(alloc, close, pts)
+    }
+
     /// Returns the distinct ids of points that lie close together or in one line, rising; `None` if they do not, or another
     /// way is faster.
     fn by_slots(&self, alloc: Global, pts: &[Point]) -> FoundIds
@@ -30,7 +40,7 @@ pub trait Finder {
         ensures { IfOk result (λ found. IfSome found (λ v. AreDistinctIds pts.now v.items)) }
     {
         match CloseBox::around(pts) {
-            Some(close) => close.distinct_ids(alloc, pts),
+            Some(close) => distinct_in_slots(alloc, close, pts),
             None => Ok(None),
         }
     }
@@ -84,6 +94,14 @@ impl<R> InThreads<'_, R> {
 
 impl<R: Threads + Sync> Finder for InThreads<'_, R> {
     ghost ready = { λ _. IsSync R.row };
+
+    fn in_box(&self, alloc: Global, close: CloseBox, pts: &[Point]) -> FoundIds {
+        let count = self.for_points(pts);
+        if count < 2 {
+            return distinct_in_slots(alloc, close, pts);
+        }
+        distinct_in_pieces(self.rt, alloc, close, pts, count)
+    }
 
     /// Leaves the points to a search by hashes, if they keep several threads busy: a table of slots is gone over by one.
     fn by_slots(&self, alloc: Global, pts: &[Point]) -> FoundIds {

@@ -10,6 +10,7 @@ mod close_points;
 mod dimension;
 mod distinct_points;
 mod finders;
+mod first_ids;
 mod found_ids;
 mod hash_groups;
 mod hash_parts;

@@ -3,7 +3,7 @@ ghost use Rattle.std.specs.Prelude.{◌≡◌, ◌<◌, ℕ, IfOk, length};
 ghost use Rattle.std.specs.List.{All};
 ghost use Rattle.std.specs.Fork.{GivesEach};
 ghost use Rattle.std.specs.Thread.{IsSend, IsSync};
-ghost use Rattle.qh_threads.specs.Answers.{IsAnswer, AreAnswers, ArePlaced};
+ghost use Rattle.qh_threads.specs.steps.Answers.{IsAnswer, AreAnswers, ArePlaced};
 
 use crate::indices::map_indices;
 use std::alloc::{AllocError, Global};

@@ -9,6 +9,9 @@ mod chunks;
 mod claimed;
 mod indices;
 
+/// How many parts a caller should make of its work for each thread. A thread that is slower claims fewer of them.
+pub const PARTS_FOR_EACH: usize = 4;
+
 pub use chunks::map_chunks;
 pub use claimed::map_claimed;
 pub use indices::map_indices;

@@ -14,15 +14,12 @@ use super::off::push_vertices;
 use super::room::{room_for, vertices_room};
 use crate::pieces::Pieces;
 use qh_model::{Body, Id, Out, Point, Polygon};
-use qh_threads::map_claimed;
+use qh_threads::{PARTS_FOR_EACH, map_claimed};
 use std::alloc::{AllocError, Global};
 use std::thread::Threads;
 
 /// Threads share the lines of at least this many vertices or faces.
 const SHARED_FROM: usize = 16_384;
-
-/// How many parts of a text there are for each thread. A thread that is slower takes fewer of them.
-const PARTS_FOR_EACH: usize = 4;
 
 /// The vertices of a text.
 #[derive(Clone, Copy)]

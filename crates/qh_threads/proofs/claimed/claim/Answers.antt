@@ -1,7 +1,7 @@
 -- The answer of one more call.
 use Rattle.std.proofs.Common.{[], ◌∷◌, sym, subst, All}
 use Rattle.std.proofs.lemmas.List.Elements.{All-nil, All-append, All-cons}
-use Rattle.qh_threads.specs.Answers.{IsAnswer}
+use Rattle.qh_threads.specs.steps.Answers.{IsAnswer}
 use Rattle.qh_threads.proofs.claimed.claim.Goals as goal
 
 pub loop-init : goal.loop-init

@@ -1,6 +1,6 @@
 -- Each answer so far is that of a call.
 use Rattle.std.proofs.Common.{All}
-use Rattle.qh_threads.specs.Answers.{IsAnswer}
+use Rattle.qh_threads.specs.steps.Answers.{IsAnswer}
 use Rattle.qh_threads.proofs.claimed.claim.Given as goal
 
 abbrev pub invariant-loop : goal.invariant-loop

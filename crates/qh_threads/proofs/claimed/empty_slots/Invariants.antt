@@ -1,6 +1,6 @@
 -- The slots so far are empty.
 use Rattle.std.proofs.Common.{◌≡◌, length}
-use Rattle.qh_threads.specs.Answers.{ArePlaced}
+use Rattle.qh_threads.specs.steps.Answers.{ArePlaced}
 use Rattle.qh_threads.proofs.claimed.empty_slots.Given as goal
 
 abbrev pub invariant-loop : goal.invariant-loop

@@ -1,7 +1,7 @@
 -- What stands in the slots is right, and so are the answers that are left.
 use Rattle.std.proofs.Common.{◌≡◌, length, All}
 use Rattle.std.specs.Vec.Iter.{into_iter_items}
-use Rattle.qh_threads.specs.Answers.{AreAnswers, ArePlaced}
+use Rattle.qh_threads.specs.steps.Answers.{AreAnswers, ArePlaced}
 use Rattle.qh_threads.proofs.claimed.map_claimed.Given as goal
 
 abbrev pub invariant-loop-answers : goal.invariant-loop-answers

@@ -1,7 +1,7 @@
 -- What stands in the slots is right, and so are the answers that are left.
 use Rattle.std.proofs.Common.{◌≡◌, length, All}
 use Rattle.std.specs.Vec.Iter.{into_iter_items}
-use Rattle.qh_threads.specs.Answers.{IsAnswer, ArePlaced}
+use Rattle.qh_threads.specs.steps.Answers.{IsAnswer, ArePlaced}
 use Rattle.qh_threads.proofs.claimed.place.Given as goal
 
 abbrev pub invariant-loop-answer : goal.invariant-loop-answer

@@ -1,7 +1,7 @@
 -- The values so far were returned by the calls, and what stands in the slots is right.
 use Rattle.std.proofs.Common.{◌≡◌, length}
 use Rattle.std.specs.Fork.{GivesEach}
-use Rattle.qh_threads.specs.Answers.{ArePlaced}
+use Rattle.qh_threads.specs.steps.Answers.{ArePlaced}
 use Rattle.qh_threads.proofs.claimed.values.Given as goal
 
 abbrev pub invariant-loop-index : goal.invariant-loop-index

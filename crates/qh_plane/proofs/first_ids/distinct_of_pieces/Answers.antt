@@ -1,0 +1,38 @@
+-- One piece more.
+use Rattle.std.proofs.Common.{◌≡◌, ◌≤◌, ◌+◌, ◌*◌, length, arith, sym, subst, IfSome, Vec, ℕ, Global}
+use Rattle.qh_plane.specs.steps.{FirstIds.AreFirstIds, Pieces.end_of}
+use Rattle.qh_plane.proofs.{FirstIds.next_end, SeenPlaces.all_seen}
+use Rattle.qh_plane.proofs.first_ids.distinct_of_pieces.Goals as goal
+
+pub look_at_piece-requires-clause-order : goal.look_at_piece-requires-clause-order
+look_at_piece-requires-clause-order c =
+    (next_end c.args.pts.now c.args.size c.loop-piece.piece-index c.loop-piece.begin c.saturating_add.result c.min-end.result c.requires.few
+    c.loop-piece.invariant.begin c.saturating_add.ensures c.min-end.ensures).1
+
+pub look_at_piece-requires-clause-firsts : goal.look_at_piece-requires-clause-firsts
+look_at_piece-requires-clause-firsts c =
+    let pts = c.args.pts.now in let size = c.args.size in let n = c.loop-piece.piece-index in
+    let next = next_end pts size n c.loop-piece.begin c.saturating_add.result c.min-end.result c.requires.few
+    c.loop-piece.invariant.begin c.saturating_add.ensures c.min-end.ensures in
+    let found : IfSome c.in-Ok.found (λ (v : Vec ℕ Global). AreFirstIds pts (end_of pts size n) (end_of pts size (n + 1)) v.items) =
+    rw c.in-Ok.is at (rw (sym c.piece-item.is) at (c.requires.pieces n c.piece-item.result c.loop-piece-test.true)) in
+    let firsts : AreFirstIds pts (end_of pts size n) (end_of pts size (n + 1)) c.in-Some.ids.items = rw c.in-Some.is at found in
+    subst (λ b. AreFirstIds pts b c.min-end.result c.deref.result.now) (sym c.loop-piece.invariant.begin)
+    (subst (λ e. AreFirstIds pts (end_of pts size n) e c.deref.result.now) (sym next.0)
+    (subst (AreFirstIds pts (end_of pts size n) (end_of pts size (n + 1))) (sym c.deref.ensures.value) firsts))
+
+pub loop-piece-preserved : goal.loop-piece-preserved
+loop-piece-preserved c =
+    record {
+      begin = (next_end c.args.pts.now c.args.size c.loop-piece.piece-index c.loop-piece.begin c.saturating_add.result c.min-end.result c.requires.few
+          c.loop-piece.invariant.begin c.saturating_add.ensures c.min-end.ensures).0;
+      seen = c.in_ok-look_at_piece.ensures c.if-not-branch.false;
+    }
+
+pub returns : goal.returns
+returns c =
+    let pts = c.args.pts.now in let f = c.loop-piece.firsts in let n = c.loop-piece.piece-index in
+    let end : n ≡ length c.args.pieces.now = (let a = c.loop-piece.auto.piece-index-end in let b = c.loop-piece-test.false in omega (arith, a, b)) in
+    let reached : length pts ≤ n * c.args.size = subst (λ m. length pts ≤ m * c.args.size) (sym end) c.requires.all in
+    let begin = c.loop-piece.invariant.begin in
+    all_seen pts f.close f.slots.items c.loop-piece.begin f.ids.items c.loop-piece.invariant.seen (omega (arith, begin, reached))

@@ -1,0 +1,49 @@
+-- The first points that come to slots. Only private functions speak of them.
+use Rattle.std.specs.Prelude.{ℕ, ◌≡◌, ◌+◌, ◌<◌, ◌⊎◌, ◌↔◌, List, Option, Result, Vec, IfOk, IfSome, length, slice_index_or}
+use Rattle.std.specs.List.{All}
+use Rattle.std.specs.List.Sorted.{IsStrictlyIncreasing}
+use Rattle.std.specs.declared.alloc.{AllocError.AllocError, Global.Global}
+use Rattle.qh_model.specs.headline.Vector.{Vector}
+use Rattle.qh_model.specs.headline.Predicates.{place}
+use Rattle.qh_model.specs.headline.Sets.{In}
+use Rattle.qh_model.specs.headline.DistinctIds.{IsDistinctId}
+use Rattle.qh_plane.specs.declared.close_points.CloseBox.{CloseBox}
+use Rattle.qh_plane.specs.declared.first_ids.FirstIds.{FirstIds}
+use Rattle.qh_plane.specs.declared.first_ids.TheConstants.{NO_ID}
+use Rattle.qh_plane.specs.steps.CloseBoxes.{slot_of}
+use Rattle.qh_plane.specs.steps.Pieces.{end_of}
+use Rattle.qh_plane.specs.steps.Repeats.{IsRepeatedId}
+
+-- what stands in a slot
+abbrev pub slot_at : List ℕ → ℕ → ℕ
+slot_at slots s = slice_index_or slots s NO_ID
+
+-- the slot of a point has the id of an equal point, one of the first k
+pub record HasFirst (pts : List Vector) (b : CloseBox) (slots : List ℕ) (k : ℕ) (p : Vector) : Type 0 where
+  pub first : ℕ
+  pub seen : first < k
+  pub is : slot_at slots (slot_of b p) ≡ first
+  pub same : place pts first ≡ p
+
+-- each of the first k points has an equal point in its slot, and the ids are the distinct ones of them
+pub record HaveFirsts (pts : List Vector) (b : CloseBox) (slots : List ℕ) (k : ℕ) (ids : List ℕ) : Type 0 where
+  pub firsts : (j : ℕ) → j < k → HasFirst pts b slots k (place pts j)
+  pub held : (s : ℕ) → s < length slots → (slot_at slots s ≡ NO_ID) ⊎ (slot_at slots s < k)
+  pub rising : IsStrictlyIncreasing ids
+  pub members : (i : ℕ) → In i ids ↔ (IsDistinctId pts i × (i < k))
+
+-- the first k points were looked at
+abbrev pub AreSeen : List Vector → FirstIds → ℕ → Type 0
+AreSeen pts f k = HaveFirsts pts f.close f.slots.items k f.ids.items
+
+-- the points that are the first of their places in the piece from one id on and before another, counted from its beginning
+pub record AreFirstIds (pts : List Vector) (begin end : ℕ) (firsts : List ℕ) : Type 0 where
+  pub rising : IsStrictlyIncreasing firsts
+  pub below : All (λ i. begin + i < end) firsts
+  pub others : (i : ℕ) → begin + i < end → In i firsts ⊎ IsRepeatedId pts (begin + i)
+
+-- what was found in pieces of one size, in order, unless memory ran out or a piece does not tell its distinct ids
+abbrev pub ArePieces : List Vector → ℕ → List (Result (Option (Vec ℕ Global)) AllocError) → Type 0
+ArePieces pts size found =
+    (n : ℕ) (d : Result (Option (Vec ℕ Global)) AllocError) → n < length found
+    → IfOk (slice_index_or found n d) (λ some. IfSome some (λ v. AreFirstIds pts (end_of pts size n) (end_of pts size (n + 1)) v.items))
