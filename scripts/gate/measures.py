@@ -26,7 +26,7 @@ LIMITS = {
     "longest parameter list": 6,
     "long parameter lists": 1,
     "bare bools": 0,
-    "long files": 1,
+    "long files": 0,
     "long lines": 12,
 }
 WORD_LIMITS = {
