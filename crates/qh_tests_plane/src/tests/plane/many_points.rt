@@ -26,6 +26,19 @@ fn places(alloc: Global, count: usize) -> Result<Vec<Point>, AllocError> {
     Ok(pts)
 }
 
+/// How many places the grid has: 11 along each axis.
+const GRID_PLACES: usize = 1331;
+
+/// Returns `count` points of a grid, its places one after the other, again and again.
+fn grid(alloc: Global, count: usize) -> Result<Vec<Point>, AllocError> {
+    let mut pts = Vec::new(alloc);
+    for number in 0..count {
+        let (x, y, z) = (number % 11, number / 11 % 11, number / 121 % 11);
+        pts.push(Point::new(x as i32, y as i32, z as i32))?;
+    }
+    Ok(pts)
+}
+
 /// Returns the distinct ids by at most `threads` threads, or `None` if there are more than `POINT_LIMIT`
 /// points.
 fn ids_in_threads<R: Threads + Sync>(
@@ -53,9 +66,9 @@ fn ids_otherwise<R: Threads + Sync>(
     Ok(Some([distinct(rt, alloc, pts)?, distinct_alone(alloc, pts)?]))
 }
 
-/// Asserts that the ids are those of the first points, one for each place.
-fn assert_first<R: Abort>(rt: &R, ids: &[Id]) {
-    assert_eq!(rt; ids.len(), PLACES);
+/// Asserts that the ids are those of the first points, one for each of `places` places.
+fn assert_first<R: Abort>(rt: &R, ids: &[Id], places: usize) {
+    assert_eq!(rt; ids.len(), places);
     for (number, id) in ids.iter().enumerate() {
         assert_eq!(rt; id.index(), number);
     }
@@ -67,11 +80,21 @@ fn first_of_each_place(rt: HostRuntime) -> Result<(), Fail> {
         let pts = places(rt.alloc(), count)?;
         for threads in [0, 1, 2, 3, 4] {
             let ids = ids_in_threads(&rt, rt.alloc(), &pts, threads)?.ok_or("too many points")?;
-            assert_first(&rt, &ids);
+            assert_first(&rt, &ids, PLACES);
         }
         let both = ids_otherwise(&rt, rt.alloc(), &pts)?.ok_or("too many points")?;
-        assert_first(&rt, &both[0]);
-        assert_first(&rt, &both[1]);
+        assert_first(&rt, &both[0], PLACES);
+        assert_first(&rt, &both[1], PLACES);
+    }
+    Ok(())
+}
+
+#[test]
+fn first_of_each_place_of_a_grid(rt: HostRuntime) -> Result<(), Fail> {
+    let pts = grid(rt.alloc(), 140_000)?;
+    for threads in [1, 2, 4] {
+        let ids = ids_in_threads(&rt, rt.alloc(), &pts, threads)?.ok_or("too many points")?;
+        assert_first(&rt, &ids, GRID_PLACES);
     }
     Ok(())
 }
