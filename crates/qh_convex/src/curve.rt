@@ -5,20 +5,13 @@ ghost use Rattle.qh_convex.specs.declared.steps.TheConstants.{ROOM};
 ghost use Rattle.qh_convex.specs.steps.Hidden.{id_in};
 
 use crate::steps::ROOM;
+use qh_keys::morton_number;
 use qh_model::{Id, Point};
 use qh_pred::point_at;
 use std::alloc::{AllocError, Global};
 
 /// The number of cells along the curve: 2^30.
 const CELLS: u64 = 1073741824;
-
-/// Moves each of the lowest ten bits of a number to three times its place.
-fn spread(number: u64) -> u64 {
-    let halves = (number | number.wrapping_shl(16)) & 0x0300_00FF;
-    let fours = (halves | halves.wrapping_shl(8)) & 0x0300_F00F;
-    let twos = (fours | fours.wrapping_shl(4)) & 0x030C_30C3;
-    (twos | twos.wrapping_shl(2)) & 0x0924_9249
-}
 
 /// Returns the number of bits of the greatest coordinate of some points, either way.
 fn reach(pts: &[Point], ids: &[Id]) -> u32 {
@@ -32,19 +25,20 @@ fn reach(pts: &[Point], ids: &[Id]) -> u32 {
 }
 
 /// Returns which of 1024 slices a coordinate of this many bits lies in.
-fn slice_of(coordinate: i32, bits: u32) -> u64 {
+fn slice_of(coordinate: i32, bits: u32) -> u32 {
     let above = i64::from(coordinate).saturating_add(1i64.wrapping_shl(bits));
-    above.unsigned_abs().wrapping_shr(bits.saturating_sub(9)) % 1024
+    let slice = above.unsigned_abs().wrapping_shr(bits.saturating_sub(9)) % 1024;
+    slice as u32
 }
 
-/// Returns the cell of a point along the curve, by the bits of its three slices in turn.
+/// Returns the number of a point's cell in Morton order, the highest bit that of its slice along the third axis.
 fn cell_of(p: Point, bits: u32) -> u64
     ensures { result < CELLS }
 {
-    let x = spread(slice_of(p.x(), bits));
-    let y = spread(slice_of(p.y(), bits));
-    let z = spread(slice_of(p.z(), bits));
-    (x | y.wrapping_shl(1) | z.wrapping_shl(2)) % CELLS
+    let x = slice_of(p.x(), bits);
+    let y = slice_of(p.y(), bits);
+    let z = slice_of(p.z(), bits);
+    u64::from(morton_number(z, y, x)) % CELLS
 }
 
 /// Returns the id of a key along the curve.

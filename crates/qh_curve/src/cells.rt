@@ -2,8 +2,9 @@
 //! Morton.
 //!
 //! Source: Skilling 2004 (Hilbert's order from places, by exchanges and turns of their bits).
+use qh_keys::morton_number;
 use qh_model::Point;
-use qh_surface::{Axes, morton_number};
+use qh_surface::Axes;
 use std::alloc::{AllocError, Global};
 
 /// The bits of a place along an axis. Three of them fit a cell's number.

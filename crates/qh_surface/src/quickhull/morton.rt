@@ -6,8 +6,7 @@ ghost use Rattle.std.specs.Prelude.{◌≡◌, IfOk, map, IsPermutation};
 ghost use Rattle.qh_model.specs.contract.IdSets.{AreIndices};
 ghost use Rattle.qh_keys.specs.contract.Halves.{low_of};
 
-use crate::cell_numbers::morton_number;
-use qh_keys::Packed;
+use qh_keys::{Packed, morton_number};
 use qh_model::{Id, Memory, Point};
 use qh_pred::point_at;
 use std::alloc::{AllocError, Global};

@@ -1,8 +1,6 @@
 //! The numbers of cells in Morton order.
-//!
-//! Source: Morton 1966 (the order of cells along a Z-shaped curve).
 
-/// Returns the lowest 10 bits of a number, each with two zeros before it.
+/// Returns a number below 1,024 with two zeros before each of its 10 bits.
 #[inline]
 fn spread(number: u32) -> u32 {
     let bytes = (number | number << 16) & 0x0300_00ff;
@@ -12,9 +10,12 @@ fn spread(number: u32) -> u32 {
 }
 
 /// Returns the number of a cell in Morton order: the bits of its places along the three axes, taken in turn, the highest of
-/// `x` first. Of each place the lowest 10 bits are taken.
+/// `x` first.
 ///
-/// No answer depends on it, so nothing is proved of it.
+/// The places are from 0 to 1,023. The number is below 2^30, also that of greater places, which other places may have as
+/// well. No answer depends on it, so nothing is proved of it.
+///
+/// Source: Morton 1966 (the order of cells along a Z-shaped curve).
 #[inline]
 pub fn morton_number(x: u32, y: u32, z: u32) -> u32 {
     spread(x) << 2 | spread(y) << 1 | spread(z)
