@@ -1,5 +1,5 @@
 //! The calls of a closure at indices, which threads claim one after the other.
-ghost use Rattle.std.specs.Prelude.{◌≡◌, ◌<◌, ℕ, IfOk, length};
+ghost use Rattle.std.specs.Prelude.{◌≡◌, ◌<◌, ℕ, IfOk, IsNone, length};
 ghost use Rattle.std.specs.List.{All};
 ghost use Rattle.std.specs.Fork.{GivesEach};
 ghost use Rattle.std.specs.Thread.{IsSend, IsSync};
@@ -63,13 +63,9 @@ fn place<X: Send + Drop, F: Fn(usize) -> X + Sync>(
 }
 
 /// Returns an empty slot for each index below `count`.
-fn empty_slots<X: Send + Drop, F: Fn(usize) -> X + Sync>(
-    alloc: Global,
-    count: usize,
-    f: &F,
-) -> Result<Vec<Option<X>>, AllocError>
+fn empty_slots<X>(alloc: Global, count: usize) -> Result<Vec<Option<X>>, AllocError>
     ensures len { IfOk result (λ v. length v.items ≡ count) }
-    ensures placed { IfOk result (λ v. ArePlaced F.Fn f.now v.items) }
+    ensures empty { IfOk result (λ v. All IsNone v.items) }
 {
     let mut slots = Vec::with_capacity(alloc, count)?;
     for _ in 0..count {
@@ -130,7 +126,7 @@ pub fn map_claimed<R: Threads, X: Send + Drop, F: Fn(usize) -> X + Sync>(
             ensures { AreAnswers F.Fn f.entry.now count result }
         { claim(alloc, &next, count, f) },
     )?;
-    let mut slots = empty_slots(alloc, count, f)?;
+    let mut slots = empty_slots(alloc, count)?;
     for answers in claimed {
         slots = place(answers?, slots, f);
     }
