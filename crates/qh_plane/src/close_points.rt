@@ -20,8 +20,8 @@ const LOOKED_AT: usize = 32;
 /// list, the others are not tested.
 const FIRST_POINTS: usize = 4096;
 
-/// Fewer slots than this lie in a processor's own memory.
-pub const SHARED_SLOTS: u64 = 65_536;
+/// A table of fewer slots than this fits a processor's own memory, its cache. A slot takes four bytes.
+pub const CACHE_SLOTS: u64 = 65_536;
 
 /// The numbers from one to another.
 #[derive(Clone, Copy, Drop)]
