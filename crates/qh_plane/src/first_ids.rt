@@ -11,7 +11,7 @@ ghost use Rattle.qh_model.specs.headline.DistinctIds.{AreDistinctIds};
 ghost use Rattle.qh_plane.specs.steps.FirstIds.{AreSeen, AreFirstIds, ArePieces};
 
 use crate::close_points::{CloseBox, same_point};
-use crate::found_ids::FoundIds;
+use crate::found_ids::{FoundIds, told};
 use qh_model::{Id, POINT_LIMIT, Point};
 use qh_threads::{PARTS_FOR_EACH, map_chunks};
 use std::alloc::{AllocError, Global};
@@ -118,11 +118,7 @@ fn distinct_of_pieces(
     let mut firsts = FirstIds::new(alloc, close, pts)?;
     let mut begin: usize = 0;
     for piece in pieces {
-        let found = match piece {
-            Ok(found) => found,
-            Err(error) => return Err(*error),
-        };
-        let Some(ids) = found else {
+        let Some(ids) = told(piece)? else {
             return Ok(None);
         };
         let end = begin.saturating_add(size).min(pts.len());

@@ -1,5 +1,6 @@
 -- One piece more.
 use Rattle.std.proofs.Common.{◌≡◌, ◌≤◌, ◌+◌, ◌*◌, length, arith, sym, subst, IfSome, Vec, ℕ, Global}
+use Rattle.std.specs.Option.{option_copied}
 use Rattle.qh_plane.specs.steps.{FirstIds.AreFirstIds, Pieces.end_of}
 use Rattle.qh_plane.proofs.{FirstIds.next_end, SeenPlaces.all_seen}
 use Rattle.qh_plane.proofs.first_ids.distinct_of_pieces.Goals as goal
@@ -14,9 +15,9 @@ look_at_piece-requires-clause-firsts c =
     let pts = c.args.pts.now in let size = c.args.size in let n = c.loop-piece.piece-index in
     let next = next_end pts size n c.loop-piece.begin c.saturating_add.result c.min-end.result c.requires.few
     c.loop-piece.invariant.begin c.saturating_add.ensures c.min-end.ensures in
-    let found : IfSome c.in-Ok.found (λ (v : Vec ℕ Global). AreFirstIds pts (end_of pts size n) (end_of pts size (n + 1)) v.items) =
-    rw c.in-Ok.is at (rw (sym c.piece-item.is) at (c.requires.pieces n c.piece-item.result c.loop-piece-test.true)) in
-    let firsts : AreFirstIds pts (end_of pts size n) (end_of pts size (n + 1)) c.in-Some.ids.items = rw c.in-Some.is at found in
+    let found : IfSome (option_copied c.in_ok-ids.field-0) (λ (v : Vec ℕ Global). AreFirstIds pts (end_of pts size n) (end_of pts size (n + 1)) v.items) =
+    rw c.in_ok-ids.ensures at (rw (sym c.piece-item.is) at (c.requires.pieces n c.piece-item.result c.loop-piece-test.true)) in
+    let firsts : AreFirstIds pts (end_of pts size n) (end_of pts size (n + 1)) c.in-Some.ids.now.items = rw c.in-Some.is at found in
     subst (λ b. AreFirstIds pts b c.min-end.result c.deref.result.now) (sym c.loop-piece.invariant.begin)
     (subst (λ e. AreFirstIds pts (end_of pts size n) e c.deref.result.now) (sym next.0)
     (subst (AreFirstIds pts (end_of pts size n) (end_of pts size (n + 1))) (sym c.deref.ensures.value) firsts))
