@@ -1,3 +1,4 @@
+pub mod AbsentValues
 pub mod Chunks
 pub mod ClaimedFaces
 pub mod FaultCases

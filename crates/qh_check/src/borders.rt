@@ -55,8 +55,5 @@ pub fn have_one_border(
 {
     let steps = steps_and_back(alloc, polygons, others)?;
     let other_steps = steps_and_back(alloc, others, polygons)?;
-    match other_key(&steps, &other_steps) {
-        Some(_) => Ok(false),
-        None => Ok(true),
-    }
+    Ok(other_key(&steps, &other_steps).is_none())
 }
