@@ -15,8 +15,8 @@ use qh_places::Places;
 use std::alloc::Global;
 use std::thread::Threads;
 
-/// Returns true if each of some polygons is a face of a set, by a number of threads: each tests a part of the
-/// polygons.
+/// Returns true if each of some polygons is a face of a set, by a number of threads, which claim parts of the polygons
+/// one after the other.
 ///
 /// `places` holds the ids of the set, each the index of one of the points. No `workers` means one.
 ///

@@ -79,7 +79,7 @@ pub fn check(alloc: Global, claim: Claim) -> Result<Verdict, Memory>
     check_by(&Alone, alloc, claim)
 }
 
-/// Checks polygons as [`check`] does, by a number of threads: each looks at a part of the polygons.
+/// Checks polygons as [`check`] does, by a number of threads, which claim parts of the polygons one after the other.
 ///
 /// No `workers` means one. The verdict may name another of several polygons that are no faces.
 ///

@@ -107,7 +107,8 @@ fn check_surface_by<S: Searcher>(
 /// first a polygon that is no piece of a face, then an open edge, then a step that is taken twice. Of several
 /// polygons that are no pieces it names any one.
 ///
-/// Each worker looks at a part of the polygons; no `workers` means one, for which no thread is started.
+/// If planes are to be tested, the threads claim parts of the polygons one after the other. No `workers` means one, for
+/// which no thread is started.
 ///
 /// # Errors
 ///

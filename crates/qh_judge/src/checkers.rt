@@ -27,7 +27,7 @@ impl Checker for Alone {
     }
 }
 
-/// A runtime and a number of its threads, each at a part of the polygons. No `workers` means one.
+/// A runtime and a number of its threads, which claim parts of the polygons one after the other. No `workers` means one.
 #[derive(Clone, Copy, Debug)]
 pub struct InThreads<'a, R> {
     pub rt: &'a R,

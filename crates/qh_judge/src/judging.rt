@@ -56,7 +56,9 @@ fn judge_by<C: Checker>(
 ///
 /// The corners of the faces are indices of `named`, which may be the points themselves. Of several points at
 /// one place any may be named. There is one point at least, and there are at most `POINT_LIMIT`, which the
-/// caller keeps. Each worker looks at a part of the faces; no `workers` means one.
+/// caller keeps.
+///
+/// The threads claim parts of the points, and then of the faces, one after the other. No `workers` means one.
 ///
 /// # Errors
 ///

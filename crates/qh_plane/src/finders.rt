@@ -76,7 +76,8 @@ impl<R: Threads + Sync> Finder for BySort<'_, R> {
     }
 }
 
-/// A runtime and the greatest number of its threads, each at a part of the hashes.
+/// A runtime and the greatest number of its threads, which claim pieces of the list, or parts of the hashes, one after the
+/// other.
 #[derive(Clone, Copy, Debug)]
 pub struct InThreads<'a, R> {
     pub rt: &'a R,
