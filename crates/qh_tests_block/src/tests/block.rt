@@ -17,6 +17,7 @@ mod face_order;
 mod looks;
 mod prisms;
 mod refusals;
+mod runs;
 mod solid_rows;
 mod surfaces;
 
