@@ -1,5 +1,6 @@
 //! The finished mesh of a solid set, and its hull from it.
-ghost use Rattle.std.specs.Prelude.{◌≡◌, ◌↔◌, ℕ, List, IfOk, length};
+ghost use Rattle.std.specs.Prelude.{◌≡◌, ◌<◌, ◌↔◌, ℕ, List, IfOk, length};
+ghost use Rattle.std.specs.List.{All};
 ghost use Rattle.std.specs.List.Sorted.{IsStrictlyIncreasing};
 ghost use Rattle.qh_model.specs.contract.ClosedPolygons.{AreClosedFaces};
 ghost use Rattle.qh_model.specs.contract.IdSets.{AreIndices, HasDistinctPoints, IsIdSet};
@@ -11,6 +12,7 @@ ghost use Rattle.qh_model.specs.headline.Predicates.{place};
 ghost use Rattle.qh_model.specs.headline.Sets.{In, Once, Members};
 ghost use Rattle.qh_model.specs.headline.Vector.{Vector};
 ghost use Rattle.qh_model.specs.contract.StoredSurface.{surface_of};
+ghost use Rattle.qh_plane.specs.contract.Marks.{marked};
 ghost use Rattle.qh_plane.specs.contract.Shapes.{IsInLine, IsInPlane, IsFirstNot, AreFirstTwo};
 ghost use Rattle.qh_block.specs.contract.Tallies.{all_members, IsTally};
 ghost use Rattle.qh_surface.specs.contract.NamedMeshes.{named, IsNamedMesh};
@@ -20,7 +22,7 @@ use crate::faces::faces;
 use crate::solid_edges::edge_count;
 use qh_interior::IdSet;
 use qh_model::{Body, Id, Memory, Point, Polygon};
-use qh_plane::rising_ids;
+use qh_plane::{IdMarks, past_greatest, rising_ids};
 use qh_surface::{NamedMesh, Simplex, surface_from};
 use std::alloc::{AllocError, Global};
 
@@ -47,11 +49,39 @@ fn listed_ids(alloc: Global, polygons: &[Polygon]) -> Result<Vec<Id>, AllocError
     Ok(ids)
 }
 
-/// Returns the ids of all polygons, rising, each once.
+/// Returns one more than the greatest id of all polygons, or 0 if there are no ids.
+fn past_corners(polygons: &[Polygon]) -> usize
+    ensures { All (λ i. i < result) (all_members polygons.now) }
+{
+    let mut past = 0;
+    for polygon in polygons {
+        past = past.max(past_greatest(polygon.ids()));
+    }
+    past
+}
+
+/// Sets the marks of the ids of all polygons.
+fn mark_corners(marks: &mut IdMarks, polygons: &[Polygon])
+    requires { All (λ i. i < length marks.old) (all_members polygons.now) }
+    ensures { marks.new ≡ marked marks.old (all_members polygons.now) }
+{
+    for polygon in polygons {
+        marks.mark(polygon.ids());
+    }
+}
+
+/// Returns the ids of all polygons, rising, each once. The ids are listed for a sort only where they are few and far
+/// apart.
 fn corners(alloc: Global, polygons: &[Polygon]) -> Result<Vec<Id>, Memory>
     ensures rising { IfOk result (λ v. IsStrictlyIncreasing v.items) }
     ensures members { IfOk result (λ v. (i : ℕ) → In i v.items ↔ In i (all_members polygons.now)) }
 {
+    let past = past_corners(polygons);
+    if IdMarks::are_faster(past, polygons.len().saturating_mul(3)) {
+        let mut marks = IdMarks::new(alloc, past)?;
+        mark_corners(&mut marks, polygons);
+        return marks.into_ids(alloc);
+    }
     let ids = listed_ids(alloc, polygons)?;
     rising_ids(alloc, &ids)
 }

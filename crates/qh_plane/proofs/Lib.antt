@@ -1,6 +1,7 @@
 pub mod KeyOrder
 pub mod PlaceOrder
 pub mod MarkedIds
+pub mod MarkedLists
 pub mod RepeatedPlaces
 pub mod SortedPoints
 pub mod DistinctLists

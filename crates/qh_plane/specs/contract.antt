@@ -2,3 +2,4 @@
 pub mod PlaceNumbers
 pub mod PlanarSets
 pub mod Shapes
+pub mod Marks

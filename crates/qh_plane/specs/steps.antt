@@ -3,7 +3,6 @@ pub mod Chains
 pub mod CloseBoxes
 pub mod Pieces
 pub mod FirstIds
-pub mod Marks
 pub mod PlaceKeys
 pub mod HashedKeys
 pub mod HashGroups

@@ -16,6 +16,7 @@ mod hash_groups;
 mod hash_parts;
 mod hashed_keys;
 mod id_lists;
+mod id_marks;
 mod inner_places;
 mod place_keys;
 mod planar;
@@ -27,6 +28,7 @@ mod sorted_points;
 
 pub use distinct_points::{distinct, distinct_alone, distinct_in_threads};
 pub use id_lists::rising_ids;
+pub use id_marks::{IdMarks, MARKS_FOR_EACH, past_greatest};
 pub use inner_places::outer_ids;
 pub use place_keys::{ROOM, place_key, place_key_id};
 pub use planar::polygon;

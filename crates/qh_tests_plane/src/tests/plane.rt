@@ -8,6 +8,7 @@ use std::process::Abort;
 use std::test::Fail;
 use std::thread::Threads;
 
+mod id_marks;
 mod large_polygons;
 mod many_points;
 mod refusals;

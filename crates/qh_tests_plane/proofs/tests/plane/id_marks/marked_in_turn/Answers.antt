@@ -1,0 +1,24 @@
+-- The ids of both lists are below the greater of two bounds.
+use Rattle.std.proofs.Common.{◌<◌, ◌≤◌, ◌∙◌, ℕ, List, ap, arith, length, subst, sym}
+use Rattle.std.proofs.lemmas.Grind.{common_steps}
+use Rattle.std.proofs.lemmas.List.{Elements.All-weaker}
+use Rattle.std.specs.List.{All}
+use Rattle.qh_plane.proofs.{KeptIds.has_room, MarkedIds.length-marked}
+use Rattle.qh_tests_plane.proofs.tests.plane.id_marks.marked_in_turn.Goals as goal
+
+-- what is below a bound is below a greater one
+below_greater : (bound past : ℕ) (ids : List ℕ) → bound ≤ past → All (λ i. i < bound) ids → All (λ i. i < past) ids
+below_greater bound past ids more = All-weaker (λ i. i < bound) (λ i. i < past) (λ i below. omega (arith, below, more)) ids
+
+pub mark-requires : goal.mark-requires
+mark-requires c =
+    let past = c.max-past.result in let first = c.args.first.now in
+    has_room past c.in_ok-marks.marks first c.in_ok-marks.ensures
+    (below_greater c.past_greatest.result past first (grind (arith, common_steps)) c.past_greatest.ensures.below)
+
+pub mark-requires-2 : goal.mark-requires-2
+mark-requires-2 c =
+    let past = c.max-past.result in let second = c.args.second.now in
+    subst (λ n. All (λ i. i < n) second) (sym (ap length c.mark.ensures ∙ length-marked c.in_ok-marks.marks c.args.first.now))
+    (has_room past c.in_ok-marks.marks second c.in_ok-marks.ensures
+    (below_greater c.past_greatest-2.result past second (grind (arith, common_steps)) c.past_greatest-2.ensures.below))
