@@ -1,14 +1,17 @@
 # Builds and installs the programs; the library for C has its own Makefile in c/.
 #
-#     make                  builds the programs, which proves them first where they were not proved
+#     make                  builds the programs; those that were not built yet are proved first
 #     make install          the program with its manual page and what shells complete, and hullcheck, under PREFIX (/usr/local),
 #                           below DESTDIR
 #     make install NAME=qconvex-exact
 #                           the same by another name, beside Qhull's program qconvex
 #     make uninstall
 #     make -C c install     the libraries for C, with header, qconvex.pc and a CMake package
+#
+# JOBS is how many crates are proved side by side.
 PREFIX ?= /usr/local
 NAME ?= qconvex
+JOBS ?= $(shell nproc)
 BINDIR ?= $(PREFIX)/bin
 DATADIR ?= $(PREFIX)/share
 PROGRAM = crates/qconvex/out/qconvex
@@ -22,9 +25,11 @@ FISH_COMPLETION = $(DESTDIR)$(DATADIR)/fish/vendor_completions.d/$(NAME).fish
 all: $(PROGRAM) $(CHECKER)
 
 $(PROGRAM):
+	cd crates/qconvex && rt all check --jobs $(JOBS)
 	cd crates/qconvex && rt run -- s < ../../examples/unit-cube.txt
 
 $(CHECKER): $(PROGRAM)
+	cd crates/hullcheck && rt all check --jobs $(JOBS)
 	$(PROGRAM) off < examples/unit-cube.txt | (cd crates/hullcheck && rt run -- ../../examples/unit-cube.txt)
 
 install: $(PROGRAM) $(CHECKER)

@@ -24,10 +24,10 @@ PHASES = ["read", "distinct", "look", "surface", "faces", "text", "system", "els
 OWNERS = [
     (r"^qh_write::", "text"),
     (r"^qh_read::|^qconvex::serve", "read"),
-    (r"^qh_plane::(close_points|distinct_points|finders|first_ids|hash_groups|hash_parts|hashed_keys|repeats|shared_slots|sorted_points|place_keys)", "distinct"),
+    (r"^qh_plane::", "distinct"),
     (r"^qh_interior::", "look"),
     (r"^qh_block::(faces|face_order|face_keys|hulls|plane_walk|solid_edges|bodies|flat_sets)|^qh_surface::named_mesh", "faces"),
-    (r"^qh_block::solids::(corners|listed)|^qh_plane::", "faces"),
+    (r"^qh_block::solids::(corners|listed)|^qh_polygon::", "faces"),
     (r"^qh_block::|^qh_surface::|^qh_mesh::|^qh_pred::", "surface"),
 ]
 

@@ -3,7 +3,7 @@ ghost use Rattle.std.specs.Prelude.{◌≡◌, IfOk};
 ghost use Rattle.qh_block.specs.steps.FlatBodies.{IsFlatBody};
 
 use qh_model::{Body, Id, Memory, Polygon};
-use qh_plane::rising_ids;
+use qh_polygon::rising_ids;
 use std::alloc::Global;
 
 /// Returns the polygon of a few ids.

@@ -1,6 +1,6 @@
 //! The hulls of sets in a point, a line or a plane.
 ghost use Rattle.std.specs.Prelude.{IfOk};
-ghost use Rattle.qh_plane.specs.contract.Shapes.{IsInLine, IsInPlane, Each, IsFirstNot, AreFirstTwo};
+ghost use Rattle.qh_polygon.specs.contract.Shapes.{IsInLine, IsInPlane, Each, IsFirstNot, AreFirstTwo};
 ghost use Rattle.qh_block.specs.steps.IdSets.{IsHullOf};
 
 use crate::bodies::{flat_body, polygon_of};
@@ -8,7 +8,7 @@ use crate::normals::forward;
 use crate::segment::first_along;
 use qh_interior::IdSet;
 use qh_model::{Body, Id, Memory};
-use qh_plane::polygon;
+use qh_polygon::polygon;
 use qh_pred::{cross, point_at};
 use std::alloc::Global;
 

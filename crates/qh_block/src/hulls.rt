@@ -13,7 +13,7 @@ use crate::gathered::{ids_at, positions_below};
 use crate::solids::{solid_body, solid_extremes, solid_mesh};
 use qh_interior::{IdSet, cull_alone};
 use qh_model::{Body, Id, Memory, Point};
-use qh_plane::{Shape, rank};
+use qh_polygon::{Shape, rank};
 use qh_surface::{Simplex, points_of};
 use std::alloc::Global;
 

@@ -12,8 +12,8 @@ ghost use Rattle.qh_model.specs.headline.Predicates.{place};
 ghost use Rattle.qh_model.specs.headline.Sets.{In, Once, Members};
 ghost use Rattle.qh_model.specs.headline.Vector.{Vector};
 ghost use Rattle.qh_model.specs.contract.StoredSurface.{surface_of};
-ghost use Rattle.qh_plane.specs.contract.Marks.{marked};
-ghost use Rattle.qh_plane.specs.contract.Shapes.{IsInLine, IsInPlane, IsFirstNot, AreFirstTwo};
+ghost use Rattle.qh_polygon.specs.contract.Marks.{marked};
+ghost use Rattle.qh_polygon.specs.contract.Shapes.{IsInLine, IsInPlane, IsFirstNot, AreFirstTwo};
 ghost use Rattle.qh_block.specs.contract.Tallies.{all_members, IsTally};
 ghost use Rattle.qh_surface.specs.contract.NamedMeshes.{named, IsNamedMesh};
 
@@ -22,7 +22,7 @@ use crate::faces::faces;
 use crate::solid_edges::edge_count;
 use qh_interior::IdSet;
 use qh_model::{Body, Id, Memory, Point, Polygon};
-use qh_plane::{IdMarks, past_greatest, rising_ids};
+use qh_polygon::{IdMarks, past_greatest, rising_ids};
 use qh_surface::{NamedMesh, Simplex, surface_from};
 use std::alloc::{AllocError, Global};
 

@@ -17,7 +17,7 @@ use Rattle.qh_model.proofs.extremes.Faces.{extremes_of_face}
 use Rattle.qh_model.proofs.hulls.SameSets.{extreme_as}
 use Rattle.qh_model.proofs.polygons.Direction.{polygon_as}
 use Rattle.qh_pred.specs.contract.Planes.{PlaneValue, height}
-use Rattle.qh_plane.specs.contract.PlanarSets.{IsPlanarSet}
+use Rattle.qh_polygon.specs.contract.PlanarSets.{IsPlanarSet}
 use Rattle.qh_places.specs.contract.Places.{AreLevel}
 
 -- the same ids in another order

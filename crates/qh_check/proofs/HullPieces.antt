@@ -20,7 +20,7 @@ use Rattle.qh_model.proofs.polygons.Edges.{seen_from}
 use Rattle.qh_model.proofs.polygons.PlaneTurns.{level_along, level_volume}
 use Rattle.qh_pred.specs.contract.Turns.{IsAcross}
 use Rattle.qh_pred.proofs.Turns.{turn_sign}
-use Rattle.qh_plane.proofs.polygons.Chain.{is_left-yes}
+use Rattle.qh_polygon.proofs.polygons.Chain.{is_left-yes}
 use Rattle.qh_check.specs.contract.Pieces.{IsMetRound, IsPiece}
 use Rattle.qh_check.specs.steps.HullFaces.{IsPieceAmong, TurnsAlike}
 use Rattle.qh_check.specs.steps.Faces.{IsFaceOf}

@@ -13,7 +13,7 @@ use crate::solids::check_solid;
 use crate::verdict::Verdict;
 use qh_block::hull;
 use qh_model::{Memory, Polygon};
-use qh_plane::{Shape, rank};
+use qh_polygon::{Shape, rank};
 use std::alloc::Global;
 use std::thread::Threads;
 

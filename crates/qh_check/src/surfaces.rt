@@ -21,7 +21,7 @@ use crate::found_pieces::are_pieces_of_hull;
 use crate::searchers::{Alone, InThreads, Searcher, find_fault};
 use crate::verdict::Verdict;
 use qh_model::{Memory, Polygon};
-use qh_plane::{Shape, rank};
+use qh_polygon::{Shape, rank};
 use std::alloc::Global;
 use std::thread::Threads;
 

@@ -2,7 +2,7 @@
 ghost use Rattle.qh_model.specs.contract.IdSets.{AreIndices};
 
 use qh_model::{Id, Memory, Point};
-use qh_plane::{Shape, rank};
+use qh_polygon::{Shape, rank};
 use qh_surface::{Simplex, ends_of, wide_simplex};
 use std::alloc::Global;
 

@@ -10,7 +10,7 @@ use qh_block::hull;
 use qh_curve::Cell;
 use qh_keys::Packed;
 use qh_model::{Id, Memory, Point, Polygon};
-use qh_plane::rising_ids;
+use qh_polygon::rising_ids;
 use qh_surface::{Axes, ends_of};
 use std::alloc::{AllocError, Global};
 

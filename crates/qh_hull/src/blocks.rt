@@ -9,7 +9,7 @@ ghost use Rattle.qh_model.specs.laws.HullLaws.{HasExtremes};
 
 use qh_block::{BLOCK_ALONE, TELLING, WHOLE_ALONE, are_few, extremes, hull};
 use qh_model::{Body, Id, Memory, Point};
-use qh_plane::rising_ids;
+use qh_polygon::rising_ids;
 use std::alloc::Global;
 
 /// Returns true if blocks pay: the set is large, and of its first ids few are extreme.

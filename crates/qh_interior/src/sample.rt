@@ -12,7 +12,7 @@ use crate::rules::sample_pays;
 use crate::sieves::Sieve;
 use qh_mesh::Mesh;
 use qh_model::{Id, Memory, Point};
-use qh_plane::{Shape, rank};
+use qh_polygon::{Shape, rank};
 use qh_surface::{Simplex, plane_of, surface_from};
 use std::alloc::{AllocError, Global};
 

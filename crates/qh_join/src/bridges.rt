@@ -18,7 +18,7 @@ ghost use Rattle.qh_join.specs.steps.Bridges.{held_in, places_in, places_of, Are
 use crate::near_parts::NearPart;
 use crate::three::Three;
 use qh_model::{Id, Memory, Point, Polygon};
-use qh_plane::{polygon, rising_ids};
+use qh_polygon::{polygon, rising_ids};
 use qh_pred::{Plane, cross, in_line, point_at};
 use qh_seam::{Divided, Part};
 use qh_threads::{PARTS_FOR_EACH, map_chunks};

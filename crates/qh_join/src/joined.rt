@@ -10,7 +10,9 @@ ghost use Rattle.qh_model.specs.headline.Polygons.{RiseStrictly};
 ghost use Rattle.qh_model.specs.headline.Sets.{In, Members};
 ghost use Rattle.qh_model.specs.headline.Vector.{Vector};
 ghost use Rattle.qh_seam_laws.specs.contract.Parts.{AreKept, IsPartFace};
+ghost use Rattle.qh_check.specs.contract.Borders.{HaveOneBorder};
 ghost use Rattle.qh_join.specs.contract.Joined.{AreJoined};
+ghost use Rattle.qh_join.specs.steps.Bridges.{IsBridge};
 ghost use Rattle.qh_seam.specs.contract.Parts.{IsPartOf};
 
 use crate::bridges::are_bridges;
@@ -52,6 +54,39 @@ fn order_and_tally<R: Threads>(
     )
 }
 
+/// Returns whether bridges have the border of the faces that are gone, and whether each is a face of what is kept of a
+/// set. With two workers or more one of them looks at the border, and the others at the bridges.
+fn close_and_are_faces<R: Threads>(
+    rt: &R,
+    alloc: Global,
+    set: Divided,
+    gone: &[Polygon],
+    bridges: &[Polygon],
+    workers: usize,
+) -> (Result<bool, Memory>, Result<bool, Memory>)
+    requires parts { All (IsPartOf set.pts.now set.shared.now) set.parts.now }
+    requires shared { AreIndices set.pts.now set.shared.now }
+    ensures border { IfOk result.0 (λ yes. IsTrue yes ↔ HaveOneBorder gone.now bridges.now) }
+    ensures faces { IfOk result.1 (λ yes. IsTrue yes → All
+        (IsBridge set.entry.pts.now set.entry.parts.now set.entry.shared.now) bridges.now) }
+{
+    if workers < 2 {
+        let closes = have_one_border(alloc, gone, bridges);
+        return (closes, are_bridges(rt, alloc, set, bridges, workers));
+    }
+    let others = workers - 1;
+    let border = move || -> Result<bool, Memory>
+        ensures { IfOk result (λ yes. IsTrue yes ↔ HaveOneBorder gone.entry.now bridges.entry.now) }
+    { have_one_border(alloc, gone, bridges) };
+    let look = move || -> Result<bool, Memory>
+        requires parts { All (IsPartOf set.pts.now set.shared.now) set.parts.now }
+        requires shared { AreIndices set.pts.now set.shared.now }
+        ensures { IfOk result (λ yes. IsTrue yes → All
+            (IsBridge set.entry.pts.now set.entry.parts.now set.entry.shared.now) bridges.entry.now) }
+    { are_bridges(rt, alloc, set, bridges, others) };
+    join(rt, border, look)
+}
+
 /// Returns faces that parts of a set contribute and polygons that close the gap between them; `None` if one of the
 /// latter is no face of what is kept of the set, or they do not have the border of the faces that are gone.
 ///
@@ -76,12 +111,9 @@ pub fn join_faces<R: Threads>(
         AreJoined set.entry.pts.now set.entry.parts.now set.entry.shared.now given v)) }
     ensures closed { IfOk result (λ found. IfSome found (λ v. AreClosed (given ++ gone.now) → AreClosed v)) }
 {
-    let closes = have_one_border(alloc, gone, &bridges)?;
-    if !closes {
-        return Ok(None);
-    }
-    let are = are_bridges(rt, alloc, set, &bridges, workers)?;
-    if !are {
+    let (closes, are_faces) = close_and_are_faces(rt, alloc, set, gone, &bridges, workers);
+    let (closes, are_faces) = (closes?, are_faces?);
+    if !closes || !are_faces {
         return Ok(None);
     }
     let bridges = UnsortedFaces::of(alloc, bridges)?;

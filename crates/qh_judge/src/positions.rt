@@ -2,7 +2,7 @@
 //!
 //! Nothing is proved of the positions: the caller compares the points.
 use qh_model::{Id, Point};
-use qh_plane::{place_key, place_key_id};
+use qh_polygon::{place_key, place_key_id};
 use std::alloc::{AllocError, Global};
 
 /// Returns the sorted keys of the points of some ids, and of those of a list: each with its position, those of the

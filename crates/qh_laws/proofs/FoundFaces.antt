@@ -11,7 +11,7 @@ use Rattle.qh_model.specs.{contract.IdSets.HasDistinctPoints, headline.Dimension
 use Rattle.qh_model.specs.headline.Polygons.{ComesBefore, RisesFrom, RiseStrictly, IsFacePolygon, AreFaces}
 use Rattle.qh_model.specs.headline.{Predicates.cross, Predicates.vol, Predicates.AreInLine, Sets.In, Sets.Members, SupportingPlane.Supports}
 use Rattle.qh_model.specs.headline.{SupportingPlane.IsSupportingTriple, SupportingPlane.OnPlane, Vector.Vector, Vector.origin}
-use Rattle.qh_plane.proofs.polygons.Turns.{IsFlat}
+use Rattle.qh_polygon.proofs.polygons.Turns.{IsFlat}
 use Rattle.qh_laws.proofs.{FoundPolygons.polygon_found, Sorting.Compare, Sorting.Rises, Sorting.InRow, Sorting.Sorted, Sorting.sorted}
 
 -- members of one plane lie flat across its normal

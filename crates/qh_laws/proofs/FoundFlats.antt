@@ -12,7 +12,7 @@ use Rattle.qh_model.specs.{contract.IdSets.HasDistinctPoints, headline.Dimension
 use Rattle.qh_model.specs.headline.{Extreme.Extreme, Polygon.Follows, Polygon.IsPolygon, Polygons.PointsForward, Polygons.IsFlatFace, Polygons.IsSegmentFace}
 use Rattle.qh_model.specs.headline.{Polygons.IsPointFace, Predicates.cross, Predicates.vol, Predicates.left, Predicates.AreInLine, Sets.In, Sets.Members}
 use Rattle.qh_model.specs.headline.Vector.{Vector, origin, minus, cross_product, dot}
-use Rattle.qh_plane.proofs.{LinesAndPlanes.between_eq, LinesAndPlanes.none, polygons.Turns.IsFlat}
+use Rattle.qh_polygon.proofs.{LinesAndPlanes.between_eq, LinesAndPlanes.none, polygons.Turns.IsFlat}
 use Rattle.qh_laws.proofs.FoundPolygons.{polygon_found}
 
 -- ---- directions

@@ -6,7 +6,7 @@ use borrow.Author.Differences.{lt_out}
 use Rattle.qh_model.proofs.{Members.every_at, algebra.Order.le_antisym, algebra.VectorIdentities.vector_path, combinations.WeightedTerms.bound}
 use Rattle.qh_model.proofs.extremes.ExtremeIds.{Listed}
 use Rattle.qh_model.specs.{contract.IdSets.HasDistinctPoints, headline.Sets.In, headline.Vector.Vector, headline.Vector.dot}
-use Rattle.qh_plane.proofs.polygons.{TurnLaws.RisesBy, Turns.IsKeyed, Turns.height_of}
+use Rattle.qh_polygon.proofs.polygons.{TurnLaws.RisesBy, Turns.IsKeyed, Turns.height_of}
 use Rattle.qh_laws.proofs.Sorting.{Compare, Rises, InRow, Sorted, sorted}
 
 -- a large factor outweighs what is added to it

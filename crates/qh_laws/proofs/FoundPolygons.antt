@@ -6,9 +6,9 @@ use Rattle.qh_model.proofs.algebra.{Order.le_antisym, Signs.lt_neg, VectorIdenti
 use Rattle.qh_model.proofs.extremes.ExtremeIds.{Listed}
 use Rattle.qh_model.specs.contract.IdSets.{HasDistinctPoints}
 use Rattle.qh_model.specs.headline.{Dimension.HasSegment, Extreme.Extreme, Polygon.IsPolygon, Vector.Vector}
-use Rattle.qh_plane.proofs.polygons.GoesRound.{GoesRound, goes_round}
-use Rattle.qh_plane.proofs.polygons.{LeastFirst.polygon_of, Turns.IsFlat, Turns.IsKeyed, Turns.turn_about, Turns.height_of, TwoChains.keyed_opposite}
-use Rattle.qh_plane.specs.steps.Chains.{chain, joined}
+use Rattle.qh_polygon.proofs.polygons.GoesRound.{GoesRound, goes_round}
+use Rattle.qh_polygon.proofs.polygons.{LeastFirst.polygon_of, Turns.IsFlat, Turns.IsKeyed, Turns.turn_about, Turns.height_of, TwoChains.keyed_opposite}
+use Rattle.qh_polygon.specs.steps.Chains.{chain, joined}
 use Rattle.qh_laws.proofs.FoundHeights.{direction, rising}
 
 -- the place of a least number

@@ -1,2 +1,3 @@
 pub mod Popped
 pub mod Divided
+pub mod AllFaces

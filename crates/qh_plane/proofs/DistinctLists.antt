@@ -6,9 +6,9 @@ use Rattle.std.specs.{List.All, List.Sorted.IsStrictlyIncreasing, List.Sorted.Is
 use Rattle.qh_model.proofs.{Members.In-get_or, Members.All-of, Members.in_at}
 use Rattle.qh_model.specs.contract.IdSets.{IsIdSet}
 use Rattle.qh_model.specs.headline.{DistinctIds.IsDistinctId, DistinctIds.AreDistinctIds, Predicates.place, Sets.In, Vector.Vector}
-use Rattle.qh_plane.proofs.KeyOrder.{IsKeyIn, TellIds, code_le, key_told, key_listed, keys_rise}
-use Rattle.qh_plane.proofs.MarkedIds.{IsMarked, in_marked_ids, of_marked_ids, marked_ids-rise}
-use Rattle.qh_plane.specs.contract.Marks.{marked_ids}
+use Rattle.qh_polygon.proofs.KeyOrder.{IsKeyIn, TellIds, code_le, key_told, key_listed, keys_rise}
+use Rattle.qh_polygon.proofs.MarkedIds.{IsMarked, in_marked_ids, of_marked_ids, marked_ids-rise}
+use Rattle.qh_polygon.specs.contract.Marks.{marked_ids}
 use Rattle.qh_plane.specs.steps.{PlaceKeys.AllIds, PlaceKeys.ArePlaceRepeats, Repeats.IsRepeatedId, Repeats.AreAllRepeats}
 use Rattle.qh_plane.specs.steps.SortedPoints.{AllDiffer}
 

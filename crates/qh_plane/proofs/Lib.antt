@@ -1,7 +1,3 @@
-pub mod KeyOrder
-pub mod PlaceOrder
-pub mod MarkedIds
-pub mod MarkedLists
 pub mod RepeatedPlaces
 pub mod SortedPoints
 pub mod DistinctLists
@@ -10,11 +6,5 @@ pub mod HashGroups
 pub mod PlaceLists
 pub mod RepeatedIds
 pub mod SharedSlots
-pub mod KeptIds
 pub mod SeenPlaces
 pub mod FirstIds
-pub mod PlaneDirections
-pub mod LinesAndPlanes
-pub mod ShapeDimension
-pub mod polygons
-pub mod InnerPlaces

@@ -6,11 +6,13 @@ use Rattle.qh_model.proofs.Members.{All-In, In-get_or}
 use Rattle.qh_model.specs.declared.limits.TheConstants.{POINT_LIMIT}
 use Rattle.qh_model.specs.headline.{Predicates.place, Sets.In, Vector.Vector}
 use Rattle.qh_plane.proofs.DistinctLists.{AreSortedKeys, StandsAt, all_in, in_all, rises_each, all_within, index_in, up, position, stands_before, all_repeats}
-use Rattle.qh_plane.proofs.PlaceOrder.{place_code-same}
-use Rattle.qh_plane.specs.declared.{hashed_keys.TheConstants.ID_ROOM, place_keys.TheConstants.ROOM}
+use Rattle.qh_polygon.proofs.PlaceOrder.{place_code-same}
+use Rattle.qh_polygon.specs.declared.place_keys.TheConstants.{ROOM}
+use Rattle.qh_plane.specs.declared.hashed_keys.TheConstants.{ID_ROOM}
 use Rattle.qh_plane.specs.steps.HashedKeys.{place_hash, hash_at, Hashes, WithHashes, AreKeysBelow, AreHashedKeys, IsRepeat, RepeatsTold}
-use Rattle.qh_plane.specs.contract.PlaceNumbers.{place_code, place_key}
-use Rattle.qh_plane.specs.steps.PlaceKeys.{HasKey, ArePlaceKeys, ArePlaceRepeats}
+use Rattle.qh_polygon.specs.contract.PlaceNumbers.{place_code, place_key}
+use Rattle.qh_polygon.specs.contract.PlaceKeys.{HasKey}
+use Rattle.qh_plane.specs.steps.PlaceKeys.{ArePlaceKeys, ArePlaceRepeats}
 use Rattle.qh_plane.specs.steps.Repeats.{IsRepeatedId, AreRepeats, AreAllRepeats}
 
 -- ---- by the number of the place

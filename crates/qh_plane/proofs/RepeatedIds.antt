@@ -9,7 +9,7 @@ use Rattle.qh_model.specs.headline.{DistinctIds.IsDistinctId, DistinctIds.AreDis
 use Rattle.qh_plane.proofs.DistinctLists.{all_distinct, marked_distinct}
 use Rattle.qh_plane.specs.declared.hashed_keys.TheConstants.{ID_ROOM, NO_HASH}
 use Rattle.qh_plane.specs.steps.HashedKeys.{place_hash, hash_at, PartHashes, WithHashes, IsRepeat, RepeatsTold}
-use Rattle.qh_plane.specs.contract.Marks.{marked_ids}
+use Rattle.qh_polygon.specs.contract.Marks.{marked_ids}
 use Rattle.qh_plane.specs.steps.PlaceKeys.{AllIds}
 use Rattle.qh_plane.specs.steps.Repeats.{Ids, PartsBelow, IsRepeatedId, AreRepeats, AreAllRepeats, MarksWithout}
 

@@ -1,5 +1,4 @@
 -- What private functions speak of: nothing to believe.
-pub mod Chains
 pub mod CloseBoxes
 pub mod Pieces
 pub mod FirstIds
@@ -7,6 +6,5 @@ pub mod PlaceKeys
 pub mod HashedKeys
 pub mod HashGroups
 pub mod Repeats
-pub mod InnerPlaces
 pub mod SortedPoints
 pub mod SharedSlots

@@ -3,8 +3,8 @@
 ghost use Rattle.std.specs.Prelude.{◌≡◌, ◌≤◌, ◌<◌, ◌↔◌, IsTrue, length};
 ghost use Rattle.qh_plane.specs.steps.CloseBoxes.{slot_of};
 
-use crate::place_keys::biased;
 use qh_model::{POINT_LIMIT, Point};
+use qh_polygon::biased;
 use qh_pred::in_line;
 
 /// The greatest number of slots of a box for each point.

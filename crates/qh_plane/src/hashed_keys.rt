@@ -8,8 +8,8 @@ ghost use Rattle.std.specs.Prelude.{◌≡◌, ◌<◌, ◌≤◌, ◌+◌, ◌*
 ghost use Rattle.qh_plane.specs.steps.HashedKeys.{place_number, place_hash, hashed_key, AllHashes, AreKeysBelow, IsRepeat};
 
 use crate::close_points::same_point;
-use crate::place_keys::biased;
 use qh_model::{Id, POINT_LIMIT, Point};
+use qh_polygon::biased;
 use qh_pred::point_at;
 use std::alloc::{AllocError, Global};
 

@@ -10,7 +10,7 @@ ghost use Rattle.qh_seam.specs.contract.Parts.{ids_in, own_in, KeepsCorners, IsP
 
 use crate::parts::{Part, are_in};
 use qh_model::{Id, Memory};
-use qh_plane::rising_ids;
+use qh_polygon::rising_ids;
 use std::alloc::{AllocError, Global};
 
 /// Returns the ids of all parts, part by part.

@@ -16,7 +16,7 @@ ghost use Rattle.qh_seam.specs.contract.Parts.{IsPartOf};
 use qh_mesh::FacetNo;
 use qh_model::{Id, Memory, Point};
 use qh_places::{Outward, Places};
-use qh_plane::rising_ids;
+use qh_polygon::rising_ids;
 use qh_pred::{point_at, vol};
 use qh_surface::{NamedMesh, Simplex, surface_along};
 use std::alloc::{AllocError, Global};

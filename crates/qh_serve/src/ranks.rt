@@ -9,7 +9,7 @@ ghost use Rattle.qh_model.specs.headline.DistinctIds.{AreDistinctIds};
 ghost use Rattle.qh_model.specs.headline.Text.{IsText};
 
 use qh_model::{Body, Hull, Id, Memory, Point};
-use qh_plane::rank;
+use qh_polygon::rank;
 use qh_write::{Out, text};
 use std::alloc::Global;
 

@@ -10,7 +10,7 @@ use Rattle.qh_model.proofs.algebra.VectorIdentities.{left-dot, left-turn}
 use Rattle.qh_model.proofs.extremes.Directions.{square-positive}
 use Rattle.qh_model.proofs.surfaces.{Finished.facet_area, Stored.live_is_marked}
 use Rattle.qh_mesh.specs.contract.Replacement.{IsLive}
-use Rattle.qh_plane.proofs.polygons.Triangle.{left_triangle}
+use Rattle.qh_polygon.proofs.polygons.Triangle.{left_triangle}
 use Rattle.qh_surface.specs.contract.Walks.{IsWalkFrom}
 use Rattle.qh_block.specs.steps.{Faces.three_of, Faces.corners_of, Faces.from_least, Faces.IsNewPlane, Faces.IsNewFace}
 use Rattle.qh_model.specs.laws.FacetPlanes.{IsLevelFacet}

@@ -14,7 +14,7 @@ use Rattle.qh_model.proofs.surfaces.{Finished.facet_area, Finished.facets_suppor
 use Rattle.qh_model.proofs.hulls.SameSets.{extreme_as}
 use Rattle.qh_mesh.specs.contract.Replacement.{IsLive, is_listed}
 use Rattle.qh_mesh.proofs.ListedFacets.{in_listed, listed_in}
-use Rattle.qh_plane.specs.contract.PlanarSets.{IsPlanarSet}
+use Rattle.qh_polygon.specs.contract.PlanarSets.{IsPlanarSet}
 use Rattle.qh_surface.specs.contract.Walks.{IsWalkFrom}
 use Rattle.qh_block.specs.steps.{Faces.IsListedCorner, Faces.IsNewPlane, Faces.IsNewFace}
 use Rattle.qh_surface.proofs.FoundFacets.{found_live, found_passes, found_marked, found_over}

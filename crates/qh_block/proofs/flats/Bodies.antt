@@ -7,8 +7,8 @@ use Rattle.qh_model.specs.headline.{Polygons.ArePolygons, Polygons.IsEdgeCount, 
 use Rattle.qh_model.specs.headline.Vector.{Vector, origin}
 use Rattle.qh_model.proofs.Members.{In-get_or, in_at}
 use Rattle.qh_model.proofs.extremes.ExtremeIds.{greatest_is_extreme}
-use Rattle.qh_plane.proofs.ShapeDimension.{segment}
-use Rattle.qh_plane.specs.contract.Shapes.{IsInLine, Each, AreFirstTwo}
+use Rattle.qh_polygon.proofs.ShapeDimension.{segment}
+use Rattle.qh_polygon.specs.contract.Shapes.{IsInLine, Each, AreFirstTwo}
 use Rattle.qh_block.specs.steps.{FlatBodies.IsFlatBody, Segments.IsFirstAlong}
 use Rattle.qh_block.proofs.flats.{Edges.no_edges, Edges.one_edge, Lines.ends_differ, Lines.two_ends}
 

@@ -13,8 +13,8 @@ use Rattle.qh_model.proofs.algebra.Signs.{equal_le, gap_positive, less_le, lt_ne
 use Rattle.qh_model.proofs.algebra.VectorIdentities.{vec, subE, crossE, dotE, put, combine3, dot-minus}
 use Rattle.qh_model.proofs.combinations.Alternatives.{combination_or_separator}
 use Rattle.qh_model.proofs.extremes.{Directions.square-positive, ExtremeIds.combination_within, ExtremeIds.greatest_is_extreme}
-use Rattle.qh_plane.proofs.LinesAndPlanes.{same_point}
-use Rattle.qh_plane.specs.contract.Shapes.{IsInLine, Each, AreFirstTwo}
+use Rattle.qh_polygon.proofs.LinesAndPlanes.{same_point}
+use Rattle.qh_polygon.specs.contract.Shapes.{IsInLine, Each, AreFirstTwo}
 use Rattle.qh_surface.proofs.runs.FirstSimplexes.{first_two_in}
 use Rattle.qh_block.specs.steps.Segments.{IsFirstAlong}
 

@@ -9,8 +9,8 @@ use Rattle.qh_model.proofs.Members.{In-get_or, in_at}
 use Rattle.qh_model.proofs.algebra.VectorIdentities.{vector_path, in_line-twice, opposite, in_line-last}
 use Rattle.qh_model.proofs.extremes.{Dimensions.triangle_of, Directions.cross-flip, Directions.in_line-flip}
 use Rattle.qh_model.proofs.extremes.ExtremeIds.{listed_itself, combination_of_extremes, combination_within}
-use Rattle.qh_plane.specs.contract.PlanarSets.{IsPlanarSet}
-use Rattle.qh_plane.specs.contract.Shapes.{IsInLine, IsInPlane, Each, IsFirstNot, AreFirstTwo}
+use Rattle.qh_polygon.specs.contract.PlanarSets.{IsPlanarSet}
+use Rattle.qh_polygon.specs.contract.Shapes.{IsInLine, IsInPlane, Each, IsFirstNot, AreFirstTwo}
 use Rattle.qh_block.specs.contract.ApartPolygons.{HasThree}
 use Rattle.qh_block.specs.steps.FlatBodies.{IsFlatBody}
 use Rattle.qh_block.specs.contract.ApartPolygons.HasThree.{three}

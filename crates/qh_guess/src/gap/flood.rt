@@ -6,7 +6,7 @@ use crate::gap::edges::{Border, list_edges, open_edges};
 use qh_block::hull;
 use qh_keys::Packed;
 use qh_model::{Id, Memory, Point, Polygon};
-use qh_plane::rising_ids;
+use qh_polygon::rising_ids;
 use std::alloc::{AllocError, Global};
 
 /// The room of a position in a side's key: 2^64.

@@ -2,7 +2,7 @@
 use Rattle.std.specs.Prelude.{ℕ, ◌+◌, ◌-◌, ◌*◌, ◌%◌, ◌^◌}
 use Rattle.qh_model.specs.headline.Vector.{Vector}
 use Rattle.qh_plane.specs.declared.close_points.CloseBox.{CloseBox}
-use Rattle.qh_plane.specs.contract.PlaceNumbers.{biased}
+use Rattle.qh_polygon.specs.contract.PlaceNumbers.{biased}
 
 -- the slot of a point: of numbers of 64 bits, whatever the box
 abbrev pub slot_of : CloseBox → Vector → ℕ

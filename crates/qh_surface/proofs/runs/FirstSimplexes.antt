@@ -8,11 +8,11 @@ use Rattle.qh_model.specs.headline.{Vector.Vector, Predicates.place, Predicates.
 use Rattle.qh_model.specs.contract.{Weighted.weighted, FinishedSurface.middle_at, StoredSurface.StoredFacet, StoredSurface.facet_at}
 use Rattle.qh_model.proofs.Members.{All-In, In-get_or}
 use Rattle.qh_model.proofs.algebra.VectorIdentities.{vol-flip_last}
-use Rattle.qh_plane.specs.contract.Shapes.{IsInLine, IsInPlane, IsFirstNot, AreFirstTwo, dimension_of}
+use Rattle.qh_polygon.specs.contract.Shapes.{IsInLine, IsInPlane, IsFirstNot, AreFirstTwo, dimension_of}
 use Rattle.qh_surface.specs.contract.Simplexes.{IsSimplexOf}
 use Rattle.qh_surface.specs.steps.OutsideSets.{set_of}
-use Rattle.qh_plane.specs.declared.shape.Shape.{Shape}
-use Rattle.qh_plane.specs.declared.shape.Shape.TheVariants.{Point, Segment, Flat, Solid}
+use Rattle.qh_polygon.specs.declared.shape.Shape.{Shape}
+use Rattle.qh_polygon.specs.declared.shape.Shape.TheVariants.{Point, Segment, Flat, Solid}
 use Rattle.qh_mesh.specs.contract.{Replacement.IsLive, SoundMesh.IsSoundMesh, SoundMesh.IsClosedMesh, SoundMesh.simplex_facets}
 use Rattle.qh_model.proofs.surfaces.Simplex.{middle-turned}
 use Rattle.qh_model.proofs.lists.Ranges.{range_has}

@@ -22,7 +22,7 @@ use crate::quickhull::morton::morton_order;
 use crate::quickhull::run::Run;
 use qh_mesh::Mesh;
 use qh_model::{Id, Memory, Point};
-use qh_plane::{Shape, rank};
+use qh_polygon::{Shape, rank};
 use qh_pred::point_at;
 use std::alloc::Global;
 

@@ -1,7 +1,8 @@
 //! Rows of eight points of a square, and of repeated points.
 use qh_fixtures::ids::{are, ids_of};
 use qh_model::{Id, Memory, POINT_LIMIT, Point, Polygon};
-use qh_plane::{Shape, distinct, distinct_alone, polygon, rank};
+use qh_plane::{distinct, distinct_alone};
+use qh_polygon::{Shape, polygon, rank};
 use qh_pred::{Normal, cross};
 use std::alloc::Global;
 use std::process::Abort;

@@ -6,7 +6,7 @@ use qh_fixtures::ids::ids_of;
 use qh_fixtures::points::cube;
 use qh_guess::{border_of, bridge_over, is_worth, marks_of, outline_of};
 use qh_model::{Memory, Polygon};
-use qh_plane::rising_ids;
+use qh_polygon::rising_ids;
 use qh_seam::{Divided, Run};
 use std::alloc::{AllocError, Global};
 use std::test::Fail;

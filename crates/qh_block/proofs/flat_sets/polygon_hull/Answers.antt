@@ -2,7 +2,7 @@
 use Rattle.std.proofs.Common.{◌≡◌, ◌⊎◌, length, subst}
 use Rattle.std.proofs.lemmas.Result.{IfOk-weaker}
 use Rattle.qh_model.specs.headline.{Predicates.place, Predicates.cross, Vector.Vector, Vector.origin, Vector.minus}
-use Rattle.qh_plane.proofs.ShapeDimension.{flat}
+use Rattle.qh_polygon.proofs.ShapeDimension.{flat}
 use Rattle.qh_block.specs.steps.FlatBodies.{IsFlatBody}
 use Rattle.qh_block.proofs.flats.Polygons.{planar, polygon_is_body}
 use Rattle.qh_block.proofs.flat_sets.polygon_hull.Goals as goal

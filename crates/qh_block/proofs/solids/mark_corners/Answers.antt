@@ -1,8 +1,8 @@
 -- One polygon more is marked.
 use Rattle.std.proofs.Common.{◌<◌, ◌∙◌, ℕ, List, ap, length, subst, sym, take_all}
 use Rattle.std.specs.List.{All}
-use Rattle.qh_plane.proofs.MarkedLists.{lists_marked, lists_room}
-use Rattle.qh_plane.specs.contract.Marks.{marked}
+use Rattle.qh_polygon.proofs.MarkedLists.{lists_marked, lists_room}
+use Rattle.qh_polygon.specs.contract.Marks.{marked}
 use Rattle.qh_block.specs.contract.Tallies.{all_members}
 use Rattle.qh_block.proofs.solids.mark_corners.Goals as goal
 

@@ -1,6 +1,6 @@
 -- The marks of the polygons so far are set.
 use Rattle.std.proofs.Common.{◌≡◌, take}
-use Rattle.qh_plane.specs.contract.Marks.{marked}
+use Rattle.qh_polygon.specs.contract.Marks.{marked}
 use Rattle.qh_block.specs.contract.Tallies.{all_members}
 use Rattle.qh_block.proofs.solids.mark_corners.Given as goal
 

@@ -2,7 +2,7 @@
 use Rattle.std.proofs.Common.{◌<◌, ℕ, List, arith, subst, take_all}
 use Rattle.std.proofs.lemmas.Grind.{common_steps}
 use Rattle.std.specs.List.{All}
-use Rattle.qh_plane.proofs.MarkedLists.{lists_below}
+use Rattle.qh_polygon.proofs.MarkedLists.{lists_below}
 use Rattle.qh_block.specs.contract.Tallies.{all_members}
 use Rattle.qh_block.proofs.solids.past_corners.Goals as goal
 

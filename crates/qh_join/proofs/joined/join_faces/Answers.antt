@@ -14,7 +14,7 @@ pub returns-clause-joined : goal.returns-clause-joined
 returns-clause-joined g c = λ ids kept distinct are keeps faces q m.
     let pts = c.args.set.pts.now in
     let apart : HasDistinctPoints (place pts) (Members kept) = λ i j hi hj e. distinct i j (are.inside i hi) (are.inside j hj) e in
-    let closing = rw c.deref-2.ensures.value at (c.in_ok-are.ensures c.if-not-are.false) in
+    let closing = (rw (c.deref.ensures.value, c.in_ok-are_faces.was) at c.close_and_are_faces-closes.ensures.faces) c.if-not-are_faces.false in
     let bridge = IsBridge pts c.args.set.parts.now c.args.set.shared.now in
     elim (of_append _ _ q (in_permutation _ _ (IsPermutation-sym _ _ c.in_ok-and.ensures) q m)) [
       | inl o ↦ inl (faces q o)
@@ -23,7 +23,7 @@ returns-clause-joined g c = λ ids kept distinct are keeps faces q m.
 
 pub returns-clause-closed : goal.returns-clause-closed
 returns-clause-closed g c = λ closed.
-    let border = rw c.deref.ensures.value at (c.in_ok-closes.ensures.0 c.if-not-closes.false) in
+    let border = (rw (c.deref.ensures.value, c.in_ok-closes.was) at c.close_and_are_faces-closes.ensures.border).0 c.if-not-closes.false in
     closed_permuted _ _
     (IsPermutation-trans _ _ _ (IsPermutation-append_right c.args.given _ _ c.in_ok-bridges.ensures) c.in_ok-and.ensures)
     (closed_by_border c.args.given c.args.gone.now c.args.bridges.items closed border)

@@ -3,7 +3,7 @@ use Rattle.std.proofs.{Common.ap, Common.sym, Common.◌∙◌, Common.subst, Co
 use Rattle.qh_model.proofs.Members.{All-of}
 use Rattle.qh_model.specs.{declared.limits.TheConstants.POINT_LIMIT, headline.DistinctIds.AreDistinctIds}
 use Rattle.qh_plane.proofs.RepeatedIds.{distinct_left}
-use Rattle.qh_plane.specs.contract.Marks.{marked_ids}
+use Rattle.qh_polygon.specs.contract.Marks.{marked_ids}
 
 pub marks_without-requires : goal.marks_without-requires
 marks_without-requires c = All-of (λ i. i < length c.args.pts.now) c.args.repeats.now (λ i m. (c.requires.repeats.only i m).0)

@@ -1,6 +1,7 @@
 use Rattle.std.proofs.Common.{◌∙◌, ℕ, ◌+◌, ◌++◌, ◌∷◌, [], arith, ap, sym, subst, Vec, Global}
 use Rattle.qh_plane.proofs.RepeatedPlaces.{none_told, repeat_told, new_told, told_all}
-use Rattle.qh_plane.specs.{declared.place_keys.TheConstants.ROOM, steps.PlaceKeys.ArePlaceRepeats}
+use Rattle.qh_polygon.specs.declared.place_keys.TheConstants.{ROOM}
+use Rattle.qh_plane.specs.steps.PlaceKeys.{ArePlaceRepeats}
 use Rattle.qh_plane.proofs.distinct_points.repeats_of_places.Goals.{then-place_in+in_ok-push, else-place_in}
 use Rattle.qh_plane.proofs.distinct_points.repeats_of_places.Goals as goal
 

@@ -1,5 +1,6 @@
 use Rattle.std.proofs.Common.{◌≤◌}
-use Rattle.qh_plane.specs.{declared.place_keys.TheConstants.ROOM, steps.PlaceKeys.ArePlaceRepeats}
+use Rattle.qh_polygon.specs.declared.place_keys.TheConstants.{ROOM}
+use Rattle.qh_plane.specs.steps.PlaceKeys.{ArePlaceRepeats}
 use Rattle.qh_plane.proofs.distinct_points.repeats_of_places.Given as goal
 
 -- the keys before j are told

@@ -5,7 +5,7 @@ use Rattle.std.proofs.lemmas.Map.Keys.{IsStrictlyIncreasing-dedup}
 use Rattle.std.specs.List.Sorted.{IsStrictlyIncreasing}
 use Rattle.qh_model.specs.headline.Sets.{In}
 use Rattle.qh_model.proofs.lists.Joined.{in_append, of_append}
-use Rattle.qh_plane.proofs.KeptIds.{kept_members}
+use Rattle.qh_polygon.proofs.KeptIds.{kept_members}
 use Rattle.qh_run.proofs.unions.union.Goals as goal
 
 pub returns-clause-rising : goal.returns-clause-rising

@@ -1,7 +1,7 @@
 //! Ids in rising order: of one list, and of two lists that are marked one after the other.
 use super::assert_ids;
 use qh_model::{Id, Memory, POINT_LIMIT};
-use qh_plane::{IdMarks, past_greatest, rising_ids};
+use qh_polygon::{IdMarks, past_greatest, rising_ids};
 use std::alloc::Global;
 use std::test::Fail;
 

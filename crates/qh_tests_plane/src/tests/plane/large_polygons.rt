@@ -1,6 +1,7 @@
 //! A large grid in planes across each axis and in a slanted one: its inner points go before the sort.
 use qh_model::{Memory, Point, Polygon};
-use qh_plane::{distinct_alone, outer_ids, polygon};
+use qh_plane::distinct_alone;
+use qh_polygon::{outer_ids, polygon};
 use qh_pred::{Normal, cross};
 use std::alloc::Global;
 use std::process::Abort;

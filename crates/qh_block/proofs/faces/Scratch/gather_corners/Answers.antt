@@ -4,7 +4,7 @@ use Rattle.std.proofs.lemmas.List.Filters.{dedup_is}
 use Rattle.std.proofs.lemmas.Map.Keys.{IsStrictlyIncreasing-dedup}
 use Rattle.qh_surface.specs.contract.NamedMeshes.{named}
 use Rattle.qh_block.proofs.finished.Corners.{in_corners}
-use Rattle.qh_plane.proofs.KeptIds.{kept_members}
+use Rattle.qh_polygon.proofs.KeptIds.{kept_members}
 use Rattle.qh_block.proofs.faces.Scratch.gather_corners.Goals as goal
 
 pub returns-clause-rising : goal.returns-clause-rising

@@ -2,7 +2,7 @@
 use Rattle.qh_model.specs.headline.Predicates.{place}
 use Rattle.qh_model.proofs.Members.{rising_once}
 use Rattle.qh_model.proofs.extremes.Dimensions.{dimension_is_unique}
-use Rattle.qh_plane.specs.contract.Shapes.{dimension_of}
+use Rattle.qh_polygon.specs.contract.Shapes.{dimension_of}
 use Rattle.qh_mesh.proofs.{SoundMeshes.finished_is_closed, Rewiring.in_live}
 use Rattle.qh_surface.proofs.runs.FirstSimplexes.{solid_only}
 use Rattle.qh_model.proofs.surfaces.Finished.{facets_support}

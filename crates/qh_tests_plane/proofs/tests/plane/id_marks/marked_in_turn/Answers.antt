@@ -1,14 +1,9 @@
 -- The ids of both lists are below the greater of two bounds.
 use Rattle.std.proofs.Common.{◌<◌, ◌≤◌, ◌∙◌, ℕ, List, ap, arith, length, subst, sym}
 use Rattle.std.proofs.lemmas.Grind.{common_steps}
-use Rattle.std.proofs.lemmas.List.{Elements.All-weaker}
 use Rattle.std.specs.List.{All}
-use Rattle.qh_plane.proofs.{KeptIds.has_room, MarkedIds.length-marked}
+use Rattle.qh_polygon.proofs.{KeptIds.below_greater, KeptIds.has_room, MarkedIds.length-marked}
 use Rattle.qh_tests_plane.proofs.tests.plane.id_marks.marked_in_turn.Goals as goal
-
--- what is below a bound is below a greater one
-below_greater : (bound past : ℕ) (ids : List ℕ) → bound ≤ past → All (λ i. i < bound) ids → All (λ i. i < past) ids
-below_greater bound past ids more = All-weaker (λ i. i < bound) (λ i. i < past) (λ i below. omega (arith, below, more)) ids
 
 pub mark-requires : goal.mark-requires
 mark-requires c =

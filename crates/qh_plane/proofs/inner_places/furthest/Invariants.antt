@@ -1,7 +1,0 @@
--- The furthest id so far is one of the ids.
-use Rattle.qh_model.specs.headline.Sets.{In}
-use Rattle.qh_plane.proofs.inner_places.furthest.Given as goal
-
--- what was found is one of the ids
-abbrev pub invariant-loop-part : goal.invariant-loop-part
-invariant-loop-part l = In l.found l.ids

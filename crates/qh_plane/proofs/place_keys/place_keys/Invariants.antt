@@ -1,7 +1,0 @@
-use Rattle.std.proofs.Common.{◌≡◌, map, take}
-use Rattle.std.specs.List.{All}
-use Rattle.qh_plane.specs.steps.PlaceKeys.{key_at, HasKey}
-use Rattle.qh_plane.proofs.place_keys.place_keys.Given as goal
-
-abbrev pub invariant-loop-id : goal.invariant-loop-id
-invariant-loop-id l = record { value : l.keys.items ≡ map (key_at l.pts) (take l.id-index l.ids); known : All (HasKey l.pts) (take l.id-index l.ids) }

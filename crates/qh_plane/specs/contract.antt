@@ -1,5 +1,0 @@
--- What else the contracts of public functions cite.
-pub mod PlaceNumbers
-pub mod PlanarSets
-pub mod Shapes
-pub mod Marks

@@ -1,0 +1,162 @@
+-- Points to the left of all sides of a closed cycle: they are not extreme, so what is left without them has the polygon.
+use Rattle.std.proofs.Common.{◌≡◌, ◌≢◌, ℕ, List, [], ◌∷◌, arith, ap, sym, subst, ◌∙◌, refl, inl, inr, ⊎_elim, Bool, true, false}
+use Rattle.std.proofs.lemmas.{Bool.cases_Bool, Int.ints, Int.by_lt_z}
+use Rattle.std.specs.List.Sorted.{IsStrictlyIncreasing}
+use Rattle.std.specs.Prelude.{ℤ, pos, ◌+ℤ◌, ◌*ℤ◌, ◌≤ℤ◌, ◌<ℤ◌, ◌&&◌, not, filter}
+use Rattle.qh_model.proofs.algebra.{Order.mul-pos_neg, Order.mul-nonpos, Order.negative_le, Signs.less_differ, VectorIdentities.dot-minus}
+use Rattle.qh_model.proofs.{algebra.VectorIdentities.left-turn, extremes.Dimensions.triangle_of}
+use Rattle.qh_model.proofs.extremes.ExtremeIds.{members_are_combinations, combination_within, alternative_in, listed_itself}
+use Rattle.qh_model.proofs.{hulls.ExtremeParts.part_set, hulls.SameSets.extremes_of_part, lists.Filters.in_filter}
+use Rattle.qh_model.specs.headline.{Combination.Combination, Dimension.HasTriangle, Extreme.Extreme, Extreme.Others, Polygon.IsPolygon, Predicates.place}
+use Rattle.qh_model.specs.headline.{Predicates.left, Sets.In, Sets.Members, Vector.Vector, Vector.dot}
+use Rattle.qh_model.specs.laws.Separator.{Separator}
+use Rattle.qh_polygon.proofs.PlaneDirections.{bracket, bracket-fan}
+use Rattle.qh_polygon.proofs.polygons.{Chain.is_left-yes, ComponentTurns.turns_agree, PlanarIds.flat_of, PlanarIds.planar_triangle, PlanarIds.two_of_triangle}
+use Rattle.qh_polygon.proofs.polygons.Turns.{IsFlat, step, left-bracket, left-swap, left-back, left-there}
+use Rattle.qh_polygon.specs.{contract.PlanarSets.IsPlanarSet, steps.Chains.is_left, steps.Chains.turn_of}
+use Rattle.qh_polygon.specs.steps.InnerPlaces.{is_left_along, is_inside, is_outside, IsFlatSet}
+
+-- ---- triangles
+-- a point in a triangle is not beyond all its corners: a, b and c are how far these lie beyond it
+not_beyond : (tv tu uv a b c : ℤ) → tv *ℤ b ≡ tu *ℤ c +ℤ uv *ℤ a → pos 0 <ℤ tu → pos 0 <ℤ uv → tv ≤ℤ pos 0 → a <ℤ pos 0 → b <ℤ pos 0 → c <ℤ pos 0 → ⊥
+not_beyond tv tu uv a b c e htu huv htv ha hb hc =
+    let x : pos 0 ≤ℤ (tv *ℤ b) = mul-nonpos tv b htv (negative_le b hb) in
+    let y : (tu *ℤ c) <ℤ pos 0 = mul-pos_neg tu c htu hc in
+    let z : (uv *ℤ a) <ℤ pos 0 = mul-pos_neg uv a huv ha in
+    against (tv *ℤ b) (tu *ℤ c) (uv *ℤ a) e x y z
+  where
+    against : (x y z : ℤ) → x ≡ y +ℤ z → pos 0 ≤ℤ x → y <ℤ pos 0 → z <ℤ pos 0 → ⊥
+    against x y z e h k l = omega (arith, ints)
+
+-- what holds of both holds of each
+both : (b c : Bool) → (b && c) ≡ true → (b ≡ true) × (c ≡ true)
+both true c e = (refl, e)
+both false c e = cc
+
+module _ (n : Vector) (at : ℕ → Vector) (A : ℕ → Type 0) (flat : IsFlat n at A) (p : ℕ) (e : Extreme at A p) where
+  -- the turn from u over v to p
+  abbrev to_left : ℕ → ℕ → ℤ
+  to_left u v = left n (at u) (at v) (at p)
+
+  -- with p on its left a side begins at another id
+  begins_apart : (u v : ℕ) → pos 0 <ℤ to_left u v → u ≢ p
+  begins_apart u v h q = less_differ _ _ (subst (λ t. pos 0 <ℤ left n (at t) (at v) (at p)) q h) (sym (left-back n (at p) (at v)))
+
+  -- and ends at another
+  ends_apart : (u v : ℕ) → pos 0 <ℤ to_left u v → v ≢ p
+  ends_apart u v h q = less_differ _ _ (subst (λ t. pos 0 <ℤ left n (at u) (at t) (at p)) q h) (sym (left-there n (at u) (at p)))
+
+  -- the same as a bracket of the ways from p
+  abbrev seen : ℕ → ℕ → ℤ
+  seen u v = bracket n (step at p u) (step at p v)
+
+  -- they are equal
+  to_left-seen : (u v : ℕ) → to_left u v ≡ seen u v
+  to_left-seen u v = left-turn n (at u) (at v) (at p) ∙ left-turn n (at v) (at p) (at u) ∙ left-bracket n (at p) (at u) (at v)
+
+  -- an extreme id is in no triangle of others
+  no_triangle : (t u v : ℕ) → A t → A u → A v → pos 0 <ℤ to_left t u → pos 0 <ℤ to_left u v → to_left t v ≤ℤ pos 0 → ⊥
+  no_triangle t u v it iu iv tu uv tv = ⊎_elim combined separated (alternative_in at (Members corners) corners (listed_itself corners) (at p))
+    where
+      corners : List ℕ
+      corners = t ∷ u ∷ v ∷ []
+
+      other : (j : ℕ) → In j corners → Others A p j
+      other j (inl q) = subst (Others A p) (sym q) (it, begins_apart t u tu)
+      other j (inr (inl q)) = subst (Others A p) (sym q) (iu, begins_apart u v uv)
+      other j (inr (inr (inl q))) = subst (Others A p) (sym q) (iv, ends_apart u v uv)
+      other j (inr (inr (inr q))) = absurd q
+
+      combined : Combination at (Members corners) (at p) → ⊥
+      combined c = e.1 (combination_within at (Members corners) (Others A p) (at p) c other)
+
+      separated : Separator at (Members corners) (at p) → ⊥
+      separated s =
+          let beyond : (j : ℕ) → ℤ = (λ j. dot s.w (step at p j)) in
+          let below : (j : ℕ) → In j corners → beyond j <ℤ pos 0 = (λ j m. omega (arith, ints, dot-minus s.w (at j) (at p), s.past j m)) in
+          not_beyond (seen t v) (seen t u) (seen u v) (beyond t) (beyond u) (beyond v) (bracket-fan n s.w (step at p t) (step at p u) (step at p v) flat.some
+          (flat.even p t e.0 it) (flat.even p u e.0 iu) (flat.even p v e.0 iv))
+          (subst (λ x. pos 0 <ℤ x) (to_left-seen t u) tu) (subst (λ x. pos 0 <ℤ x) (to_left-seen u v) uv) (subst (λ x. x ≤ℤ pos 0) (to_left-seen t v) tv)
+          (below t (inl refl)) (below u (inr (inl refl))) (below v (inr (inr (inl refl))))
+
+  -- turns of which those to the left are seen to be
+  abbrev AreTold : (ℕ → ℕ → ℕ → ℤ) → Type 0
+  AreTold turn = (u v : ℕ) → A u → A v → is_left (turn u v p) ≡ true → pos 0 <ℤ to_left u v
+
+  -- nor is it to the left of a way from u back to t, where it is to the left of that from t to u
+  no_way : (turn : ℕ → ℕ → ℕ → ℤ) → AreTold turn → (t u : ℕ) (r : List ℕ) → A t → A u → ((x : ℕ) → In x r → A x)
+      → pos 0 <ℤ to_left t u → is_left_along turn p u r t ≡ true → ⊥
+  no_way turn told t u [] it iu ir tu h = omega (arith, ints, left-swap n (at t) (at u) (at p), tu, told u t iu it h)
+  no_way turn told t u (v ∷ r) it iu ir tu h =
+      let b = both _ _ h in let iv = ir v (inl refl) in
+      by_lt_z (pos 0) (to_left t v) (λ tv. no_way turn told t v r it iv (λ x m. ir x (inr m)) tv b.1)
+      (λ tv. no_triangle t u v it iu iv tu (told u v iu iv b.0) tv)
+
+  -- nor of all sides of a cycle
+  pub not_inside : (turn : ℕ → ℕ → ℕ → ℤ) → AreTold turn → (cycle : List ℕ) → ((x : ℕ) → In x cycle → A x) → is_inside turn cycle p ≡ true → ⊥
+  not_inside turn told [] all h = cc
+  not_inside turn told (t ∷ []) all h =
+      let tp = told t t (all t (inl refl)) (all t (inl refl)) h in omega (arith, ints, left-swap n (at t) (at t) (at p), tp, tp)
+  not_inside turn told (t ∷ u ∷ r) all h =
+      let b = both _ _ h in let it = all t (inl refl) in let iu = all u (inr (inl refl)) in
+      no_way turn told t u r it iu (λ x m. all x (inr (inr m))) (told t u it iu b.0) b.1
+
+-- ---- what a cycle of a planar set leaves
+module _ (pts : List Vector) (ids cycle : List ℕ) (n : Vector) (h : IsPlanarSet pts ids n) (within : (i : ℕ) → In i cycle → In i ids) where
+  -- the test that is passed
+  abbrev outside : ℕ → Bool
+  outside = is_outside (turn_of pts n) cycle
+
+  -- an extreme id passes
+  passes : (i : ℕ) → Extreme (place pts) (Members ids) i → outside i ≡ true
+  passes i e = ⊎_elim (λ q. absurd (inner q)) (λ q. ap not q) (cases_Bool (is_inside (turn_of pts n) cycle i))
+    where
+      flat : IsFlat n (place pts) (Members ids)
+      flat = flat_of pts ids n h
+
+      told : (u v : ℕ) → In u ids → In v ids → is_left (turn_of pts n u v i) ≡ true → pos 0 <ℤ left n (place pts u) (place pts v) (place pts i)
+      told u v iu iv q = is_left-yes _ (sym (turns_agree pts n (Members ids) flat u v i iu iv e.0) ∙ q)
+
+      inner : is_inside (turn_of pts n) cycle i ≡ true → ⊥
+      inner q = not_inside n (place pts) (Members ids) flat i e (turn_of pts n) told cycle within q
+
+  -- so it is left
+  pub extreme_left : (i : ℕ) → Extreme (place pts) (Members ids) i → In i (filter outside ids)
+  extreme_left i e = in_filter outside ids i e.0 (passes i e)
+
+-- ---- a part of a planar set with all extreme ids
+module _ (pts : List Vector) (ids part : List ℕ) (n : Vector) (h : IsPlanarSet pts ids n) (rising : IsStrictlyIncreasing part)
+    (within : (i : ℕ) → In i part → In i ids) (extremes : (i : ℕ) → Extreme (place pts) (Members ids) i → In i part) where
+  -- the points
+  abbrev at : ℕ → Vector
+  at = place pts
+
+  -- three of them are not in line
+  triangle : HasTriangle at (Members part)
+  triangle =
+      let mixes = members_are_combinations at ids h.set.distinct in
+      let t = triangle_of at (Members ids) (Extreme at (Members ids)) mixes (planar_triangle pts ids n h) in
+      record { i = t.i; j = t.j; k = t.k; has_i = extremes t.i t.has_i; has_j = extremes t.j t.has_j; has_k = extremes t.k t.has_k; area = t.area }
+
+  -- it is flat, too
+  pub outer_flat : IsFlatSet pts part n
+  outer_flat =
+      let flat = flat_of pts ids n h in
+      record {
+        set = part_set pts ids part h.set rising within;
+        two = two_of_triangle at part triangle;
+        some = flat.some;
+        even = λ i j mi mj. flat.even i j (within i mi) (within j mj);
+      }
+
+  -- and has the set's polygon
+  pub outer_polygon : (q : List ℕ) → IsPolygon at (Extreme at (Members part)) n q → IsPolygon at (Extreme at (Members ids)) n q
+  outer_polygon q w =
+      let same = extremes_of_part at ids part h.set.distinct within extremes in
+      record { members = λ i. (λ m. (same i).0 ((w.members i).0 m), λ e. (w.members i).1 ((same i).1 e)); once = w.once; round = w.round; least = w.least }
+
+-- a planar set is flat
+pub planar_flat : (pts : List Vector) (ids : List ℕ) (n : Vector) → IsPlanarSet pts ids n → IsFlatSet pts ids n
+planar_flat pts ids n h =
+    let f = flat_of pts ids n h in
+    record { set = h.set; two = two_of_triangle (place pts) ids (planar_triangle pts ids n h); some = f.some; even = f.even }

@@ -1,0 +1,10 @@
+pub mod KeyOrder
+pub mod PlaceOrder
+pub mod MarkedIds
+pub mod MarkedLists
+pub mod KeptIds
+pub mod PlaneDirections
+pub mod LinesAndPlanes
+pub mod ShapeDimension
+pub mod polygons
+pub mod InnerPlaces

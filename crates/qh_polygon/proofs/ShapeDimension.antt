@@ -1,0 +1,90 @@
+-- The shape of a set of ids tells its dimension.
+use Rattle.std.proofs.Common.{◌≡◌, ℕ, ◌<◌, List, length, get_or, arith, sym, subst, ◌∙◌, refl, inl, inr}
+use Rattle.std.proofs.{Math.Nat.ne_of_lt, lemmas.Grind.get_or_default_zero}
+use Rattle.std.specs.List.Sorted.{IsStrictlyIncreasing}
+use Rattle.qh_model.proofs.{Members.In-get_or, Members.in_at, extremes.Directions.square-positive}
+use Rattle.qh_model.specs.{contract.IdSets.IsIdSet, headline.Dimension.HasTriangle}
+use Rattle.qh_model.specs.headline.{Dimension.HasSegment, Dimension.IsDimension, Predicates.place, Sets.In, Sets.Members, Vector.Vector, Vector.minus}
+use Rattle.qh_polygon.proofs.LinesAndPlanes.{three_line, four_plane, same_point}
+use Rattle.qh_polygon.specs.contract.Shapes.{IsInLine, IsInPlane, IsFirstNot, Each, AreFirstTwo}
+
+-- what holds of each position holds of each member
+each_in : (P : ℕ → Type 0) (ids : List ℕ) → Each P ids → (x : ℕ) → In x ids → P x
+each_in P ids h x m = let r = in_at ids x m in subst P r.2 (h r.0 r.1)
+
+-- what stands at a position is a member
+listed : (ids : List ℕ) (m i : ℕ) → m < length ids → get_or ids m 0 ≡ i → In i ids
+listed ids m i h e = subst (λ v. In v ids) e (In-get_or ids m 0 h)
+
+-- the first two, as the code reads them
+pub first_two : (ids : List ℕ) (i j : ℕ) → 1 < length ids → i ≡ get_or ids 0 i → j ≡ get_or ids 1 j → AreFirstTwo ids i j
+first_two ids i j h p q =
+    record { two = h; first = sym (get_or_default_zero ids 0 i (omega arith)) ∙ sym p; second = sym (get_or_default_zero ids 1 j h) ∙ sym q }
+
+-- the first two are a segment
+two : (ids : List ℕ) (i j : ℕ) → AreFirstTwo ids i j → IsStrictlyIncreasing ids → HasSegment (Members ids)
+two ids i j t r = record {
+  i = i;
+  j = j;
+  has_i = listed ids 0 i (let h = t.two in omega arith) t.first;
+  has_j = listed ids 1 j t.two t.second;
+  differ = λ e. ne_of_lt (r 0 t.two) (t.first ∙ e ∙ sym t.second);
+}
+
+-- all in line with the first two: a segment
+pub segment : (pts : List Vector) (ids : List ℕ) (i j : ℕ) → AreFirstTwo ids i j → Each (IsInLine pts i j) ids
+    → IsIdSet pts ids → IsDimension (place pts) (Members ids) 1
+unfolding two
+segment pts ids i j t h s =
+    let w = two ids i j t s.rising in
+    inr (inr (inl (
+      refl,
+      w,
+      λ k. k.area (three_line (place pts i) (place pts j) (place pts k.i) (place pts k.j) (place pts k.k)
+          (square-positive (minus (place pts j) (place pts i)) (λ e. w.differ (s.distinct i j w.has_i w.has_j (same_point (place pts i) (place pts j) e))))
+          (each_in (IsInLine pts i j) ids h k.i k.has_i) (each_in (IsInLine pts i j) ids h k.j k.has_j) (each_in (IsInLine pts i j) ids h k.k k.has_k)),
+    )))
+
+-- the first off their line makes a triangle
+three : (pts : List Vector) (ids : List ℕ) (i j k : ℕ) → AreFirstTwo ids i j → IsFirstNot (IsInLine pts i j) ids k → HasTriangle (place pts) (Members ids)
+three pts ids i j k t f =
+    record {
+      i = i;
+      j = j;
+      k = k;
+      has_i = listed ids 0 i (let h = t.two in omega arith) t.first;
+      has_j = listed ids 1 j t.two t.second;
+      has_k = listed ids f.at k f.within f.is;
+      area = f.not;
+    }
+
+-- one off the line of the first two, and all in the plane of the three: a polygon
+pub flat : (pts : List Vector) (ids : List ℕ) (i j k : ℕ) → AreFirstTwo ids i j → IsFirstNot (IsInLine pts i j) ids k
+    → Each (IsInPlane pts i j k) ids → IsDimension (place pts) (Members ids) 2
+flat pts ids i j k t f h =
+    inr (inl (
+      refl,
+      three pts ids i j k t f,
+      λ s. s.volume (four_plane (place pts i) (place pts j) (place pts k) (place pts s.i) (place pts s.j) (place pts s.k) (place pts s.l) f.not
+          (each_in (IsInPlane pts i j k) ids h s.i s.has_i) (each_in (IsInPlane pts i j k) ids h s.j s.has_j)
+          (each_in (IsInPlane pts i j k) ids h s.k s.has_k) (each_in (IsInPlane pts i j k) ids h s.l s.has_l)),
+    ))
+
+-- one off the plane of three: a solid
+pub solid : (pts : List Vector) (ids : List ℕ) (i j k l : ℕ) → AreFirstTwo ids i j → IsFirstNot (IsInLine pts i j) ids k
+    → IsFirstNot (IsInPlane pts i j k) ids l → IsDimension (place pts) (Members ids) 3
+solid pts ids i j k l t f g =
+    inl (
+      refl,
+      record {
+        i = i;
+        j = j;
+        k = k;
+        l = l;
+        has_i = listed ids 0 i (let h = t.two in omega arith) t.first;
+        has_j = listed ids 1 j t.two t.second;
+        has_k = listed ids f.at k f.within f.is;
+        has_l = listed ids g.at l g.within g.is;
+        volume = g.not;
+      },
+    )

@@ -1,0 +1,10 @@
+use Rattle.std.proofs.Common.{◌≡◌, reverse, drop, []}
+use Rattle.qh_polygon.specs.steps.Chains.{turn_of, chain}
+use Rattle.qh_model.specs.contract.IdSets.{AreIndices}
+use Rattle.qh_polygon.proofs.chains.chain.Given as goal
+
+abbrev pub invariant-loop-next : goal.invariant-loop-next
+invariant-loop-next l = record {
+  indices : AreIndices l.pts l.stack.items;
+  same : chain (turn_of l.pts l.normal) (reverse l.stack.items) (drop l.next-index l.ids) ≡ chain (turn_of l.pts l.normal) [] l.ids;
+}

@@ -1,0 +1,8 @@
+-- The cycle so far goes over ids of the set.
+use Rattle.std.proofs.Common.{ℕ}
+use Rattle.qh_model.specs.headline.Sets.{In}
+use Rattle.qh_polygon.proofs.inner_places.far_cycle.Given as goal
+
+-- each is one of the ids
+abbrev pub invariant-loop-direction : goal.invariant-loop-direction
+invariant-loop-direction l = (i : ℕ) → In i l.cycle.items → In i l.ids

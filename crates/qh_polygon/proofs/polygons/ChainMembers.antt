@@ -1,0 +1,118 @@
+-- What a chain says of its members, and of what lies under its edges.
+use Rattle.std.proofs.Common.{◌≡◌, ℕ, refl, List, [], ◌∷◌, arith, sym, subst, ◌⊎◌, inl, inr}
+use Rattle.std.proofs.lemmas.Int.{ints, by_lt_z}
+use Rattle.std.specs.Prelude.{ℤ, pos, ◌≤ℤ◌, ◌<ℤ◌}
+use Rattle.qh_model.specs.headline.Sets.{In, Once}
+use Rattle.qh_model.proofs.algebra.{Order.le_antisym, Signs.not_less}
+use Rattle.qh_polygon.proofs.polygons.{Cycles.bottom, TurnLaws.HasOnLeft, TurnLaws.IsChain, TurnLaws.chain_top}
+
+-- ---- what a stack says of its members
+module _ (turn : ℕ → ℕ → ℕ → ℤ) (key : ℕ → ℤ) (A : ℕ → Type 0) where
+  -- no member has a lower key
+  abbrev pub Least : ℕ → Type 0
+  Least v = (x : ℕ) → A x → key v ≤ℤ key x
+
+  -- an edge into v from before it
+  pub record Under (v : ℕ) : Type 0 where
+    pub u : ℕ
+    pub is : A u
+    pub before : key u <ℤ key v
+    pub edge : HasOnLeft turn A u v
+
+  -- a turn at v
+  pub record Inside (v : ℕ) : Type 0 where
+    pub q : ℕ
+    pub t : ℕ
+    pub is_q : A q
+    pub is_t : A t
+    pub before : key q <ℤ key v
+    pub after : key v <ℤ key t
+    pub sharp : pos 0 <ℤ turn q v t
+
+  -- an edge over e
+  pub record Span (e : ℕ) (s : List ℕ) : Type 0 where
+    pub u : ℕ
+    pub v : ℕ
+    pub has_u : In u s
+    pub has_v : In v s
+    pub is_u : A u
+    pub is_v : A v
+    pub before : key u <ℤ key e
+    pub after : key e <ℤ key v
+    pub edge : HasOnLeft turn A u v
+
+  -- the members of a chain were passed
+  pub chain-in : (t : ℕ) (s : List ℕ) → IsChain turn key A t s → (v : ℕ) → In v (t ∷ s) → A v
+  chain-in t s g v (inl e) = subst A (sym e) (chain_top turn key A t s g)
+  chain-in t [] g v (inr i) = absurd i
+  chain-in t (r ∷ s) g v (inr i) = chain-in r s g.4 v i
+
+  -- the others are below its top
+  pub chain-below : (t : ℕ) (s : List ℕ) → IsChain turn key A t s → (v : ℕ) → In v s → key v <ℤ key t
+  chain-below t [] g v i = absurd i
+  chain-below t (r ∷ s) g v (inl e) = subst (λ x. key x <ℤ key t) (sym e) g.1
+  chain-below t (r ∷ s) g v (inr i) = less_less (key v) (key r) (key t) (chain-below r s g.4 v i) g.1
+    where
+      less_less : (a b c : ℤ) → a <ℤ b → b <ℤ c → a <ℤ c
+      less_less a b c h k = omega (arith, ints)
+
+  -- each stands once
+  pub chain-once : (t : ℕ) (s : List ℕ) → IsChain turn key A t s → Once (t ∷ s)
+  chain-once t [] g = (λ i. i, tt)
+  chain-once t (r ∷ s) g = (λ i. self (key t) (chain-below t (r ∷ s) g t i), chain-once r s g.4)
+    where
+      self : (a : ℤ) → a <ℤ a → ⊥
+      self a h = omega (arith, ints)
+
+  -- the last is least
+  pub chain-bottom : (t : ℕ) (s : List ℕ) → IsChain turn key A t s → A (bottom t s) × Least (bottom t s)
+  chain-bottom t [] g = g
+  chain-bottom t (r ∷ s) g = chain-bottom r s g.4
+
+  -- a member is least or has an edge into it
+  pub under : (t : ℕ) (s : List ℕ) → IsChain turn key A t s → (v : ℕ) → In v (t ∷ s) → Least v ⊎ Under v
+  under t [] g v (inl e) = inl (subst Least (sym e) g.1)
+  under t [] g v (inr i) = absurd i
+  under t (r ∷ s) g v (inl e) = inr (subst Under (sym e) (record { u = r; is = chain_top turn key A r s g.4; before = g.1; edge = g.2 }))
+  under t (r ∷ s) g v (inr i) = under r s g.4 v i
+
+  -- a member below the top is least or is turned at
+  pub inside : (t : ℕ) (s : List ℕ) → IsChain turn key A t s → (v : ℕ) → In v s → Least v ⊎ Inside v
+  inside t [] g v i = absurd i
+  inside t (r ∷ []) g v (inl e) = inl (subst Least (sym e) g.4.1)
+  inside t (r ∷ q ∷ s) g v (inl e) =
+      inr (subst Inside (sym e) (record { q = q; t = t; is_q = chain_top turn key A q s g.4.4; is_t = g.0; before = g.4.1; after = g.1; sharp = g.3 }))
+  inside t (r ∷ s) g v (inr i) = inside r s g.4 v i
+
+  -- an edge of the rest is an edge of the whole
+  span-more : (e t : ℕ) (s : List ℕ) → Span e s → Span e (t ∷ s)
+  span-more e t s p = record {
+    u = p.u;
+    v = p.v;
+    has_u = inr p.has_u;
+    has_v = inr p.has_v;
+    is_u = p.is_u;
+    is_v = p.is_v;
+    before = p.before;
+    after = p.after;
+    edge = p.edge;
+  }
+
+  -- what is no member lies under an edge
+  pub span : ((x y : ℕ) → A x → A y → key x ≡ key y → x ≡ y) → (t : ℕ) (s : List ℕ) → IsChain turn key A t s → (e : ℕ)
+      → A e → (In e (t ∷ s) → ⊥) → key e <ℤ key t → Span e (t ∷ s)
+  span same t [] g e ae out lt = absurd (not_less (key e) (key t) lt (g.1 e ae))
+  span same t (r ∷ s) g e ae out lt =
+      by_lt_z (key e) (key r) (λ l. span-more e t (r ∷ s) (span same r s g.4 e ae (λ i. out (inr i)) l)) (λ k. by_lt_z (key r) (key e)
+      (λ l. record {
+        u = r;
+        v = t;
+        has_u = inr (inl refl);
+        has_v = inl refl;
+        is_u = chain_top turn key A r s g.4;
+        is_v = g.0;
+        before = l;
+        after = lt;
+        edge = g.2;
+      })
+      (λ l. absurd (out (inr (inl (same e r ae (chain_top turn key A r s g.4) (le_antisym (key e) (key r) l k)))))))

@@ -1,0 +1,49 @@
+-- The number of a place as a height: its order is that of one direction.
+use Rattle.std.proofs.{Common.◌≡◌, Common.ℕ, Common.◌+◌, Common.◌*◌, Common.◌<◌, Common.List, Common.arith, lemmas.Int.ints}
+use Rattle.std.specs.{List.All, Prelude.ℤ, Prelude.pos, Prelude.◌+ℤ◌, Prelude.◌*ℤ◌, Prelude.◌<ℤ◌}
+use Rattle.qh_model.proofs.Members.{All-In}
+use Rattle.qh_model.specs.{contract.IdSets.HasDistinctPoints, contract.Places.IsPlace, declared.limits.TheConstants.COORDINATE_LIMIT}
+use Rattle.qh_model.specs.headline.{Predicates.place, Sets.In, Vector.Vector, Vector.dot}
+use Rattle.qh_polygon.proofs.{PlaceOrder.place_code-same, polygons.Turns.IsKeyed}
+use Rattle.qh_polygon.specs.{declared.place_keys.TheConstants.ROOM, contract.PlaceNumbers.biased, contract.PlaceNumbers.place_code, contract.PlaceKeys.HasKey}
+
+-- the direction along which places rise by x, then y, then z
+abbrev pub order : Vector
+order = record { x = pos (ROOM * ROOM); y = pos ROOM; z = pos 1 }
+
+-- the number of the origin
+abbrev ground_level : ℕ
+ground_level = (COORDINATE_LIMIT * ROOM + COORDINATE_LIMIT) * ROOM + COORDINATE_LIMIT
+
+-- the number of a place is its height, over the number of the origin
+height : (x y z : ℤ) (a b c : ℕ) → pos a ≡ x +ℤ pos COORDINATE_LIMIT → pos b ≡ y +ℤ pos COORDINATE_LIMIT → pos c ≡ z +ℤ pos COORDINATE_LIMIT
+    → pos ((a * ROOM + b) * ROOM + c) ≡ (pos (ROOM * ROOM) *ℤ x +ℤ pos ROOM *ℤ y +ℤ pos 1 *ℤ z) +ℤ pos ground_level
+height x y z a b c e f g = omega (arith, ints)
+
+-- the number of a place is its height and that of the origin
+place_code-height : (p : Vector) → IsPlace p → pos (place_code p) ≡ dot order p +ℤ pos ground_level
+unfolding place_code
+place_code-height p h =
+    height p.x p.y p.z (biased p.x) (biased p.y) (biased p.z) (omega (arith, ints, h.x)) (omega (arith, ints, h.y)) (omega (arith, ints, h.z))
+
+-- equal heights, equal numbers
+same_height : (a b : ℕ) (x y c : ℤ) → pos a ≡ x +ℤ c → pos b ≡ y +ℤ c → x ≡ y → a ≡ b
+same_height a b x y c e f h = omega (arith, ints)
+
+-- lower numbers, lower heights
+less_height : (a b : ℕ) (x y c : ℤ) → pos a ≡ x +ℤ c → pos b ≡ y +ℤ c → a < b → x <ℤ y
+less_height a b x y c e f h = omega (arith, ints)
+
+-- a place of a lower number is lower
+pub place_code-less : (p q : Vector) → IsPlace p → IsPlace q → place_code p < place_code q → dot order p <ℤ dot order q
+place_code-less p q h k l = less_height (place_code p) (place_code q) _ _ _ (place_code-height p h) (place_code-height q k) l
+
+-- ids of distinct points have different heights
+pub keyed_of : (pts : List Vector) (ids : List ℕ) → All (HasKey pts) ids → HasDistinctPoints (place pts) (λ x. In x ids)
+    → IsKeyed order (place pts) (λ x. In x ids)
+keyed_of pts ids k d = record {
+  same = λ i j mi mj e.
+      let ki = All-In (HasKey pts) ids i k mi in
+      let kj = All-In (HasKey pts) ids j k mj in
+      d i j mi mj (place_code-same _ _ ki.place_in kj.place_in (same_height _ _ _ _ _ (place_code-height _ ki.place_in) (place_code-height _ kj.place_in) e));
+}

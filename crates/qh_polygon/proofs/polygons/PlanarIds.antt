@@ -1,0 +1,64 @@
+-- Ids in one plane: they are flat across their normal, and three of them, so at least two, are not in line.
+use Rattle.std.proofs.Common.{◌≡◌, ◌≢◌, ℕ, ◌<◌, List, [], ◌∷◌, length, arith, ap, sym, ◌∙◌, refl, ◌⊎◌, inl, inr, ⊎_elim}
+use Rattle.std.proofs.lemmas.Int.{ints}
+use Rattle.std.specs.Prelude.{pos, neg_ℤ}
+use Rattle.qh_model.proofs.algebra.{Ring.ring, Ring.Expr.con, Ring.Expr.sub as less, Ring.Expr.neg, Signs.opposite_zero}
+use Rattle.qh_model.proofs.algebra.VectorIdentities.{vec, dotE, put, vector_path, vol-dot}
+use Rattle.qh_model.proofs.extremes.{Dimensions.segment_of_triangle, Directions.square-positive}
+use Rattle.qh_model.specs.headline.{Dimension.HasTriangle, Predicates.place, Predicates.cross, Sets.In, Sets.Members}
+use Rattle.qh_model.specs.headline.Vector.{Vector, origin, minus, dot}
+use Rattle.qh_polygon.proofs.{LinesAndPlanes.between_eq, LinesAndPlanes.none, polygons.Turns.IsFlat}
+use Rattle.qh_polygon.specs.contract.PlanarSets.{IsPlanarSet}
+
+-- the scalar product with the opposite
+negated : (c v : Vector) → dot (minus origin c) v ≡ neg_ℤ (dot c v)
+negated c v = ring (put c (put v []))
+    (dotE (record {
+      x = less (con (pos 0)) (vec 0).x;
+      y = less (con (pos 0)) (vec 0).y;
+      z = less (con (pos 0)) (vec 0).z;
+    }) (vec 1)) (neg (dotE (vec 0) (vec 1))) refl
+
+-- of ids of which three are not in line there are at least two
+pub two_of_triangle : (at : ℕ → Vector) (ids : List ℕ) → HasTriangle at (Members ids) → 1 < length ids
+two_of_triangle at ids t = let s = segment_of_triangle at (Members ids) t in along_list ids s.i s.j s.has_i s.has_j s.differ
+  where
+    along_list : (xs : List ℕ) (a b : ℕ) → In a xs → In b xs → a ≢ b → 1 < length xs
+    along_list [] a b ma mb d = absurd ma
+    along_list (x ∷ []) a b (inl e) (inl f) d = absurd (d (e ∙ sym f))
+    along_list (x ∷ []) a b (inl e) (inr m) d = absurd m
+    along_list (x ∷ []) a b (inr m) mb d = absurd m
+    along_list (x ∷ y ∷ ys) a b ma mb d = omega arith
+
+module _ (pts : List Vector) (ids : List ℕ) (n : Vector) (p : IsPlanarSet pts ids n) where
+  -- the normal of the three
+  abbrev c : Vector
+  c = cross (place pts p.i) (place pts p.j) (place pts p.k)
+
+  -- the way from i to a member is across the normal
+  across : (l : ℕ) → In l ids → dot n (minus (place pts l) (place pts p.i)) ≡ pos 0
+  across l m = ⊎_elim (λ e. ap (λ v. dot v (minus (place pts l) (place pts p.i))) e ∙ zero_c)
+      (λ e. ap (λ v. dot v (minus (place pts l) (place pts p.i))) e ∙ opposite_zero _ _ (negated c (minus (place pts l) (place pts p.i))) zero_c) p.normal
+    where
+      zero_c : dot c (minus (place pts l) (place pts p.i)) ≡ pos 0
+      zero_c = sym (vol-dot (place pts p.i) (place pts p.j) (place pts p.k) (place pts l)) ∙ p.plane l m
+
+  -- the normal is not zero
+  some : n ≢ origin
+  some h = by_cases p.normal
+    where
+      by_cases : (n ≡ c) ⊎ (n ≡ minus origin c) → ⊥
+      by_cases (inl e) = p.area (sym e ∙ h)
+      by_cases (inr e) = let o : minus origin c ≡ origin = sym e ∙ h in
+          p.area (vector_path c origin (omega (arith, ints, ap (λ v. v.x) o)) (omega (arith, ints, ap (λ v. v.y) o)) (omega (arith, ints, ap (λ v. v.z) o)))
+
+  -- the ids are flat across the normal
+  pub flat_of : IsFlat n (place pts) (λ x. In x ids)
+  flat_of = record {
+    even = λ a b ma mb. none _ _ _ (between_eq n (place pts p.i) (place pts a) (place pts b)) (across b mb) (across a ma);
+    some = square-positive n some;
+  }
+
+  -- three of them are not in line
+  pub planar_triangle : HasTriangle (place pts) (Members ids)
+  planar_triangle = record { i = p.i; j = p.j; k = p.k; has_i = p.has_i; has_j = p.has_j; has_k = p.has_k; area = p.area }

@@ -1,0 +1,116 @@
+-- The polygon of three points that are not in line.
+use Rattle.std.proofs.Common.{◌≡◌, ◌≢◌, ℕ, ◌<◌, List, [], ◌∷◌, arith, ap, sym, subst, ◌∙◌, inl, inr, Bool, true, false, cond, refl, length, get_or}
+use Rattle.std.proofs.{Math.Nat.ne_of_lt, lemmas.Grind.common_steps, lemmas.Int.ints}
+use Rattle.std.specs.Prelude.{ℤ, pos, neg_ℤ, ◌*ℤ◌, ◌≤ℤ◌, ◌<ℤ◌, ◌↔◌}
+use Rattle.qh_model.proofs.algebra.{Integers.zero_mul, Order.cancel-zero, Order.le_less}
+use Rattle.qh_model.proofs.algebra.VectorIdentities.{vector_path, left-dot, left-turn, left-flip, in_line-twice, in_line-last, dot_comm}
+use Rattle.qh_model.proofs.extremes.Directions.{Parallel, parallel_normal, in_line-flip, square-positive}
+use Rattle.qh_model.specs.headline.{Extreme.Extreme, Polygon.IsPolygon, Predicates.place, Predicates.cross, Predicates.left, Predicates.AreInLine, Sets.In}
+use Rattle.qh_model.specs.headline.{Sets.Members, Vector.Vector, Vector.origin, Vector.minus, Vector.dot}
+use Rattle.qh_polygon.proofs.LinesAndPlanes.{three_line, same_point}
+use Rattle.qh_polygon.proofs.polygons.{Chain.is_left-yes, Chain.is_left-no, ComponentTurns.turns_agree, LeftCycles.cycle_polygon, LeftCycles.side_of}
+use Rattle.qh_polygon.proofs.polygons.{LeftCycles.third_of, PlanarIds.flat_of, Turns.IsFlat}
+use Rattle.qh_polygon.specs.{contract.PlanarSets.IsPlanarSet, steps.Chains.is_left, steps.Chains.turn_of, steps.Chains.triangle}
+
+-- a left turn over three members from the least on is their polygon
+pub left_triangle : (n : Vector) (at : ℕ → Vector) (A : ℕ → Type 0) (a b c : ℕ) → ((x : ℕ) → A x ↔ In x (a ∷ b ∷ c ∷ []))
+    → a < b → a < c → b ≢ c → pos 0 <ℤ left n (at a) (at b) (at c) → IsPolygon at (Extreme at A) n (a ∷ b ∷ c ∷ [])
+left_triangle n at A a b c l ab ac bc h =
+    cycle_polygon n at A a (b ∷ c ∷ []) l (third_of a b c [] (ne_of_lt ab) (ne_of_lt ac) bc)
+    (grind (arith, common_steps, ab, ac, bc)) (λ v i. grind (arith, common_steps, i, ab, ac)) (
+      side_of n at (a ∷ b ∷ c ∷ []) c a b c (λ x i u v. grind (arith, common_steps, i, u, v)) hc h,
+      (
+        side_of n at (a ∷ b ∷ c ∷ []) a b c a (λ x i u v. grind (arith, common_steps, i, u, v)) h hb,
+        side_of n at (a ∷ b ∷ c ∷ []) b c a b (λ x i u v. grind (arith, common_steps, i, u, v)) hb hc,
+      ),
+    )
+  where
+    hb : pos 0 <ℤ left n (at b) (at c) (at a)
+    hb = subst (λ t. pos 0 <ℤ t) (left-turn n (at a) (at b) (at c)) h
+
+    hc : pos 0 <ℤ left n (at c) (at a) (at b)
+    hc = subst (λ t. pos 0 <ℤ t) (left-turn n (at b) (at c) (at a)) hb
+
+-- ---- three ids of a planar set turn one way or the other
+-- a point twice is in line with any other
+in_line-back : (a b : Vector) → AreInLine a b a
+in_line-back a b = in_line-flip a b a (in_line-twice a b)
+
+-- no turn about the normal of the plane: the three are in line
+turn_zero : (n a b c : Vector) → pos 0 <ℤ dot n n → dot n (minus b a) ≡ pos 0 → dot n (minus c a) ≡ pos 0 → left n a b c ≡ pos 0 → AreInLine a b c
+turn_zero n a b c s p q z =
+    vector_path (cross a b c) origin (none n.x (cross a b c).x along.x) (none n.y (cross a b c).y along.y) (none n.z (cross a b c).z along.z)
+  where
+    along : Parallel n (cross a b c)
+    along = parallel_normal n a b c p q
+
+    none : (x y : ℤ) → dot n n *ℤ y ≡ dot n (cross a b c) *ℤ x → y ≡ pos 0
+    none x y e = cancel-zero (dot n n) y s (e ∙ ap (λ t. t *ℤ x) (dot_comm n (cross a b c) ∙ sym (left-dot n a b c) ∙ z) ∙ zero_mul x)
+
+module _ (pts : List Vector) (n : Vector) (i j k : ℕ) (h : IsPlanarSet pts (i ∷ j ∷ k ∷ []) n) (ij : i < j) (jk : j < k) where
+  -- they are flat across the normal
+  flat : IsFlat n (place pts) (λ x. In x (i ∷ j ∷ k ∷ []))
+  flat = flat_of pts (i ∷ j ∷ k ∷ []) n h
+
+  -- the three of them do turn
+  turns : left n (place pts i) (place pts j) (place pts k) ≡ pos 0 → ⊥
+  turns z = h.area (three_line (place pts i) (place pts j) (place pts h.i) (place pts h.j) (place pts h.k) apart
+      (each h.i h.has_i) (each h.j h.has_j) (each h.k h.has_k))
+    where
+      line : AreInLine (place pts i) (place pts j) (place pts k)
+      line = turn_zero n (place pts i) (place pts j) (place pts k) flat.some (flat.even i j (inl refl) (inr (inl refl)))
+          (flat.even i k (inl refl) (inr (inr (inl refl)))) z
+
+      apart : pos 0 <ℤ dot (minus (place pts j) (place pts i)) (minus (place pts j) (place pts i))
+      apart = square-positive (minus (place pts j) (place pts i))
+          (λ e. ne_of_lt ij (h.set.distinct i j (inl refl) (inr (inl refl)) (same_point (place pts i) (place pts j) e)))
+
+      each : (x : ℕ) → In x (i ∷ j ∷ k ∷ []) → AreInLine (place pts i) (place pts j) (place pts x)
+      each x (inl e) = subst (λ t. AreInLine (place pts i) (place pts j) (place pts t)) (sym e) (in_line-back (place pts i) (place pts j))
+      each x (inr (inl e)) = subst (λ t. AreInLine (place pts i) (place pts j) (place pts t)) (sym e) (in_line-last (place pts i) (place pts j))
+      each x (inr (inr (inl e))) = subst (λ t. AreInLine (place pts i) (place pts j) (place pts t)) (sym e) line
+      each x (inr (inr (inr m))) = absurd m
+
+  -- so one order of them is their polygon
+  pub triangle_polygon : IsPolygon (place pts) (Extreme (place pts) (Members (i ∷ j ∷ k ∷ []))) n (triangle (turn_of pts n) i j k)
+  triangle_polygon = by_side (is_left (turn_of pts n i j k))
+      (sym (turns_agree pts n (λ x. In x (i ∷ j ∷ k ∷ [])) flat i j k (inl refl) (inr (inl refl)) (inr (inr (inl refl)))))
+    where
+      ik : i < k
+      ik = omega arith
+
+      turned : (x y : ℤ) → x ≡ neg_ℤ y → y ≤ℤ pos 0 → (y ≡ pos 0 → ⊥) → pos 0 <ℤ x
+      turned x y e l ne = flipped x y e (le_less y (pos 0) l ne)
+        where
+          flipped : (x y : ℤ) → x ≡ neg_ℤ y → y <ℤ pos 0 → pos 0 <ℤ x
+          flipped x y e l = omega (arith, ints)
+
+      by_side : (b : Bool) → is_left (left n (place pts i) (place pts j) (place pts k)) ≡ b
+          → IsPolygon (place pts) (Extreme (place pts) (Members (i ∷ j ∷ k ∷ []))) n (cond b (i ∷ j ∷ k ∷ []) (i ∷ k ∷ j ∷ []))
+      by_side true e = left_triangle n (place pts) (Members (i ∷ j ∷ k ∷ [])) i j k (λ x. (λ m. m, λ m. m)) ij ik (ne_of_lt jk) (is_left-yes _ e)
+      by_side false e = left_triangle n (place pts) (Members (i ∷ j ∷ k ∷ [])) i k j
+          (λ x. (λ m. grind (arith, m), λ m. grind (arith, m))) ik ij (λ q. ne_of_lt jk (sym q))
+          (turned _ _ (left-flip n (place pts i) (place pts k) (place pts j)) (is_left-no _ e) turns)
+
+-- ---- the same of a list of three
+three_ids : (ids : List ℕ) (i j k : ℕ) → length ids ≡ 3 → i ≡ get_or ids 0 i → j ≡ get_or ids 1 j → k ≡ get_or ids 2 k → ids ≡ i ∷ j ∷ k ∷ []
+three_ids [] i j k l p q r = absurd (omega arith)
+three_ids (a ∷ []) i j k l p q r = absurd (omega arith)
+three_ids (a ∷ b ∷ []) i j k l p q r = absurd (omega arith)
+three_ids (a ∷ b ∷ c ∷ []) i j k l p q r = cc
+three_ids (a ∷ b ∷ c ∷ d ∷ ids) i j k l p q r = absurd (omega arith)
+
+-- the polygon of a planar set of three, as the code reads it
+pub polygon_of_three : (pts : List Vector) (ids : List ℕ) (n : Vector) (i j k : ℕ) (q : List ℕ) → length ids ≡ 3
+    → i ≡ get_or ids 0 i → j ≡ get_or ids 1 j → k ≡ get_or ids 2 k
+    → q ≡ triangle (turn_of pts n) i j k → IsPlanarSet pts ids n → IsPolygon (place pts) (Extreme (place pts) (Members ids)) n q
+polygon_of_three pts ids n i j k q l pi pj pk e h =
+    subst (λ t. IsPolygon (place pts) (Extreme (place pts) (Members t)) n q) (sym is)
+    (subst (IsPolygon (place pts) (Extreme (place pts) (Members (i ∷ j ∷ k ∷ []))) n) (sym e)
+    (triangle_polygon pts n i j k set (set.set.rising 0 (omega arith)) (set.set.rising 1 (omega arith))))
+  where
+    is : ids ≡ i ∷ j ∷ k ∷ []
+    is = three_ids ids i j k l pi pj pk
+
+    set : IsPlanarSet pts (i ∷ j ∷ k ∷ []) n
+    set = subst (λ t. IsPlanarSet pts t n) is h

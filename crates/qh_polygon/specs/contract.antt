@@ -1,0 +1,6 @@
+-- What else the contracts of public functions cite.
+pub mod PlaceNumbers
+pub mod PlaceKeys
+pub mod PlanarSets
+pub mod Shapes
+pub mod Marks
