@@ -51,5 +51,7 @@ fn runs_rise(rt: HostRuntime) -> Result<(), Fail> {
     let rising = text_of(rt.alloc(), &added(rt.alloc(), &RISING)?)?;
     let run = text_of(rt.alloc(), &added(rt.alloc(), &MIXED)?.as_run())?;
     assert_eq!(rt; run.as_str(), rising.as_str());
+    let merged = text_of(rt.alloc(), &added(rt.alloc(), &MIXED)?.merged()?)?;
+    assert_eq!(rt; merged.as_str(), rising.as_str());
     Ok(())
 }
