@@ -8,7 +8,7 @@
 #     make uninstall
 #     make -C c install     the libraries for C, with header, qconvex.pc and a CMake package
 #
-# JOBS is how many crates are proved side by side.
+# JOBS is how many processors prove side by side.
 PREFIX ?= /usr/local
 NAME ?= qconvex
 JOBS ?= $(shell nproc)
@@ -25,11 +25,10 @@ FISH_COMPLETION = $(DESTDIR)$(DATADIR)/fish/vendor_completions.d/$(NAME).fish
 all: $(PROGRAM) $(CHECKER)
 
 $(PROGRAM):
-	cd crates/qconvex && rt all check --jobs $(JOBS)
+	JOBS=$(JOBS) scripts/make/prove.py qconvex hullcheck
 	cd crates/qconvex && rt run -- s < ../../examples/unit-cube.txt
 
 $(CHECKER): $(PROGRAM)
-	cd crates/hullcheck && rt all check --jobs $(JOBS)
 	$(PROGRAM) off < examples/unit-cube.txt | (cd crates/hullcheck && rt run -- ../../examples/unit-cube.txt)
 
 install: $(PROGRAM) $(CHECKER)

@@ -46,9 +46,6 @@ pub fn are_faces<R: Threads>(
         polygons,
         order: &order,
     };
-    let found = first_fault_in_parts(rt, alloc, set, asked, workers)?;
-    match found {
-        Some(_) => Ok(false),
-        None => Ok(true),
-    }
+    let fault = first_fault_in_parts(rt, alloc, set, asked, workers)?;
+    Ok(fault.is_none())
 }

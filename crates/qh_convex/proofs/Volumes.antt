@@ -3,13 +3,6 @@ use Rattle.std.proofs.Common.{◌≡◌, arith}
 use Rattle.std.proofs.lemmas.Int.{ints}
 use Rattle.std.specs.Prelude.{ℤ, pos, neg_ℤ, ◌<ℤ◌, ◌≤ℤ◌}
 
--- of two opposite numbers one is above 0 where the other is below
-pub below_where : (a b : ℤ) → a ≡ neg_ℤ b → pos 0 <ℤ a → b <ℤ pos 0
-below_where a b e h = omega (arith, ints)
-
-pub above_where : (a b : ℤ) → a ≡ neg_ℤ b → b <ℤ pos 0 → pos 0 <ℤ a
-above_where a b e h = omega (arith, ints)
-
 -- what is not below 0 is at least 0
 pub not_below : (a : ℤ) → ¬ (a <ℤ pos 0) → pos 0 ≤ℤ a
 not_below a n = grind (arith, ints, n)

@@ -134,9 +134,6 @@ module _ (at : ℕ → Vector) (z : Vector) (ts : List Triple) (inside : (t : Tr
                 turned : (a b c : ℤ) → a ≡ neg_ℤ b → c ≡ b → c <ℤ pos 0 → pos 0 <ℤ a
                 turned a b c e f h = omega (arith, ints)
 
-            double : (a b : ℤ) → neg_ℤ a *ℤ neg_ℤ b ≡ a *ℤ b
-            double a b = ring (a ∷ b ∷ []) (mul (neg (var 0)) (neg (var 1))) (mul (var 0) (var 1)) refl
-
             half : (a b : ℤ) → neg_ℤ a *ℤ b ≡ a *ℤ neg_ℤ b
             half a b = ring (a ∷ b ∷ []) (mul (neg (var 0)) (var 1)) (mul (var 0) (neg (var 1))) refl
 

@@ -40,20 +40,6 @@ module _ (points : List Vector) (ids : List ℕ) (plane : PlaneValue) where
     only = λ o. o;
   }
 
-  -- no points
-  pub looked_beyond : (from to : ℕ) (old : List ℕ) → length points ≤ from → HasLooked points ids plane from to old old
-  looked_beyond from to old h = looked_below from to old (λ k f m l. absurd (omega arith))
-
-  -- numbers that are no positions
-  pub looked_further : (from to more : ℕ) (old found : List ℕ) → HasLooked points ids plane from to old found
-      → ((k : ℕ) → k < more → k < length points → k < to) → HasLooked points ids plane from more old found
-  looked_further from to more old found h w = record {
-    below = λ k f m l. h.below k f (w k m l) l;
-    lists = λ k f m l e. h.lists k f (w k m l) l e;
-    kept = h.kept;
-    only = h.only;
-  }
-
   -- a point in the plane
   found_on : (from k : ℕ) (old found : List ℕ) → HasLooked points ids plane from k old found → k < length points
       → rise_at points plane k ≡ pos 0 → HasLooked points ids plane from (k + 1) old (found ++ get_or ids k 0 ∷ [])

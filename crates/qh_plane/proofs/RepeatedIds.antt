@@ -139,10 +139,6 @@ hash_part pts n some i = (hash_at pts i * n / NO_HASH, part_small (hash_at pts i
 pub none_repeated : (pts : List Vector) (all ids : List ℕ) → AllIds (length pts) all → AreAllRepeats pts ids → ids ≡ [] → AreDistinctIds pts all
 none_repeated pts all ids a r none = all_distinct pts all a (λ i j l h e. subst (In j) none (r.has j tt (h, i, l, e)))
 
--- at first every mark is set
-pub all_marked : (count : ℕ) → MarksWithout count [] (replicate count true)
-all_marked count = record { len = length-replicate count true; has = λ i l n. get_or-replicate count i true false l; only = λ i e m. m }
-
 -- one mark more is taken away
 pub mark_taken : (count : ℕ) (ids : List ℕ) (marks : List Bool) (k : ℕ) → k < count → MarksWithout count ids marks
     → MarksWithout count (ids ++ k ∷ []) (set marks k false)

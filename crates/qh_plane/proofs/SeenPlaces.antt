@@ -20,18 +20,6 @@ point_read pts k p l e = get_or_read pts k p l e origin
 id_is_none : (k n : ℕ) → k < n → n ≤ POINT_LIMIT → k ≢ NO_ID
 id_is_none k n l h e = omega (arith, l, h, e)
 
--- at first no point came
-pub no_firsts : (pts : List Vector) (b : CloseBox) (n : ℕ) → HaveFirsts pts b (replicate n NO_ID) 0 []
-no_firsts pts b n = record {
-  firsts = λ j l. absurd (omega (arith, l));
-  held = λ s l. inl (get_or-replicate n s NO_ID NO_ID (subst (λ (v : ℕ). s < v) (length-replicate n NO_ID) l));
-  rising = λ k l. absurd (omega (arith, l));
-  members = λ i. ((λ m. absurd m), (λ h. absurd (nothing i h.1)));
-}
-  where
-    nothing : (i : ℕ) → i < 0 → ⊥
-    nothing i l = omega (arith, l)
-
 module _ (pts : List Vector) (b : CloseBox) (slots : List ℕ) (k : ℕ) (ids : List ℕ) (old : HaveFirsts pts b slots k ids) where
   -- the id that is read from a slot is one that was seen
   pub seen_id : (s n : ℕ) → s < length slots → n ≡ slice_index_or slots s n → n ≢ NO_ID → n < k

@@ -60,6 +60,10 @@ pub fn place_key_id(key: u128) -> Id
 }
 
 /// Returns the keys of points, in the order of their ids in the list.
+///
+/// # Errors
+///
+/// `AllocError` if an allocation failed.
 pub fn point_keys(alloc: Global, pts: &[Point], ids: &[Id]) -> Result<Vec<u128>, AllocError>
     requires { AreIndices pts.now ids.now }
     ensures value { IfOk result (λ v. v.items ≡ map (key_at pts.now) ids.now) }

@@ -26,7 +26,3 @@ part_stands pts ids part found one two = record {
   within = λ i m. one.within i (two.within i m);
   hull = λ b h. one.hull b (two.hull b h);
 }
-
--- a list of rising ids stands for itself
-pub all_stand : (pts : List Vector) (ids : List ℕ) → IsStrictlyIncreasing ids → StandsFor pts ids ids
-all_stand pts ids rising = record { rising = rising; within = λ i m. m; hull = λ b h. h }

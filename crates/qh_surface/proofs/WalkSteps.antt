@@ -19,14 +19,6 @@ facets_fit fs vs a =
 
 -- ---- the steps
 module _ (P : ℕ → Type 0) (fs : List StoredFacet) where
-  -- nothing is found
-  pub nothing_found : (marks : List Bool) → IsWalk P fs marks []
-  nothing_found marks = record {
-    facets = record { live = All-nil (IsLive fs); once = tt };
-    passes = All-nil P;
-    marked = All-nil (IsMarked marks);
-  }
-
   -- a facet that passes is marked and found
   module _ (marks : List Bool) (vs : List ℕ) (g : ℕ) (w : IsWalk P fs marks vs) (room : length fs ≤ length marks)
       (l : IsLive fs g) (new : mark_at marks g ≡ false) (p : P g) where

@@ -33,12 +33,3 @@ length-fan_short (a ∷ b ∷ c ∷ r) h = absurd (omega arith)
 -- what is left of a list, from a place on
 pub drop_next : {X : Type 0} (xs : List X) (i : ℕ) (x : X) → i < length xs → x ≡ get_or xs i x → drop i xs ≡ x ∷ drop (i + 1) xs
 drop_next xs i x h e = drop-cons xs i x h ∙ ap (λ t. t ∷ drop (suc i) xs) (sym e) ∙ ap (λ k. x ∷ drop k xs) (sym (add-one i))
-
--- the fans of one polygon more
-pub fans_more : (qs : List (List ℕ)) (i : ℕ) (q : List ℕ) → i < length qs → q ≡ get_or qs i q → fans (take (i + 1) qs) ≡ fans (take i qs) ++ fan q
-fans_more qs i q h e = ap fans (take_more qs i q h ∙ ap (λ (x : List ℕ). take i qs ++ x ∷ []) (sym e))
-    ∙ flat_map-append fan (take i qs) (q ∷ []) ∙ ap (λ t. fans (take i qs) ++ t) (none (fan q))
-  where
-    none : (xs : List (List ℕ)) → xs ++ [] ≡ xs
-    none [] = refl
-    none (x ∷ xs) = ap (λ t. x ∷ t) (none xs)

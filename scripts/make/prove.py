@@ -1,0 +1,157 @@
+#!/usr/bin/env python3
+"""Proves a program or a library and the crates below it, as many side by side as there are processors.
+
+    scripts/make/prove.py CRATE..           from the top of the repository
+
+JOBS in the environment is the number of processors to use; without it, all. `rt all check --jobs N` gives each crate one
+process, and where crates form a chain the other processors are idle. Here a crate gets up to four processes where few
+others can be proved beside it. One folder admits one `rt` at a time, so each runs in a copy of the crates, below
+`build/prove`, which gets the libraries that were proved in the others. What was proved comes back to the repository,
+and the copies go. A library that was proved before, and whose files are the same, is not proved again.
+
+The script prints a line for each crate, and what `rt` said of one that is not proved. Then the status is 1.
+"""
+import os
+import shutil
+import subprocess
+import sys
+import time
+from concurrent.futures import FIRST_COMPLETED, ThreadPoolExecutor, wait
+from pathlib import Path
+
+sys.path.insert(0, str(Path(__file__).resolve().parents[1]))
+from lib.usage import names_given  # noqa: E402
+
+COPIES = Path("build/prove")
+# The most processes that one crate gets: each loads the libraries anew.
+MOST_EACH = 4
+
+
+def crates_below(names):
+    """Returns the crates that these need, themselves among them, each with those that it needs directly."""
+    needs = {}
+    for line in Path("crates.txt").read_text().splitlines():
+        head, colon, rest = line.partition(":")
+        if colon and not line.startswith("#"):
+            needs[head.split()[0]] = rest.split()
+    wanted, found = list(names), {}
+    while wanted:
+        name = wanted.pop()
+        if name not in needs:
+            sys.exit(f"{name} is no crate of crates.txt")
+        if name not in found:
+            found[name] = [need for need in needs[name] if need in needs]
+            wanted += found[name]
+    return found
+
+
+def lines_of(name):
+    return sum(file.read_bytes().count(b"\n") for end in ("antt", "rt") for file in Path("crates", name).glob(f"*/**/*.{end}"))
+
+
+def lines_behind(needs):
+    """Returns for each crate the lines of the longest chain of crates that wait for it."""
+    behind = {}
+
+    def of(name):
+        if name not in behind:
+            above = [of(other) for other in needs if name in needs[other]]
+            behind[name] = lines_of(name) + max(above, default=0)
+        return behind[name]
+
+    for name in needs:
+        of(name)
+    return behind
+
+
+def give(name, top, to):
+    """Gives a folder with crates the library that was proved in another, by links to its files, if it was."""
+    library, target = top / "crates" / name / "out/rlib", to / "crates" / name / "out/rlib"
+    if library.is_dir() and top != to:
+        shutil.rmtree(target, ignore_errors=True)
+        shutil.copytree(library, target, copy_function=os.link)
+
+
+def proved(name, lane, jobs):
+    """Proves a crate in a copy, with so many processes. Returns what rt said if it failed, or an empty text."""
+    folder = lane / "crates" / name
+    verb = "check" if (folder / "src/main.rt").exists() else "lib"
+    run = subprocess.run(["rt", verb, "--jobs", str(jobs)], cwd=folder, stdout=subprocess.PIPE, stderr=subprocess.STDOUT, text=True)
+    return run.stdout if run.returncode else ""
+
+
+def copies(number):
+    """Returns so many copies of the crates, with the libraries that were proved before."""
+    shutil.rmtree(COPIES, ignore_errors=True)
+    lanes = [COPIES / str(lane) for lane in range(number)]
+    for lane in lanes:
+        shutil.copytree("crates", lane / "crates", ignore=shutil.ignore_patterns("out"))
+        for name in ["crates.txt", "HANDLES"]:
+            shutil.copy(name, lane)
+    return lanes
+
+
+class Crates:
+    """The crates that are to be proved, those with the longest chain behind them first, and where those are that were."""
+
+    def __init__(self, names, processors):
+        self.needs, self.processors = crates_below(names), processors
+        behind = lines_behind(self.needs)
+        self.left = sorted(self.needs, key=lambda name: -behind[name])
+        self.free, self.running, self.home = copies(processors), {}, {}
+
+    def processes(self, name, idle, ready):
+        """Returns how many processes a crate gets: its share of the idle processors, and half of all where all wait for its chain."""
+        least = self.processors // 2 if name == self.left[0] else 1
+        return min(MOST_EACH, max(least, idle // len(ready), 1))
+
+    def begin(self, pool):
+        """Begins the crates that can be proved now, as many as there are processors."""
+        ready = [name for name in self.left if all(need in self.home for need in self.needs[name])]
+        while ready and self.free:
+            idle = self.processors - sum(jobs for _, _, jobs in self.running.values())
+            if idle <= 0:
+                break
+            name, lane = ready[0], self.free.pop()
+            jobs = self.processes(name, idle, ready)
+            give(name, Path("."), lane)
+            for below in crates_below(self.needs[name]):
+                give(below, self.home[below], lane)
+            self.left.remove(name)
+            ready.remove(name)
+            self.running[pool.submit(proved, name, lane, jobs)] = name, lane, jobs
+
+    def end(self, task):
+        """Notes that a crate was proved, and returns its name and its number of processes. One that was not ends the script."""
+        name, lane, jobs = self.running.pop(task)
+        if task.result():
+            sys.exit(f"{task.result()}{name} is NOT PROVED")
+        self.free.append(lane)
+        self.home[name] = lane
+        return name, jobs
+
+    def bring_back(self):
+        """Puts what was proved into the repository."""
+        for name, lane in self.home.items():
+            shutil.rmtree(f"crates/{name}/out", ignore_errors=True)
+            shutil.move(lane / "crates" / name / "out", f"crates/{name}/out")
+        shutil.rmtree(COPIES)
+
+
+def main():
+    crates, start = Crates(names_given(__doc__), int(os.environ.get("JOBS") or os.cpu_count())), time.monotonic()
+    try:
+        with ThreadPoolExecutor(crates.processors) as pool:
+            while crates.left or crates.running:
+                crates.begin(pool)
+                for task in wait(crates.running, return_when=FIRST_COMPLETED).done:
+                    name, jobs = crates.end(task)
+                    processes = "1 process" if jobs == 1 else f"{jobs} processes"
+                    done = f"{len(crates.home)} of {len(crates.needs)}"
+                    print(f"{time.monotonic() - start:5.0f} s  {name} is proved ({done}, {processes})", flush=True)
+    finally:
+        crates.bring_back()
+
+
+if __name__ == "__main__":
+    main()
