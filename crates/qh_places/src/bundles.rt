@@ -176,19 +176,22 @@ impl Bundle {
             && is_deep(plane.height(self.origin), times, self.depth)
     }
 
-    /// Returns how many times a direction goes into the normals, or 0 where they look the other way. It is only
-    /// a guess.
-    fn times_along(&self, along: Direction) -> u64
+    /// Returns how many times the direction of a block goes into the normals, or 0 where they look the other way. It is
+    /// only a guess: by the upper bits of the products, and with no division.
+    fn times_along(&self, block: &Block) -> u64
         ensures { result ≤ TIMES_LIMIT }
     {
+        let along = block.along;
         let product = self
             .x
             .middle_product(along.x)
             .wrapping_add(self.y.middle_product(along.y))
             .wrapping_add(self.z.middle_product(along.z));
-        let times = product.wrapping_shl(10).checked_div(along.square());
-        let upper = u64::try_from(times.unwrap_or(0)).unwrap_or(0);
-        upper.saturating_mul(262144).min(TIMES_LIMIT)
+        let times = product
+            .wrapping_shr(16)
+            .wrapping_mul(block.inverse)
+            .wrapping_shr(14);
+        u64::try_from(times).unwrap_or(0).min(TIMES_LIMIT)
     }
 
     /// Returns a bound of the products of normals, less a direction taken some times, with the ways from the
@@ -249,7 +252,7 @@ impl Bundle {
         ensures { IsTrue result → (plane : PlaneValue) → IsOfBundle self.now plane
             → (p : Vector) → IsInBlock block.now p → height plane p <ℤ pos 0 }
     {
-        let times = self.times_along(block.along);
+        let times = self.times_along(block);
         let share = self.far_share(block, times);
         let rest = self.far_rest(&block.bounds, block.along, times);
         self.is_deeper(share, rest)

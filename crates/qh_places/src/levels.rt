@@ -111,6 +111,10 @@ pub(crate) fn levels_over(
 {
     let mut levels = Vec::new(alloc);
     for shift in SHIFTS {
+        // A level of one block says no more than the one below it, if that has one block, too.
+        if points.len() <= positions(shift) / 4 {
+            continue;
+        }
         levels.push(Level::over(alloc, points, outward, shift)?)?;
     }
     Ok(levels)
@@ -121,7 +125,11 @@ pub(crate) fn levels_over(
 pub(crate) fn below_all(levels: &[Level], bundle: &Bundle, from: usize) -> usize
     ensures { (points : List Vector) → All (IsLevel points) levels.now → AreBelowAll points bundle.now from (from + result) }
 {
+    let aligned = from.trailing_zeros();
     for level in levels {
+        if level.shift > aligned {
+            continue;
+        }
         let below = level.below_all(bundle, from);
         if below > 0 {
             return below;

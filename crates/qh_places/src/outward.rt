@@ -116,11 +116,16 @@ pub(crate) fn outward_of(
     Ok(outward)
 }
 
-/// Returns a component, made as small as a direction wants it, where `greatest` is the size of the
-/// greatest.
-fn small(component: i64, greatest: u64) -> i16 {
-    let divisor = i64::try_from(greatest / 32767 + 1).unwrap_or(1);
-    i16::try_from(component.checked_div(divisor).unwrap_or(0)).unwrap_or(0)
+/// The size of the greatest component that a direction may have.
+const GREATEST: u64 = 32767;
+
+/// Returns a component as a direction has it, where `greatest` is the size of the greatest: that is made about as large as
+/// 16 bits hold.
+fn scaled(component: i64, greatest: u64) -> i16 {
+    let divisor = i64::try_from(greatest / (GREATEST + 1) + 1).unwrap_or(1);
+    let factor = i64::try_from(GREATEST / greatest.max(1)).unwrap_or(1).max(1);
+    let quotient = component.wrapping_mul(factor).checked_div(divisor);
+    i16::try_from(quotient.unwrap_or(0)).unwrap_or(0)
 }
 
 /// Returns the direction of the sum of ways.
@@ -132,8 +137,8 @@ pub(crate) fn direction_of(ways: &[Outward]) -> Direction {
     let flat = sum.x.unsigned_abs().max(sum.y.unsigned_abs());
     let greatest = flat.max(sum.z.unsigned_abs());
     Direction {
-        x: small(sum.x, greatest),
-        y: small(sum.y, greatest),
-        z: small(sum.z, greatest),
+        x: scaled(sum.x, greatest),
+        y: scaled(sum.y, greatest),
+        z: scaled(sum.z, greatest),
     }
 }

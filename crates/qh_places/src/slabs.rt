@@ -14,13 +14,18 @@ pub(crate) struct Direction {
     pub z: i16,
 }
 
-/// Points of a box that reach no further than `reach` along a direction.
+/// Points of a box that reach no further than `reach` along a direction. `inverse` is `UNIT` by the product of the
+/// direction with itself, or 0 where that is 0; guesses are made by it.
 #[derive(Clone, Copy, Drop)]
 pub(crate) struct Block {
     pub bounds: PointBox,
     pub along: Direction,
+    pub inverse: i64,
     pub reach: i64,
 }
+
+/// What inverses are taken of: 2^58.
+const UNIT: i64 = 288230376151711744;
 
 /// Returns the product of a component and a coordinate.
 fn component_product(component: i16, coordinate: i32) -> i64
@@ -54,12 +59,14 @@ impl Direction {
         )
     }
 
-    /// Returns its product with itself.
-    pub fn square(self) -> i64 {
+    /// Returns `UNIT` by its product with itself, or 0 where that is 0.
+    fn inverse(self) -> i64 {
         let (x, y, z) = (i64::from(self.x), i64::from(self.y), i64::from(self.z));
-        x.wrapping_mul(x)
+        let square = x
+            .wrapping_mul(x)
             .wrapping_add(y.wrapping_mul(y))
-            .wrapping_add(z.wrapping_mul(z))
+            .wrapping_add(z.wrapping_mul(z));
+        UNIT.checked_div(square).unwrap_or(0)
     }
 
     /// Returns how far the points that reach furthest along the direction do.
@@ -84,6 +91,7 @@ impl Block {
         Block {
             bounds: PointBox::around(points),
             along,
+            inverse: along.inverse(),
             reach: along.furthest(points),
         }
     }

@@ -113,10 +113,11 @@ impl Span {
         }
     }
 
-    /// Returns the product of the middle of the span and a component, by their upper bits.
+    /// Returns the product of the middle of the span and a component, by the upper bits of the ends.
     pub fn middle_product(self, component: i16) -> i64 {
-        (self.low / 2 + self.high / 2)
-            .wrapping_shr(28)
+        self.low
+            .wrapping_shr(29)
+            .wrapping_add(self.high.wrapping_shr(29))
             .wrapping_mul(i64::from(component))
     }
 }
