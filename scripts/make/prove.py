@@ -73,11 +73,11 @@ def give(name, top, to):
 
 
 def proved(name, lane, jobs):
-    """Proves a crate in a copy, with so many processes; a program is built, too, and says its version. Returns what rt
+    """Proves a crate in a copy, with so many processes; a program is built, too, and shows its help. Returns what rt
     said if it failed, or an empty text."""
     folder = lane / "crates" / name
     words = ["run"] if (folder / "src/main.rt").exists() else ["lib"]
-    words += ["--jobs", str(jobs)] + ["--", "--version"] * (words == ["run"])
+    words += ["--jobs", str(jobs)] + ["--", "--help"] * (words == ["run"])
     run = subprocess.run(["rt", *words], cwd=folder, stdin=subprocess.DEVNULL, stdout=subprocess.PIPE, stderr=subprocess.STDOUT, text=True)
     return run.stdout if run.returncode else ""
 

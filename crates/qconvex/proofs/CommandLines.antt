@@ -3,8 +3,8 @@ use Rattle.std.proofs.Common.{◌≡◌, ◌∙◌, ◌<◌, ap, sym, subst, ref
 use Rattle.std.specs.Prelude.{slice_index_or}
 use Rattle.std.specs.Borrow.{Bor}
 use Rattle.std.specs.Option.{option_map}
-use Rattle.clap.specs.Words.{App, Text, IsAmong, HasKind, all_of, fault_of, found_of, kind_of, matched_of, matches_of}
-use Rattle.clap.specs.Words.{one_of, one_text, raw_values, rows_of, takes}
+use Rattle.clap.specs.Words.{App, Text, IsAmong, HasKind, all_of, fault_of, kind_of, matched_of, matches_of}
+use Rattle.clap.specs.Words.{one_of, raw_values, rows_of, takes}
 use Rattle.clap.specs.declared.error.Error.{Error}
 use Rattle.clap.specs.declared.error.kind.ErrorKind.{ErrorKind}
 use Rattle.clap.specs.declared.error.kind.ErrorKind.TheVariants.{DisplayHelp, OutOfMemory}

@@ -89,16 +89,12 @@ fn outs_arg<'a>(alloc: Global) -> Arg<'a>
 fn command<'a>(alloc: Global) -> Result<Command<'a>, AllocError>
     ensures { IfOk result (λ c. IsProgram (app_of c)) }
 {
-    let from = from_arg(alloc);
-    let workers = number_arg(alloc, "workers", "4", WORKER_LIMIT);
-    let block = number_arg(alloc, "block", "4096", BLOCK_SIZE_LIMIT);
-    let outs = outs_arg(alloc);
     Command::new(alloc, "qconvex")
         .override_help(HELP)
-        .arg(from)?
-        .arg(workers)?
-        .arg(block)?
-        .arg(outs)
+        .arg(from_arg(alloc))?
+        .arg(number_arg(alloc, "workers", "4", WORKER_LIMIT))?
+        .arg(number_arg(alloc, "block", "4096", BLOCK_SIZE_LIMIT))?
+        .arg(outs_arg(alloc))
 }
 
 /// Returns the output of a word.

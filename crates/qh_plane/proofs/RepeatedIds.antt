@@ -1,8 +1,8 @@
 -- Points that stand before: told key by key, joined from parts of the hashes, and left out.
 use Rattle.std.proofs.Common.{◌≡◌, ◌≢◌, ℕ, zero, suc, ◌+◌, ◌-◌, ◌*◌, ◌/◌, ◌%◌, ◌<◌, ◌≤◌, ◌⊎◌, inl, inr, List, [], ◌∷◌, ◌++◌, Bool, true, false, length}
-use Rattle.std.proofs.Common.{get_or, set, replicate, arith, ap, sym, subst, ◌∙◌, refl, get_or-set_same, get_or-set_other, ⊎_elim}
+use Rattle.std.proofs.Common.{get_or, set, arith, ap, sym, subst, ◌∙◌, refl, get_or-set_same, get_or-set_other, ⊎_elim}
 use Rattle.std.proofs.Math.Nat.{div-lt_iff_lt-mul, mul-lt-mul_of_pos_right}
-use Rattle.std.proofs.lemmas.{Bool.cases_lt, List.length-set, List.get_or-replicate, List.length-replicate}
+use Rattle.std.proofs.lemmas.{Bool.cases_lt, List.length-set}
 use native.Mathlib.Decide.{ℕ_discrete}
 use Rattle.qh_model.proofs.lists.Joined.{in_append, of_append}
 use Rattle.qh_model.specs.headline.{DistinctIds.IsDistinctId, DistinctIds.AreDistinctIds, Predicates.place, Sets.In, Vector.Vector}

@@ -9,7 +9,7 @@ use Rattle.qh_read.specs.contract.{Holding.Held, Holding.held_by, Holding.next_h
 use Rattle.qh_read.specs.declared.builder.Trailing.{Trailing}
 use Rattle.qh_read.specs.declared.cursor.Cursor.{Cursor}
 use Rattle.qh_read.specs.declared.token.Token.TheVariants.{Empty}
-use Rattle.qh_read.specs.steps.Cursors.{ahead, held_from, IsOn, IsParted, ArePoint, ArePushed}
+use Rattle.qh_read.specs.steps.Cursors.{ahead, held_from, IsParted, ArePoint, ArePushed}
 use Rattle.qh_read.specs.steps.Numbers.{quiet, ArePoints}
 
 -- one byte more

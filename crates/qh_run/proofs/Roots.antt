@@ -1,6 +1,5 @@
 -- What is right for all blocks of a cut stands for all ids.
 use Rattle.std.proofs.Common.{ℕ, ◌≡◌, List, length}
-use Rattle.std.specs.List.Sorted.{IsStrictlyIncreasing}
 use Rattle.qh_model.specs.headline.Vector.{Vector}
 use Rattle.qh_model.specs.headline.Predicates.{place}
 use Rattle.qh_model.specs.headline.Sets.{Members}

@@ -1,6 +1,5 @@
 -- Fans as they are written: their ids, their number, and what is left of them.
-use Rattle.std.proofs.Common.{◌≡◌, ◌∙◌, ℕ, suc, ◌+◌, ◌-◌, ◌<◌, ◌≤◌, List, [], ◌∷◌, ◌++◌, length, arith, ap, sym, refl, get_or, take, drop, drop-cons, add-one}
-use Rattle.std.proofs.lemmas.{Grind.flat_map-append, List.take_more}
+use Rattle.std.proofs.Common.{◌≡◌, ◌∙◌, ℕ, suc, ◌+◌, ◌-◌, ◌<◌, ◌≤◌, List, [], ◌∷◌, length, arith, ap, sym, refl, get_or, drop, drop-cons, add-one}
 use Rattle.qh_model.specs.{contract.Bodies.IsBodyInOrder, headline.Fan.triangles_along, headline.Fan.fan, headline.Fan.fans}
 use Rattle.qh_model.proofs.{lists.Joined.of_flat_map, polygons.Fans.fan_members}
 
