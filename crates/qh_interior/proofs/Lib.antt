@@ -3,3 +3,4 @@ pub mod CoarsePlanes
 pub mod CornerBoxes
 pub mod InnerBoxes
 pub mod InnerPoints
+pub mod Numbers

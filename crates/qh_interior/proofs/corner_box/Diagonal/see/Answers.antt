@@ -7,3 +7,9 @@ returns-else-reach-self-2 c pts ids e p = elim c.if-reach-self.branch [
   | then-reach-self w ↦ rw w.self-is (p, e.1)
   | else-reach-self w ↦ rw w.self-is e
 ]
+
+pub returns-then-reach-self-2 : goal.returns-then-reach-self-2
+returns-then-reach-self-2 c pts ids e p = elim c.if-reach-self.branch [
+  | then-reach-self w ↦ rw w.self-is (p, p)
+  | else-reach-self w ↦ rw w.self-is (e.0, p)
+]
