@@ -1,0 +1,6 @@
+use Rattle.std.proofs.Common.{arith}
+use Rattle.std.proofs.lemmas.Grind.{common_steps}
+use Rattle.qconvex_c.proofs.fans.push_normal.Goals as goal
+
+pub returns : goal.returns
+returns c = grind (arith, common_steps)
