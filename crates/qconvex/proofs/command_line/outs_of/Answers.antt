@@ -1,4 +1,5 @@
-use Rattle.std.proofs.Common.{◌≡◌, map}
+use Rattle.std.proofs.Common.{◌≡◌, arith, map}
+use Rattle.std.proofs.lemmas.Grind.{common_steps}
 use Rattle.qconvex.specs.contract.CommandLine.{word_of}
 use Rattle.qconvex.proofs.CommandLines.{word_at}
 use Rattle.qconvex.proofs.command_line.outs_of.Goals as goal
@@ -8,3 +9,6 @@ returns-in_default-out_of-clause-fault c = λ outs h.
     let told : map word_of outs ≡ map (λ w. w.now) c.in-Some.names.now = rw c.in-Some.is at h in
     let w = word_at outs c.in-Some.names.now c.loop-name.name-index _ told c.loop-name-test.true in
     c.in_default-out_of.ensures.none w.0 w.1
+
+pub loop-name-preserved : goal.loop-name-preserved
+loop-name-preserved c = grind (arith, common_steps)
