@@ -52,7 +52,7 @@ module _ (w v : Width) (a b x y : ℤ) (m : ℕ) (p : x ≡ held w a) (q : y ≡
   product_size = rw (product_is, unsigned_abs-mul a b) (mul-le-mul h k)
 
 -- ---- sums and differences of numbers of 32 bits, in 64
--- such a number
+-- a number that is read from one of 32 bits
 pub wide : (x y : ℤ) → mag x < 2 ^ 31 → y ≡ held w32 x → mag y < 2 ^ 31
 wide x y h e = omega (arith, ints)
 

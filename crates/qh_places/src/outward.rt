@@ -123,7 +123,9 @@ const GREATEST: u64 = 32767;
 /// 16 bits hold.
 fn scaled(component: i64, greatest: u64) -> i16 {
     let divisor = i64::try_from(greatest / (GREATEST + 1) + 1).unwrap_or(1);
-    let factor = i64::try_from(GREATEST / greatest.max(1)).unwrap_or(1).max(1);
+    let factor = i64::try_from(GREATEST / greatest.max(1))
+        .unwrap_or(1)
+        .max(1);
     let quotient = component.wrapping_mul(factor).checked_div(divisor);
     i16::try_from(quotient.unwrap_or(0)).unwrap_or(0)
 }

@@ -1,3 +1,4 @@
+-- The outputs so far are those of the words.
 use Rattle.std.proofs.Common.{◌≡◌, arith, map}
 use Rattle.std.proofs.lemmas.Grind.{common_steps}
 use Rattle.qconvex.specs.contract.CommandLine.{word_of}

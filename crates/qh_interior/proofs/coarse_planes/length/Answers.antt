@@ -6,7 +6,7 @@ use Rattle.qh_interior.proofs.Numbers.{product_fits, product_is, product_size}
 use Rattle.qh_interior.proofs.coarse_planes.length.Goals as goal
 use mir.Syntax.{w64, w128}
 
--- the size of such a number
+-- a number of 64 bits is no larger than 2^63
 size : (x : ℤ) → FitsSigned w64 x → unsigned_abs x ≤ 2 ^ 63
 size x h = omega (arith, ints)
 

@@ -35,7 +35,8 @@ returns-clause-room c =
             (held_as w128 c.z.result n.z normal_limit c.z.ensures.value c.z.ensures.limit.z (lit< tt))
             (held_as w32 c.z-2.result tip.z COORDINATE_LIMIT c.z-2.ensures.value c.z-2.ensures.limit.z (lit< tt)) step_is c.in_ok-z.ensures.rest;
       },
-      room_of x y z c.total.result c.room.result (to_z w128 (of_z w128 c.room.result)) total long (held_is w128 c.room.result (2 ^ 96) c.room.ensures.limit (lit< tt)),
+      room_of x y z c.total.result c.room.result (to_z w128 (of_z w128 c.room.result)) total long
+          (held_is w128 c.room.result (2 ^ 96) c.room.ensures.limit (lit< tt)),
     )
 
 pub rest_of-requires : goal.rest_of-requires

@@ -11,7 +11,9 @@ returns c pts ids e p = record {
 }
 
 pub overflow_add-x : goal.overflow_add-x
-overflow_add-x c = sum_fits c.from-x.result c.from-y.result (wide c.x.result c.from-x.result c.x.type_inv c.from-x.ensures) (wide c.y.result c.from-y.result c.y.type_inv c.from-y.ensures)
+overflow_add-x c =
+    sum_fits c.from-x.result c.from-y.result (wide c.x.result c.from-x.result c.x.type_inv c.from-x.ensures)
+    (wide c.y.result c.from-y.result c.y.type_inv c.from-y.ensures)
 
 pub overflow_add-x-2 : goal.overflow_add-x-2
 overflow_add-x-2 c =
@@ -19,7 +21,9 @@ overflow_add-x-2 c =
     (wide c.y.result c.from-y.result c.y.type_inv c.from-y.ensures) (wide c.z.result c.from-z.result c.z.type_inv c.from-z.ensures)
 
 pub overflow_add-x-3 : goal.overflow_add-x-3
-overflow_add-x-3 c = sum_fits c.from-x.result c.from-y.result (wide c.x.result c.from-x.result c.x.type_inv c.from-x.ensures) (wide c.y.result c.from-y.result c.y.type_inv c.from-y.ensures)
+overflow_add-x-3 c =
+    sum_fits c.from-x.result c.from-y.result (wide c.x.result c.from-x.result c.x.type_inv c.from-x.ensures)
+    (wide c.y.result c.from-y.result c.y.type_inv c.from-y.ensures)
 
 pub overflow_sub-x : goal.overflow_sub-x
 overflow_sub-x c =
@@ -27,7 +31,9 @@ overflow_sub-x c =
     (wide c.y.result c.from-y.result c.y.type_inv c.from-y.ensures) (wide c.z.result c.from-z.result c.z.type_inv c.from-z.ensures)
 
 pub overflow_sub-x-2 : goal.overflow_sub-x-2
-overflow_sub-x-2 c = difference_fits c.from-x.result c.from-y.result (wide c.x.result c.from-x.result c.x.type_inv c.from-x.ensures) (wide c.y.result c.from-y.result c.y.type_inv c.from-y.ensures)
+overflow_sub-x-2 c =
+    difference_fits c.from-x.result c.from-y.result (wide c.x.result c.from-x.result c.x.type_inv c.from-x.ensures)
+    (wide c.y.result c.from-y.result c.y.type_inv c.from-y.ensures)
 
 pub overflow_add-x-4 : goal.overflow_add-x-4
 overflow_add-x-4 c =
@@ -35,7 +41,9 @@ overflow_add-x-4 c =
     (wide c.y.result c.from-y.result c.y.type_inv c.from-y.ensures) (wide c.z.result c.from-z.result c.z.type_inv c.from-z.ensures)
 
 pub overflow_sub-x-3 : goal.overflow_sub-x-3
-overflow_sub-x-3 c = difference_fits c.from-x.result c.from-y.result (wide c.x.result c.from-x.result c.x.type_inv c.from-x.ensures) (wide c.y.result c.from-y.result c.y.type_inv c.from-y.ensures)
+overflow_sub-x-3 c =
+    difference_fits c.from-x.result c.from-y.result (wide c.x.result c.from-x.result c.x.type_inv c.from-x.ensures)
+    (wide c.y.result c.from-y.result c.y.type_inv c.from-y.ensures)
 
 pub overflow_sub-x-4 : goal.overflow_sub-x-4
 overflow_sub-x-4 c =
