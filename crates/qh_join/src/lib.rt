@@ -10,4 +10,4 @@ mod joined;
 mod near_parts;
 mod three;
 
-pub use joined::{body_of_joined, join_faces};
+pub use joined::join_faces;

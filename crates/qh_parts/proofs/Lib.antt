@@ -1,3 +1,3 @@
 pub mod Popped
 pub mod Divided
-pub mod AllFaces
+pub mod JoinedParts

@@ -1,3 +1,3 @@
 -- What private functions speak of: nothing to believe.
 pub mod Given
-pub mod Outcomes
+pub mod Kept

@@ -5,7 +5,7 @@ ghost use Rattle.qh_model.specs.headline.Hull.{IsBody};
 ghost use Rattle.qh_model.specs.headline.Predicates.{place};
 ghost use Rattle.qh_model.specs.headline.Sets.{Members};
 
-use crate::outcomes::{body_of_outcome, outcome_of};
+use crate::joining::hull_of_parts;
 use crate::pieces::parts_along_curve;
 use qh_block::{TELLING, are_few, extremes, hull};
 use qh_guess::is_worth_parting;
@@ -81,16 +81,7 @@ pub fn hull_by_parts<R: Threads>(
         parts: &parts,
         shared: &shared,
     };
-    let workers = workers as usize;
-    let Some(outcome) = outcome_of(rt, alloc, set, ids, workers, parting.seams)? else {
-        return Ok(None);
-    };
-    // The meshes make way for the list of the faces.
-    drop(parts);
-    let Some(body) = body_of_outcome(rt, alloc, outcome, workers)? else {
-        return Ok(None);
-    };
-    Ok(Some(body))
+    hull_of_parts(rt, alloc, set, ids, workers as usize, parting.seams)
 }
 
 /// Returns the hull of a set, as [`hull`](qh_block::hull) gives it. Three or more workers take a large set by parts,

@@ -8,7 +8,7 @@ use qh_block::{PartedFaces, UnsortedFaces};
 use qh_fixtures::faces::{CUBE_FACES, are_round, polygons_of};
 use qh_fixtures::ids::ids_of;
 use qh_fixtures::points::cube;
-use qh_join::{body_of_joined, join_faces};
+use qh_join::join_faces;
 use qh_mesh::FacetNo;
 use qh_model::{Body, Id, Memory, Point};
 use qh_pred::{point_at, vol};
@@ -184,10 +184,7 @@ fn cube_with<R: Threads>(
     let (parts, shared) = (&halves.parts, &halves.shared);
     let pts = pts.as_slice();
     let set = Divided { pts, parts, shared };
-    match join_faces(rt, alloc, set, given, &gone, bridges, 2)? {
-        Some(faces) => body_of_joined(rt, alloc, faces, 2),
-        None => Ok(None),
-    }
+    join_faces(rt, alloc, set, given, &gone, &bridges, 2)
 }
 
 #[test]

@@ -8,11 +8,11 @@ use Rattle.qh_join.proofs.JoinedLists.{are_joined}
 use Rattle.qh_join.proofs.joined.body_of_joined.Goals as goal
 
 pub returns : goal.returns
-returns g c = λ at ids kept distinct solid keeps closed each.
+returns c = λ at ids kept distinct solid keeps closed each.
     let qs = c.in_ok-polygons.polygons.items in
     let same = c.in_ok-polygons.ensures.same in
     let some = λ (e : length qs ≡ 0). absurd (omega (arith, e, c.len.ensures)) in
-    let rising = rw c.deref.ensures.value at (c.order_and_tally-in_order.ensures.order c.if-not-in_order.false) in
+    let rising = rw c.deref.ensures.value at (c.are_in_order.ensures c.if-not-are_in_order.false) in
     c.body_of_faces.ensures at ids distinct solid
     (closed_faces at ids kept qs distinct keeps (are_joined at ids kept qs some
     (λ q m. each q (in_permutation _ _ (IsPermutation-sym _ _ same) q m)) (closed_permuted _ _ same closed))) rising

@@ -1,33 +1,23 @@
-//! What the parts of a set come to: the hull of their corners, or faces of the set that close up.
-ghost use Rattle.std.specs.Prelude.{◌≡◌, ◌<◌, ℕ, List, IfOk, IfSome, IsPermutation, length};
+//! The hull of a set from its parts: from their faces that stay and those between them, or from their corners.
+ghost use Rattle.std.specs.Prelude.{◌<◌, IfOk, IfSome, IsPermutation, length};
 ghost use Rattle.std.specs.List.{All};
-ghost use Rattle.qh_model.specs.contract.IdSets.{AreIndices, HasDistinctPoints, IsIdSet};
+ghost use Rattle.qh_model.specs.contract.IdSets.{AreIndices, IsIdSet};
 ghost use Rattle.qh_model.specs.headline.Hull.{IsBody};
 ghost use Rattle.qh_model.specs.headline.Predicates.{place};
 ghost use Rattle.qh_model.specs.headline.Sets.{Members};
-ghost use Rattle.qh_model.specs.headline.Vector.{Vector};
 ghost use Rattle.qh_seam.specs.contract.Parts.{IsPartOf};
-ghost use Rattle.qh_parts.specs.steps.Outcomes.{AreAllFaces, HaveKept, IsOutcome};
+ghost use Rattle.qh_parts.specs.steps.Kept.{HaveKept};
 
 use crate::given::{Given, given_in_threads, outlines_in_threads};
 use crate::hulls::Seams;
 use crate::pieces::are_indices;
 use qh_block::{UnsortedFaces, hull};
 use qh_guess::{Outline, bridge_over, is_worth};
-use qh_join::{body_of_joined, join_faces};
+use qh_join::join_faces;
 use qh_model::{Body, Id, Memory, Point, Polygon};
 use qh_seam::{Divided, Part, kept_ids};
 use std::alloc::Global;
 use std::thread::{Threads, join};
-
-/// The result of the parts of a set.
-#[derive(Drop)]
-pub(crate) enum Outcome {
-    /// The hull of what is kept of the set, and so of the set.
-    Hull(Body),
-    /// Faces of the set that close up, so they are all its faces. They are not in order yet.
-    Faces(UnsortedFaces),
-}
 
 /// Returns the hull of kept ids, if there are any.
 fn hull_of_kept(alloc: Global, pts: &[Point], kept: &[Id]) -> Result<Option<Body>, Memory>
@@ -74,20 +64,21 @@ fn merged_if_kept(
     Ok(Some(merged))
 }
 
-/// Returns the faces that the parts of a set contribute and those between them, which close up; `None` if the attempt
-/// fails. While one thread makes the hull between the parts, another one merges what they contribute.
-fn faces_of_parts<R: Threads>(
+/// Returns the hull of a set from the faces that its parts contribute and those between them; `None` if the attempt fails.
+/// While one thread makes the hull between the parts, another one merges what they contribute.
+fn hull_at_seams<R: Threads>(
     rt: &R,
     alloc: Global,
     set: Divided,
     ids: &[Id],
     outlines: &[Outline],
     workers: usize,
-) -> Result<Option<UnsortedFaces>, Memory>
+) -> Result<Option<Body>, Memory>
     requires parts { All (IsPartOf set.pts.now set.shared.now) set.parts.now }
     requires some { 0 < length set.parts.now }
     requires shared { AreIndices set.pts.now set.shared.now }
-    ensures { IfOk result (λ found. IfSome found (λ v. IsIdSet set.entry.pts.now ids.now → AreAllFaces set.entry.pts.now ids.now v)) }
+    ensures { IfOk result (λ found. IfSome found (λ b. IsIdSet set.entry.pts.now ids.now
+        → IsBody (place set.entry.pts.now) (Members ids.now) b)) }
 {
     let Some(given) = given_in_threads(rt, alloc, set, outlines)? else {
         return Ok(None);
@@ -113,10 +104,7 @@ fn faces_of_parts<R: Threads>(
     let Some(merged) = merged? else {
         return Ok(None);
     };
-    let Some(joined) = join_faces(rt, alloc, set, merged, &gone, bridges, workers)? else {
-        return Ok(None);
-    };
-    Ok(Some(joined))
+    join_faces(rt, alloc, set, merged, &gone, &bridges, workers)
 }
 
 /// Returns true if parts are to be joined at their seams.
@@ -127,51 +115,25 @@ fn has_seams(set: Divided, outlines: &[Outline], seams: Seams) -> bool {
     }
 }
 
-/// Returns the result of the parts of a set: the hull of their corners if the parts are not joined at their seams, else
-/// the faces that the parts contribute and those between them; `None` if the attempt fails.
-pub(crate) fn outcome_of<R: Threads>(
+/// Returns the hull of a set from its parts: from their corners if the parts are not joined at their seams, else from the
+/// faces that they contribute and those between them; `None` if the attempt fails.
+pub(crate) fn hull_of_parts<R: Threads>(
     rt: &R,
     alloc: Global,
     set: Divided,
     ids: &[Id],
     workers: usize,
     seams: Seams,
-) -> Result<Option<Outcome>, Memory>
+) -> Result<Option<Body>, Memory>
     requires parts { All (IsPartOf set.pts.now set.shared.now) set.parts.now }
     requires some { 0 < length set.parts.now }
     requires shared { AreIndices set.pts.now set.shared.now }
-    ensures { IfOk result (λ found. IfSome found (λ o. IsIdSet set.entry.pts.now ids.now → IsOutcome set.entry.pts.now ids.now o)) }
+    ensures { IfOk result (λ found. IfSome found (λ b. IsIdSet set.entry.pts.now ids.now
+        → IsBody (place set.entry.pts.now) (Members ids.now) b)) }
 {
     let outlines = outlines_in_threads(rt, alloc, set)?;
     if !has_seams(set, &outlines, seams) {
-        let Some(body) = hull_of_corners(alloc, set, ids)? else {
-            return Ok(None);
-        };
-        return Ok(Some(Outcome::Hull(body)));
+        return hull_of_corners(alloc, set, ids);
     }
-    let Some(faces) = faces_of_parts(rt, alloc, set, ids, &outlines, workers)? else {
-        return Ok(None);
-    };
-    Ok(Some(Outcome::Faces(faces)))
-}
-
-/// Returns the hull of a set from the result of its parts; `None` if two of their faces are the same.
-pub(crate) fn body_of_outcome<R: Threads>(
-    rt: &R,
-    alloc: Global,
-    outcome: Outcome,
-    workers: usize,
-) -> Result<Option<Body>, Memory>
-    ensures { IfOk result (λ found. IfSome found (λ b. (pts : List Vector) (ids : List ℕ) → HasDistinctPoints (place pts) (Members ids)
-        → IsOutcome pts ids outcome → IsBody (place pts) (Members ids) b)) }
-{
-    match outcome {
-        Outcome::Hull(body) => Ok(Some(body)),
-        Outcome::Faces(faces) => {
-            let Some(body) = body_of_joined(rt, alloc, faces, workers)? else {
-                return Ok(None);
-            };
-            Ok(Some(body))
-        }
-    }
+    hull_at_seams(rt, alloc, set, ids, &outlines, workers)
 }
