@@ -71,7 +71,7 @@ fn hull_at_seams<R: Threads>(
     alloc: Global,
     set: Divided,
     ids: &[Id],
-    outlines: &[Outline],
+    outlines: Vec<Outline>,
     workers: usize,
 ) -> Result<Option<Body>, Memory>
     requires parts { All (IsPartOf set.pts.now set.shared.now) set.parts.now }
@@ -80,9 +80,11 @@ fn hull_at_seams<R: Threads>(
     ensures { IfOk result (λ found. IfSome found (λ b. IsIdSet set.entry.pts.now ids.now
         → IsBody (place set.entry.pts.now) (Members ids.now) b)) }
 {
-    let Some(given) = given_in_threads(rt, alloc, set, outlines)? else {
+    let Some(given) = given_in_threads(rt, alloc, set, &outlines)? else {
         return Ok(None);
     };
+    // The outlines make way for the list of the faces.
+    drop(outlines);
     let Given {
         faces,
         gone,
@@ -135,5 +137,5 @@ pub(crate) fn hull_of_parts<R: Threads>(
     if !has_seams(set, &outlines, seams) {
         return hull_of_corners(alloc, set, ids);
     }
-    hull_at_seams(rt, alloc, set, ids, &outlines, workers)
+    hull_at_seams(rt, alloc, set, ids, outlines, workers)
 }

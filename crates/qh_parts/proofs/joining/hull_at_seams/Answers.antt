@@ -12,4 +12,4 @@ returns g c =
     let same = rw (c.in_ok-merged.was, c.in-Some-3.is) at c.join-merged.ensures.first.0 in
     IfOk-weaker c.join_faces.result _ _ (λ found f. IfSome_then found f
     (λ b joined. body_of_parts pts shared c.args.ids.now parts c.in-Some.given.faces c.in-Some-3.merged c.in-Some.given.gone.items b
-    c.requires.parts c.requires.some kept given same joined)) (rw c.deref.ensures.value at c.join_faces.ensures)
+    c.requires.parts c.requires.some kept given same joined)) (rw c.deref-2.ensures.value at c.join_faces.ensures)
