@@ -73,13 +73,14 @@ def give(name, top, to):
 
 
 def proved(name, lane, jobs):
-    """Proves a crate in a copy, with so many processes; a program is built, too, and shows its help. Returns what rt
-    said if it failed, or an empty text."""
+    """Proves a crate in a copy, with so many processes. A program is built and run, too; that it was built is told by the
+    stamp that rt writes then, whatever the program ends with. Returns what rt said if it failed, or an empty text."""
     folder = lane / "crates" / name
-    words = ["run"] if (folder / "src/main.rt").exists() else ["lib"]
-    words += ["--jobs", str(jobs)] + ["--", "--help"] * (words == ["run"])
+    is_program = (folder / "src/main.rt").exists()
+    words = ["run" if is_program else "lib", "--jobs", str(jobs)] + ["--", "--help"] * is_program
     run = subprocess.run(["rt", *words], cwd=folder, stdin=subprocess.DEVNULL, stdout=subprocess.PIPE, stderr=subprocess.STDOUT, text=True)
-    return run.stdout if run.returncode else ""
+    failed = not (folder / "out" / f"{name}.stamp").exists() if is_program else run.returncode
+    return run.stdout if failed else ""
 
 
 def copies(number):
