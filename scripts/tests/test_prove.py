@@ -1,0 +1,48 @@
+"""Tests of make/prove.py, with a command `rt` that proves nothing."""
+import os
+import sys
+import tempfile
+import unittest
+from pathlib import Path
+from unittest import mock
+
+sys.path.insert(0, str(Path(__file__).resolve().parents[1] / "make"))
+import prove  # noqa: E402
+
+RT = """#!/bin/sh
+mkdir -p out
+case $(basename "$PWD") in
+program) touch out/program.stamp; exit 2 ;;
+refused) echo refused; exit 1 ;;
+wrong) echo wrong; exit 1 ;;
+esac
+"""
+
+
+class Proved(unittest.TestCase):
+    def setUp(self):
+        folder = tempfile.TemporaryDirectory()
+        self.addCleanup(folder.cleanup)
+        self.lane = Path(folder.name)
+        for name, top in [("program", "main"), ("refused", "main"), ("library", "lib"), ("wrong", "lib")]:
+            (self.lane / "crates" / name / "src").mkdir(parents=True)
+            (self.lane / "crates" / name / "src" / f"{top}.rt").touch()
+        (self.lane / "rt").write_text(RT)
+        (self.lane / "rt").chmod(0o755)
+        path = mock.patch.dict(os.environ, PATH=f"{self.lane}:{os.environ['PATH']}")
+        path.start()
+        self.addCleanup(path.stop)
+
+    def test_a_program_is_proved_whatever_it_ends_with(self):
+        self.assertEqual(prove.proved("program", self.lane, 2), "")
+
+    def test_what_rt_said_of_a_refused_program_is_told(self):
+        self.assertEqual(prove.proved("refused", self.lane, 2), "refused\n")
+
+    def test_a_library_is_proved_where_rt_ends_with_0(self):
+        self.assertEqual(prove.proved("library", self.lane, 2), "")
+        self.assertEqual(prove.proved("wrong", self.lane, 2), "wrong\n")
+
+
+if __name__ == "__main__":
+    unittest.main()
