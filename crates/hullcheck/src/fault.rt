@@ -14,7 +14,7 @@ pub enum Fault {
     Usage,
     /// An allocation failed.
     Memory,
-    /// A file could not be opened or read.
+    /// A file could not be opened or read, or the standard output could not be written.
     Device,
     /// The points could not be read.
     Points(ReadFault),

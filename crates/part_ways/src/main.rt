@@ -1,4 +1,4 @@
-//! Takes the hull of each set of its standard input by one thread and by parts, for `scripts/fuzz_parts.py`.
+//! Takes the hull of each set of its standard input by one thread and by parts, for `scripts/trials/fuzz_parts.py`.
 //!
 //! A set comes as two digits for the number of parts, six for the length of its point file, a line end, and the file. Its
 //! line of the standard output has a word for the hull whose parts are all joined at their seams, and one for the hull where

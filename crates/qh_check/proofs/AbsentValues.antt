@@ -1,14 +1,6 @@
 -- A test whether a value is absent tells what is so where it is.
 use Rattle.std.proofs.Common.{◌≡◌, ◌↔◌, Bool, true, false, not, Option, None, Some, is_some, MatchOption, IsTrue, refl}
 
--- where the test is true, what follows from an absent value
-pub holds_where_none : {A P : Type 0} (Q : A → Type 0) (o : Option A) (absent : Bool) → is_some o ≡ not absent → MatchOption o P Q
-    → IsTrue absent → P
-holds_where_none Q None true e m t = m
-holds_where_none Q None false e m t = cc
-holds_where_none Q (Some x) true e m t = cc
-holds_where_none Q (Some x) false e m t = cc
-
 -- the test is true just where R holds, if R follows where the value is absent, and not where there is one
 pub is_none_tells : {A P R : Type 0} {Q : A → Type 0} (o : Option A) (absent : Bool) → is_some o ≡ not absent → MatchOption o P Q
     → (P → R) → ((x : A) → Q x → R → ⊥) → IsTrue absent ↔ R

@@ -10,7 +10,6 @@
 //! (`qh_places`), and a plane is above most boxes. `order` tells whether the polygons stand in lexicographic order.
 #![tactic(auto)]
 
-mod asked_faces;
 mod asking;
 mod borders;
 mod claim;
@@ -31,7 +30,6 @@ mod solids;
 mod surfaces;
 mod verdict;
 
-pub use asked_faces::are_faces;
 pub use borders::have_one_border;
 pub use claim::Claim;
 pub use claims::{check, check_by_workers};

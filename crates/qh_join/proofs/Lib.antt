@@ -1,3 +1,4 @@
 pub mod JoinedLists
 pub mod LevelPlanes
+pub mod PartCorners
 pub mod BridgeLevels

@@ -1,2 +1,3 @@
 -- What the contracts of public functions cite.
+pub mod Kept
 pub mod Joined

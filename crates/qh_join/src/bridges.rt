@@ -5,22 +5,20 @@
 ghost use Rattle.std.specs.Prelude.{◌≡◌, ◌++◌, ◌<◌, ◌↔◌, ℕ, List, IfOk, IfSome, IsTrue, Ok, length, map, pos, true};
 ghost use Rattle.std.specs.List.{All, flat_map};
 ghost use Rattle.std.specs.List.Sorted.{IsStrictlyIncreasing};
-ghost use Rattle.qh_model.specs.headline.Predicates.{place};
-ghost use Rattle.qh_model.specs.headline.Sets.{In, Members};
 ghost use Rattle.qh_model.specs.headline.Vector.{Vector};
-ghost use Rattle.qh_model.specs.contract.ClosedPolygons.{IsFace};
-ghost use Rattle.qh_model.specs.contract.IdSets.{AreIndices, HasDistinctPoints};
+ghost use Rattle.qh_model.specs.contract.IdSets.{AreIndices};
 ghost use Rattle.qh_places.specs.contract.Places.{AreLevel};
 ghost use Rattle.qh_pred.specs.contract.Planes.{height};
-ghost use Rattle.qh_seam.specs.contract.Parts.{KeepsCorners, IsPartOf};
-ghost use Rattle.qh_join.specs.steps.Bridges.{held_in, places_in, places_of, ArePlaced, IsBridge};
+ghost use Rattle.qh_join.specs.contract.Kept.{held_in, ArePlaced, AreHeld};
+ghost use Rattle.qh_join.specs.steps.Bridges.{places_in, IsBridge};
 
+use crate::kept::Kept;
 use crate::near_parts::NearPart;
 use crate::three::Three;
 use qh_model::{Id, Memory, Point, Polygon};
+use qh_places::Places;
 use qh_polygon::{polygon, rising_ids};
 use qh_pred::{Plane, cross, in_line, point_at};
-use qh_seam::{Divided, Part};
 use qh_threads::{PARTS_FOR_EACH, map_chunks};
 use std::alloc::{AllocError, Global};
 use std::thread::Threads;
@@ -32,19 +30,16 @@ const GROUP: usize = 4;
 /// a point.
 fn nears_of<'a>(
     alloc: Global,
-    parts: &'a [Part],
+    corners: &'a [Places],
     origin: Point,
     planes: &[Plane],
 ) -> Result<Vec<NearPart<'a>>, AllocError>
-    ensures { IfOk result (λ v. map places_in v.items ≡ map places_of parts.now) }
+    ensures { IfOk result (λ v. map places_in v.items ≡ corners.now) }
 {
     let mut nears = Vec::new(alloc);
-    for part in parts {
-        let near = part.places.near_planes(alloc, origin, planes)?;
-        nears.push(NearPart {
-            places: &part.places,
-            near,
-        })?;
+    for places in corners {
+        let near = places.near_planes(alloc, origin, planes)?;
+        nears.push(NearPart { places, near })?;
     }
     Ok(nears)
 }
@@ -105,16 +100,14 @@ fn list_ids(
 /// each part.
 fn level_of(
     alloc: Global,
-    set: Divided,
+    kept: Kept,
     nears: &[NearPart],
     plane: &Plane,
 ) -> Result<Option<Vec<Id>>, Memory>
-    requires parts { All (IsPartOf set.pts.now set.shared.now) set.parts.now }
-    requires shared { AreIndices set.pts.now set.shared.now }
-    requires nears { map places_in nears.now ≡ map places_of set.parts.now }
+    requires { map places_in nears.now ≡ kept.corners.now }
     ensures rising { IfOk result (λ found. IfSome found (λ v. IsStrictlyIncreasing v.items)) }
-    ensures level { IfOk result (λ found. IfSome found (λ v. (kept : List ℕ) → KeepsCorners set.entry.parts.now set.entry.shared.now kept
-        → AreLevel set.entry.pts.now kept plane.now v.items)) }
+    ensures level { IfOk result (λ found. IfSome found (λ v. (ids : List ℕ) → AreHeld kept.entry.corners.now kept.entry.shared.now ids
+        → AreLevel kept.entry.pts.now ids plane.now v.items)) }
 {
     let mut level = Vec::new(alloc);
     let mut room = Vec::new(alloc);
@@ -122,7 +115,7 @@ fn level_of(
     if !own {
         return Ok(None);
     }
-    let shared = list_ids(set.pts, plane, set.shared, &mut level)?;
+    let shared = list_ids(kept.pts, plane, kept.shared, &mut level)?;
     if !shared {
         return Ok(None);
     }
@@ -134,54 +127,45 @@ fn level_of(
 /// part.
 fn is_face_at(
     alloc: Global,
-    set: Divided,
+    kept: Kept,
     nears: &[NearPart],
     three: Three,
     claimed: &Polygon,
 ) -> Result<bool, Memory>
-    requires parts { All (IsPartOf set.pts.now set.shared.now) set.parts.now }
-    requires shared { AreIndices set.pts.now set.shared.now }
-    requires nears { map places_in nears.now ≡ map places_of set.parts.now }
-    requires i { three.i < length set.pts.now }
-    requires j { three.j < length set.pts.now }
-    requires k { three.k < length set.pts.now }
-    ensures { IfOk result (λ yes. IsTrue yes → IsBridge set.entry.pts.now set.entry.parts.now set.entry.shared.now claimed.now) }
+    requires nears { map places_in nears.now ≡ kept.corners.now }
+    requires i { three.i < length kept.pts.now }
+    requires j { three.j < length kept.pts.now }
+    requires k { three.k < length kept.pts.now }
+    ensures { IfOk result (λ yes. IsTrue yes → IsBridge kept.entry.pts.now kept.entry.corners.now kept.entry.shared.now claimed.now) }
 {
     let (a, b, c) = (
-        point_at(set.pts, three.i),
-        point_at(set.pts, three.j),
-        point_at(set.pts, three.k),
+        point_at(kept.pts, three.i),
+        point_at(kept.pts, three.j),
+        point_at(kept.pts, three.k),
     );
     if in_line(a, b, c) {
         return Ok(false);
     }
     let plane = Plane::through(a, b, c);
-    let Some(level) = level_of(alloc, set, nears, &plane)? else {
+    let Some(level) = level_of(alloc, kept, nears, &plane)? else {
         return Ok(false);
     };
     if !three.is_in(&level) {
         return Ok(false);
     }
-    let face = polygon(alloc, set.pts, &level, &cross(a, b, c))?;
+    let face = polygon(alloc, kept.pts, &level, &cross(a, b, c))?;
     Ok(face.ids() == claimed.ids())
 }
 
 /// Returns true if a polygon is a face of what is kept of all parts. `nears` has each part.
-fn is_face(
-    alloc: Global,
-    set: Divided,
-    nears: &[NearPart],
-    claimed: &Polygon,
-) -> Result<bool, Memory>
-    requires parts { All (IsPartOf set.pts.now set.shared.now) set.parts.now }
-    requires shared { AreIndices set.pts.now set.shared.now }
-    requires nears { map places_in nears.now ≡ map places_of set.parts.now }
-    ensures { IfOk result (λ yes. IsTrue yes → IsBridge set.entry.pts.now set.entry.parts.now set.entry.shared.now claimed.now) }
+fn is_face(alloc: Global, kept: Kept, nears: &[NearPart], claimed: &Polygon) -> Result<bool, Memory>
+    requires { map places_in nears.now ≡ kept.corners.now }
+    ensures { IfOk result (λ yes. IsTrue yes → IsBridge kept.entry.pts.now kept.entry.corners.now kept.entry.shared.now claimed.now) }
 {
     let [i, j, k, ..] = claimed.ids() else {
         return Ok(false);
     };
-    let count = set.pts.len();
+    let count = kept.pts.len();
     if i.index() >= count || j.index() >= count || k.index() >= count {
         return Ok(false);
     }
@@ -190,7 +174,7 @@ fn is_face(
         j: *j,
         k: *k,
     };
-    is_face_at(alloc, set, nears, three, claimed)
+    is_face_at(alloc, kept, nears, three, claimed)
 }
 
 /// Returns the planes of polygons, as far as these have three corners that are points.
@@ -223,17 +207,15 @@ fn origin_of(pts: &[Point], polygons: &[Polygon]) -> Point {
 }
 
 /// Returns true if each of some polygons, whose planes best slant alike, is a face of what is kept of all parts.
-fn is_group(alloc: Global, set: Divided, group: &[Polygon]) -> Result<bool, Memory>
-    requires parts { All (IsPartOf set.pts.now set.shared.now) set.parts.now }
-    requires shared { AreIndices set.pts.now set.shared.now }
+fn is_group(alloc: Global, kept: Kept, group: &[Polygon]) -> Result<bool, Memory>
     ensures { IfOk result (λ yes. IsTrue yes → All
-        (IsBridge set.entry.pts.now set.entry.parts.now set.entry.shared.now) group.now) }
+        (IsBridge kept.entry.pts.now kept.entry.corners.now kept.entry.shared.now) group.now) }
 {
-    let planes = planes_of(alloc, set.pts, group)?;
-    let origin = origin_of(set.pts, group);
-    let nears = nears_of(alloc, set.parts, origin, &planes)?;
+    let planes = planes_of(alloc, kept.pts, group)?;
+    let origin = origin_of(kept.pts, group);
+    let nears = nears_of(alloc, kept.corners, origin, &planes)?;
     for claimed in group {
-        let yes = is_face(alloc, set, &nears, claimed)?;
+        let yes = is_face(alloc, kept, &nears, claimed)?;
         if !yes {
             return Ok(false);
         }
@@ -242,16 +224,14 @@ fn is_group(alloc: Global, set: Divided, group: &[Polygon]) -> Result<bool, Memo
 }
 
 /// Returns true if each of some polygons is a face of what is kept of all parts. Near ones best follow each other.
-fn are_faces(alloc: Global, set: Divided, polygons: &[Polygon]) -> Result<bool, Memory>
-    requires parts { All (IsPartOf set.pts.now set.shared.now) set.parts.now }
-    requires shared { AreIndices set.pts.now set.shared.now }
+fn are_faces(alloc: Global, kept: Kept, polygons: &[Polygon]) -> Result<bool, Memory>
     ensures { IfOk result (λ yes. IsTrue yes → All
-        (IsBridge set.entry.pts.now set.entry.parts.now set.entry.shared.now) polygons.now) }
+        (IsBridge kept.entry.pts.now kept.entry.corners.now kept.entry.shared.now) polygons.now) }
 {
     let mut rest = polygons;
     while rest.len() > 0 {
         let (group, others) = rest.split_at(GROUP.min(rest.len()));
-        let yes = is_group(alloc, set, group)?;
+        let yes = is_group(alloc, kept, group)?;
         if !yes {
             return Ok(false);
         }
@@ -278,21 +258,17 @@ fn are_all(answers: &[Result<bool, Memory>]) -> Result<bool, Memory>
 pub(crate) fn are_bridges<R: Threads>(
     rt: &R,
     alloc: Global,
-    set: Divided,
+    kept: Kept,
     bridges: &[Polygon],
     workers: usize,
 ) -> Result<bool, Memory>
-    requires parts { All (IsPartOf set.pts.now set.shared.now) set.parts.now }
-    requires shared { AreIndices set.pts.now set.shared.now }
     ensures { IfOk result (λ all. IsTrue all → All
-        (IsBridge set.entry.pts.now set.entry.parts.now set.entry.shared.now) bridges.now) }
+        (IsBridge kept.entry.pts.now kept.entry.corners.now kept.entry.shared.now) bridges.now) }
 {
     let look = move |_start: usize, part: &[Polygon]| -> Result<bool, Memory>
-        requires parts { All (IsPartOf set.pts.now set.shared.now) set.parts.now }
-        requires shared { AreIndices set.pts.now set.shared.now }
         ensures { IfOk result (λ yes. IsTrue yes → All
-            (IsBridge set.entry.pts.now set.entry.parts.now set.entry.shared.now) part.now) }
-    { are_faces(alloc, set, part) };
+            (IsBridge kept.entry.pts.now kept.entry.corners.now kept.entry.shared.now) part.now) }
+    { are_faces(alloc, kept, part) };
     let size = bridges.len() / workers.max(1).saturating_mul(PARTS_FOR_EACH) + 1;
     let answers = map_chunks(rt, alloc, workers, bridges, size, &look)?;
     are_all(&answers)

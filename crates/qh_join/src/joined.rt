@@ -1,19 +1,17 @@
 //! Faces of parts, and polygons that close the gap between them: the hull of the set.
 ghost use Rattle.std.specs.Prelude.{◌≡◌, ◌↔◌, ◌++◌, IfOk, IfSome, IsPermutation, IsTrue};
 ghost use Rattle.std.specs.List.{All};
-ghost use Rattle.qh_model.specs.contract.IdSets.{AreIndices};
 ghost use Rattle.qh_model.specs.headline.Polygons.{RiseStrictly};
 ghost use Rattle.qh_check.specs.contract.Borders.{HaveOneBorder};
 ghost use Rattle.qh_join.specs.contract.Joined.{IsBodyOfJoined};
 ghost use Rattle.qh_join.specs.steps.Bridges.{IsBridge};
 ghost use Rattle.qh_join.specs.steps.JoinedFaces.{IsBodyOfFaces};
-ghost use Rattle.qh_seam.specs.contract.Parts.{IsPartOf};
 
 use crate::bridges::are_bridges;
+use crate::kept::Kept;
 use qh_block::{UnsortedFaces, body_of_faces, tally_of};
 use qh_check::{have_one_border, out_of_order};
 use qh_model::{Body, Memory, Polygon};
-use qh_seam::Divided;
 use std::alloc::{AllocError, Global};
 use std::thread::{Threads, join};
 
@@ -29,32 +27,30 @@ fn are_in_order(polygons: &[Polygon]) -> bool
 fn close_gap<R: Threads>(
     rt: &R,
     alloc: Global,
-    set: Divided,
+    kept: Kept,
     gone: &[Polygon],
     bridges: &[Polygon],
     workers: usize,
 ) -> Result<bool, Memory>
-    requires parts { All (IsPartOf set.pts.now set.shared.now) set.parts.now }
-    requires shared { AreIndices set.pts.now set.shared.now }
     ensures border { IfOk result (λ yes. IsTrue yes → HaveOneBorder gone.now bridges.now) }
     ensures faces { IfOk result (λ yes. IsTrue yes → All
-        (IsBridge set.entry.pts.now set.entry.parts.now set.entry.shared.now) bridges.now) }
+        (IsBridge kept.entry.pts.now kept.entry.corners.now kept.entry.shared.now) bridges.now) }
 {
     if workers < 2 {
         let closes = have_one_border(alloc, gone, bridges)?;
-        let are_faces = are_bridges(rt, alloc, set, bridges, workers)?;
-        return Ok(closes && are_faces);
+        if !closes {
+            return Ok(false);
+        }
+        return are_bridges(rt, alloc, kept, bridges, workers);
     }
     let others = workers - 1;
     let border = move || -> Result<bool, Memory>
         ensures { IfOk result (λ yes. IsTrue yes ↔ HaveOneBorder gone.entry.now bridges.entry.now) }
     { have_one_border(alloc, gone, bridges) };
     let look = move || -> Result<bool, Memory>
-        requires parts { All (IsPartOf set.pts.now set.shared.now) set.parts.now }
-        requires shared { AreIndices set.pts.now set.shared.now }
         ensures { IfOk result (λ yes. IsTrue yes → All
-            (IsBridge set.entry.pts.now set.entry.parts.now set.entry.shared.now) bridges.entry.now) }
-    { are_bridges(rt, alloc, set, bridges, others) };
+            (IsBridge kept.entry.pts.now kept.entry.corners.now kept.entry.shared.now) bridges.entry.now) }
+    { are_bridges(rt, alloc, kept, bridges, others) };
     let (closes, are_faces) = join(rt, border, look);
     let (closes, are_faces) = (closes?, are_faces?);
     Ok(closes && are_faces)
@@ -114,16 +110,14 @@ fn body_of_joined(alloc: Global, faces: UnsortedFaces) -> Result<Option<Body>, M
 pub fn join_faces<R: Threads>(
     rt: &R,
     alloc: Global,
-    set: Divided,
+    kept: Kept,
     given: UnsortedFaces,
     gone: &[Polygon],
     bridges: &[Polygon],
     workers: usize,
 ) -> Result<Option<Body>, Memory>
-    requires parts { All (IsPartOf set.pts.now set.shared.now) set.parts.now }
-    requires shared { AreIndices set.pts.now set.shared.now }
     ensures { IfOk result (λ found. IfSome found
-        (IsBodyOfJoined set.entry.pts.now set.entry.parts.now set.entry.shared.now given gone.now)) }
+        (IsBodyOfJoined kept.entry.pts.now kept.entry.corners.now kept.entry.shared.now given gone.now)) }
 {
     let faces = with_bridges(alloc, given, bridges)?;
     let others = workers.saturating_sub(1);
@@ -131,12 +125,10 @@ pub fn join_faces<R: Threads>(
         ensures { IfOk result (λ found. IfSome found (IsBodyOfFaces faces)) }
     { body_of_joined(alloc, faces) };
     let ask = move || -> Result<bool, Memory>
-        requires parts { All (IsPartOf set.pts.now set.shared.now) set.parts.now }
-        requires shared { AreIndices set.pts.now set.shared.now }
         ensures border { IfOk result (λ yes. IsTrue yes → HaveOneBorder gone.entry.now bridges.entry.now) }
         ensures faces { IfOk result (λ yes. IsTrue yes → All
-            (IsBridge set.entry.pts.now set.entry.parts.now set.entry.shared.now) bridges.entry.now) }
-    { close_gap(rt, alloc, set, gone, bridges, others) };
+            (IsBridge kept.entry.pts.now kept.entry.corners.now kept.entry.shared.now) bridges.entry.now) }
+    { close_gap(rt, alloc, kept, gone, bridges, others) };
     let (body, closes) = join(rt, make, ask);
     let closes = closes?;
     if !closes {

@@ -1,5 +1,5 @@
 -- The faces that parts of a set contribute, and those between them, are those of its hull.
-use Rattle.std.proofs.Common.{ℕ, ◌<◌, List, All, length}
+use Rattle.std.proofs.Common.{ℕ, ◌<◌, List, All, length, map}
 use Rattle.std.specs.Prelude.{IsPermutation}
 use Rattle.std.proofs.lemmas.List.Sorted.{IsPermutation-append_left, IsPermutation-sym}
 use Rattle.qh_model.specs.headline.{Vector.Vector, Hull.BodyValue, Hull.IsBody, Predicates.place, Sets.Members}
@@ -8,14 +8,24 @@ use Rattle.qh_model.proofs.Members.{in_permutation}
 use Rattle.qh_block.proofs.finished.StepCounts.{closed_permuted}
 use Rattle.qh_seam.specs.declared.parts.Part.{Part}
 use Rattle.qh_seam.specs.contract.Parts.{IsPartOf}
-use Rattle.qh_join.specs.contract.Joined.{IsBodyOfJoined}
+use Rattle.qh_join.specs.contract.{Kept.places_of, Joined.IsBodyOfJoined}
+use Rattle.qh_join.proofs.PartCorners.{corners_held}
 use Rattle.qh_parts.specs.steps.{Given.AreGivenOf, Kept.HaveKept}
 use Rattle.qh_parts.proofs.Divided.{is_solid}
 
-pub body_of_parts : (pts : List Vector) (shared ids : List ℕ) (parts : List Part) (faces merged gone : List (List ℕ)) (b : BodyValue)
-    → All (IsPartOf pts shared) parts → 0 < length parts → HaveKept parts shared ids → AreGivenOf pts shared parts faces gone
-    → IsPermutation faces merged → IsBodyOfJoined pts parts shared merged gone b → IsIdSet pts ids → IsBody (place pts) (Members ids) b
-body_of_parts pts shared ids parts faces merged gone b are some k given same joined set =
-    joined ids k.kept set.distinct (is_solid pts shared ids parts are some k.inside) (k.stand pts are) k.corners
-    (λ q m. given.0 ids k.kept set.distinct k.inside k.corners q (in_permutation _ _ (IsPermutation-sym _ _ same) q m))
-    (closed_permuted _ _ (IsPermutation-append_left gone _ _ same) (given.1 ids set.distinct k.inside))
+module _ (pts : List Vector) (shared : List ℕ) (parts : List Part) (gone : List (List ℕ)) where
+  -- what parts contribute is the same in any order
+  pub given_in_any_order : (faces merged : List (List ℕ)) → IsPermutation faces merged → AreGivenOf pts shared parts faces gone
+      → AreGivenOf pts shared parts merged gone
+  given_in_any_order faces merged same given = (
+    λ ids kept d inside keeps q m. given.0 ids kept d inside keeps q (in_permutation _ _ (IsPermutation-sym _ _ same) q m),
+    λ ids d inside. closed_permuted _ _ (IsPermutation-append_left gone _ _ same) (given.1 ids d inside),
+  )
+
+  pub body_of_parts : (ids : List ℕ) (faces : List (List ℕ)) (b : BodyValue) → All (IsPartOf pts shared) parts → 0 < length parts
+      → HaveKept parts shared ids → AreGivenOf pts shared parts faces gone → IsBodyOfJoined pts (map places_of parts) shared faces gone b
+      → IsIdSet pts ids → IsBody (place pts) (Members ids) b
+  body_of_parts ids faces b are some k given joined set =
+      joined ids k.kept set.distinct (is_solid pts shared ids parts are some k.inside) (k.stand pts are)
+      (corners_held pts shared parts are k.kept k.corners) (given.0 ids k.kept set.distinct k.inside k.corners)
+      (given.1 ids set.distinct k.inside)

@@ -10,7 +10,6 @@ use crate::pieces::parts_along_curve;
 use qh_block::{TELLING, are_few, extremes, hull};
 use qh_guess::is_worth_parting;
 use qh_model::{Body, Id, Memory, Point};
-use qh_seam::Divided;
 use std::alloc::Global;
 use std::thread::Threads;
 
@@ -75,13 +74,8 @@ pub fn hull_by_parts<R: Threads>(
     let Some(parted) = parts_along_curve(rt, alloc, pts, ids, parting.parts, workers)? else {
         return Ok(None);
     };
-    let (shared, parts) = (parted.shared, parted.parts);
-    let set = Divided {
-        pts,
-        parts: &parts,
-        shared: &shared,
-    };
-    hull_of_parts(rt, alloc, set, ids, workers as usize, parting.seams)
+    let workers = workers as usize;
+    hull_of_parts(rt, alloc, pts, parted, ids, workers, parting.seams)
 }
 
 /// Returns the hull of a set, as [`hull`](qh_block::hull) gives it. Three or more workers take a large set by parts,

@@ -21,6 +21,14 @@ use qh_pred::{Normal, Plane};
 /// The size that normals are scaled to, if they are smaller: 2^58.
 const SCALE: u64 = 288230376151711744;
 
+/// By how many bits a product is shifted before it is multiplied by a block's inverse, so that 64 bits hold what comes
+/// out. The product lacks 28 bits, those that a middle product leaves off, and the inverse is 2^58 times too large: 30
+/// bits are too many, and the others are shifted off afterwards.
+const SHIFT_BEFORE: u32 = 16;
+
+/// By how many bits the product with a block's inverse is shifted.
+const SHIFT_AFTER: u32 = 14;
+
 /// Bounds of the normals of planes, each scaled by a whole number, with how deep a point lies below each of the
 /// planes so scaled.
 #[derive(Clone, Copy, Drop)]
@@ -188,9 +196,9 @@ impl Bundle {
             .wrapping_add(self.y.middle_product(along.y))
             .wrapping_add(self.z.middle_product(along.z));
         let times = product
-            .wrapping_shr(16)
+            .wrapping_shr(SHIFT_BEFORE)
             .wrapping_mul(block.inverse)
-            .wrapping_shr(14);
+            .wrapping_shr(SHIFT_AFTER);
         u64::try_from(times).unwrap_or(0).min(TIMES_LIMIT)
     }
 

@@ -113,7 +113,8 @@ impl Span {
         }
     }
 
-    /// Returns the product of the middle of the span and a component, by the upper bits of the ends.
+    /// Returns the product of the middle of the span and a component, without the lowest 28 bits: by the upper bits of
+    /// the ends.
     pub fn middle_product(self, component: i16) -> i64 {
         self.low
             .wrapping_shr(29)

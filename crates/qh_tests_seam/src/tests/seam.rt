@@ -3,12 +3,12 @@ ghost use Rattle.std.specs.Prelude.{◌≡◌, ◌<◌, length};
 ghost use Rattle.qh_mesh.specs.contract.Replacement.{IsLive};
 ghost use Rattle.qh_surface.specs.contract.NamedMeshes.{IsNamedMesh};
 
-use super::{ALL, halves_of};
+use super::{ALL, Halves, halves_of};
 use qh_block::{PartedFaces, UnsortedFaces};
 use qh_fixtures::faces::{CUBE_FACES, are_round, polygons_of};
 use qh_fixtures::ids::ids_of;
 use qh_fixtures::points::cube;
-use qh_join::join_faces;
+use qh_join::{Kept, corners_of, join_faces};
 use qh_mesh::FacetNo;
 use qh_model::{Body, Id, Memory, Point};
 use qh_pred::{point_at, vol};
@@ -181,10 +181,14 @@ fn cube_with<R: Threads>(
     let Some(halves) = halves_of(alloc, &pts)? else {
         return Ok(None);
     };
-    let (parts, shared) = (&halves.parts, &halves.shared);
-    let pts = pts.as_slice();
-    let set = Divided { pts, parts, shared };
-    join_faces(rt, alloc, set, given, &gone, &bridges, 2)
+    let Halves { parts, shared } = halves;
+    let corners = corners_of(alloc, parts)?;
+    let kept = Kept {
+        pts: &pts,
+        corners: &corners,
+        shared: &shared,
+    };
+    join_faces(rt, alloc, kept, given, &gone, &bridges, 2)
 }
 
 #[test]

@@ -12,11 +12,11 @@ returns g c = IfOk-weaker c.are_all.result _ _ (λ b all yes.
     let items = c.in_ok-answers.answers.items in let bridges = c.args.bridges.now in
     let count = c.in_ok-answers.ensures.len in let ok = c.in_ok-answers.answers.ok.0 in
     let each = rw c.deref.ensures.value at (all yes) in
-    chunk_all (IsBridge c.args.set.pts.now c.args.set.parts.now c.args.set.shared.now) bridges _ (omega arith) (λ n l.
+    chunk_all (IsBridge c.args.kept.pts.now c.args.kept.corners.now c.args.kept.shared.now) bridges _ (omega arith) (λ n l.
     let inside : n < length items = omega (arith, count, ok, l) in
     let e = (c.in_ok-answers.ensures.each n (Ok true) inside).1 in (
       e.argument.now,
       e.argument_is,
-      (subst (λ r. IfOk r (λ yes. IsTrue yes → All (IsBridge c.args.set.pts.now c.args.set.parts.now c.args.set.shared.now) e.argument.now))
+      (subst (λ r. IfOk r (λ yes. IsTrue yes → All (IsBridge c.args.kept.pts.now c.args.kept.corners.now c.args.kept.shared.now) e.argument.now))
           (each n (Ok true) inside) e.call) refl,
     ))) c.are_all.ensures

@@ -11,9 +11,9 @@ loop-rest-init c = left_at_start _ c.args.polygons.now
 pub loop-rest-preserved : goal.loop-rest-preserved
 loop-rest-preserved c =
     left_behind _ _ _ _ _ _ c.loop-rest.invariant c.split_at.ensures.front c.split_at.ensures.back
-    (λ q m. All-In (IsBridge c.args.set.pts.now c.args.set.parts.now c.args.set.shared.now) _ q (c.in_ok-yes.ensures c.if-not-yes.false) m)
+    (λ q m. All-In (IsBridge c.args.kept.pts.now c.args.kept.corners.now c.args.kept.shared.now) _ q (c.in_ok-yes.ensures c.if-not-yes.false) m)
 
 pub returns : goal.returns
 returns c = λ _.
-    All-of (IsBridge c.args.set.pts.now c.args.set.parts.now c.args.set.shared.now) c.args.polygons.now
+    All-of (IsBridge c.args.kept.pts.now c.args.kept.corners.now c.args.kept.shared.now) c.args.polygons.now
     (all_done _ _ _ c.loop-rest.invariant (let t = c.loop-rest-test.false in omega (arith, t)))

@@ -5,7 +5,7 @@ use Rattle.qh_seam.proofs.Runs.{AreLeft}
 use Rattle.qh_join.proofs.bridges.are_faces.Given as goal
 
 abbrev pub invariant-loop-rest : goal.invariant-loop-rest
-invariant-loop-rest l = AreLeft (IsBridge l.set.pts.now l.set.parts.now l.set.shared.now) l.polygons l.rest
+invariant-loop-rest l = AreLeft (IsBridge l.kept.pts.now l.kept.corners.now l.kept.shared.now) l.polygons l.rest
 
 abbrev pub decreases-loop-rest : goal.decreases-loop-rest
 decreases-loop-rest l = length l.rest

@@ -10,12 +10,12 @@ use Rattle.qh_join.proofs.bridges.is_face_at.Goals as goal
 pub polygon-requires : goal.polygon-requires
 polygon-requires c =
     rw c.deref-2.ensures.value
-    (level_indices c.args.set.pts.now c.args.set.shared.now c.args.set.parts.now c.requires.parts c.requires.shared c.through-plane.result
-    c.in-Some.level.items (rw c.in-Some.is at c.in_ok-level.ensures.level))
+    (level_indices c.args.kept.corners.now c.args.kept.shared.now c.args.kept.pts.now c.args.kept.corners_in c.args.kept.shared_in
+    c.through-plane.result c.in-Some.level.items (rw c.in-Some.is at c.in_ok-level.ensures.level))
 
 pub returns : goal.returns
 returns c = λ yes kept keeps distinct.
-    let pts = c.args.set.pts.now in
+    let pts = c.args.kept.pts.now in
     let x = c.point_at-a.ensures in let y = c.point_at-b.ensures in let z = c.point_at-c.ensures in
     let level = (rw c.in-Some.is at c.in_ok-level.ensures.level) kept keeps in
     let rising = rw c.in-Some.is at c.in_ok-level.ensures.rising in

@@ -5,4 +5,4 @@ use Rattle.qh_join.specs.steps.Bridges.{IsBridge}
 use Rattle.qh_join.proofs.bridges.is_group.Given as goal
 
 abbrev pub invariant-loop-claimed : goal.invariant-loop-claimed
-invariant-loop-claimed l = All (IsBridge l.set.pts.now l.set.parts.now l.set.shared.now) (take l.claimed-index l.group)
+invariant-loop-claimed l = All (IsBridge l.kept.pts.now l.kept.corners.now l.kept.shared.now) (take l.claimed-index l.group)

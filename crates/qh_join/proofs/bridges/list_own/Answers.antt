@@ -5,7 +5,8 @@ use Rattle.std.specs.List.{flat_map}
 use Rattle.qh_model.proofs.{Members.All-In, Members.In-get_or, lists.Images.in_map}
 use Rattle.qh_model.specs.headline.Sets.{In}
 use Rattle.qh_places.specs.contract.Places.{AreLevel}
-use Rattle.qh_join.specs.steps.Bridges.{held_in, places_in, ArePlaced}
+use Rattle.qh_join.specs.contract.Kept.{held_in, ArePlaced}
+use Rattle.qh_join.specs.steps.Bridges.{places_in}
 use Rattle.qh_join.proofs.LevelPlanes.{level_both, flat_next}
 use Rattle.qh_join.proofs.bridges.list_own.Goals as goal
 
@@ -18,7 +19,7 @@ loop-part-preserved c = λ pts placed ids start.
     let within : k < length nears = omega arith in
     let member = subst (λ x. In x nears) (sym c.part-item.is) (In-get_or nears k n within) in
     let own = All-In (ArePlaced pts) (map places_in nears) (places_in n) placed (in_map places_in nears n member) in
-    let level = rw c.in_default.is at (c.in_ok-above.ensures pts (held_in (places_in n)) (record { same = λ l. (λ i. i, λ i. i); points = own })) in
+    let level = rw c.in_default.is at (c.in_ok-above.ensures pts (held_in (places_in n)) (record { same = λ l. (λ i. i, λ i. i); points = own.points })) in
     rw (flat_next held_in places_in ids nears k n within c.part-item.is, c.in_ok-extend_from_slice.ensures.items, c.deref.ensures.value)
     (level_both pts c.args.plane.now _ _ _ _ (c.loop-part.invariant pts placed ids start) level)
 

@@ -12,7 +12,7 @@ use Rattle.qh_join.proofs.joined.join_faces.Goals as goal
 
 pub returns : goal.returns
 returns g c =
-    let pts = c.args.set.pts.now in let bridges = c.args.bridges.now in
+    let pts = c.args.kept.pts.now in let bridges = c.args.bridges.now in
     let border = (rw c.in_ok-closes.was at c.join-body.ensures.second.0) c.if-not-closes.false in
     let closing = (rw c.in_ok-closes.was at c.join-body.ensures.second.1) c.if-not-closes.false in
     let same = IsPermutation-sym _ _ c.in_ok-faces.ensures in
@@ -23,6 +23,6 @@ returns g c =
     (closed_permuted _ _ c.in_ok-faces.ensures (closed_by_border c.args.given c.args.gone.now bridges closed border))
     (λ q m. elim (of_append c.args.given bridges q (in_permutation _ _ same q m)) [
       | inl o ↦ inl (given q o)
-      | inr o ↦ inr (All-In (IsBridge pts c.args.set.parts.now c.args.set.shared.now) bridges q closing o kept keeps apart)
+      | inr o ↦ inr (All-In (IsBridge pts c.args.kept.corners.now c.args.kept.shared.now) bridges q closing o kept keeps apart)
     ])
     ))) c.join-body.ensures.first

@@ -1,5 +1,5 @@
 -- The corners of the parts are what is kept.
-use Rattle.qh_parts.proofs.joining.merged_if_kept.Goals as goal
+use Rattle.qh_parts.proofs.joint.merged_if_kept.Goals as goal
 
 pub returns-clause-kept : goal.returns-clause-kept
 returns-clause-kept c =

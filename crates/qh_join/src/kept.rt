@@ -1,0 +1,37 @@
+//! What is kept of a set in parts: the own corners of each part, and the ids that all parts share.
+ghost use Rattle.std.specs.Prelude.{◌≡◌, IfOk, map};
+ghost use Rattle.std.specs.List.{All};
+ghost use Rattle.qh_model.specs.contract.IdSets.{AreIndices};
+ghost use Rattle.qh_join.specs.contract.Kept.{places_of, ArePlaced};
+
+use qh_model::{Id, Point};
+use qh_places::Places;
+use qh_seam::Part;
+use std::alloc::{AllocError, Global};
+
+/// The points of a set, and the ids that are kept of it: the own corners of each of its parts, by blocks, and the
+/// shared ids.
+#[derive(Clone, Copy, Drop)]
+pub struct Kept<'a> {
+    pub pts: &'a [Point],
+    pub corners: &'a [Places],
+    pub shared: &'a [Id],
+    ghost corners_in: { All (ArePlaced pts.now) corners.now },
+    ghost shared_in: { AreIndices pts.now shared.now },
+}
+
+/// Returns the own corners of parts, by blocks, part by part. The meshes of the parts are dropped.
+///
+/// # Errors
+///
+/// `AllocError` where an allocation failed.
+pub fn corners_of(alloc: Global, mut parts: Vec<Part>) -> Result<Vec<Places>, AllocError>
+    ensures { IfOk result (λ v. v.items ≡ map places_of parts.items) }
+{
+    let mut corners = Vec::with_capacity(alloc, parts.len())?;
+    while let Some(part) = parts.pop() {
+        corners.push(part.places)?;
+    }
+    corners.reverse();
+    Ok(corners)
+}

@@ -1,0 +1,88 @@
+//! What the parts of a set contribute, with the polygons that close the gap between them.
+ghost use Rattle.std.specs.Prelude.{IfOk, IfSome, IsPermutation};
+ghost use Rattle.std.specs.List.{All};
+ghost use Rattle.qh_seam.specs.contract.Parts.{IsPartOf};
+ghost use Rattle.qh_parts.specs.steps.Given.{AreGivenOf};
+ghost use Rattle.qh_parts.specs.steps.Kept.{HaveKept};
+
+use crate::given::{Given, given_in_threads};
+use qh_block::UnsortedFaces;
+use qh_guess::{Outline, bridge_over};
+use qh_model::{Id, Memory, Polygon};
+use qh_seam::{Divided, Part, kept_ids};
+use std::alloc::Global;
+use std::thread::{Threads, join};
+
+/// The faces that the parts of a set contribute, those that are gone from them, and the polygons that close the gap.
+#[derive(Drop)]
+pub(crate) struct Joint {
+    pub faces: UnsortedFaces,
+    pub gone: Vec<Polygon>,
+    pub bridges: Vec<Polygon>,
+}
+
+/// Returns faces in order, as far as that saves time later; `None` if the corners of the parts are not seen to stand for
+/// the set.
+fn merged_if_kept(
+    alloc: Global,
+    parts: &[Part],
+    shared: &[Id],
+    ids: &[Id],
+    faces: UnsortedFaces,
+) -> Result<Option<UnsortedFaces>, Memory>
+    ensures same { IfOk result (λ found. IfSome found (IsPermutation faces)) }
+    ensures kept { IfOk result (λ found. IfSome found (λ _. HaveKept parts.now shared.now ids.now)) }
+{
+    let Some(_kept) = kept_ids(alloc, ids, parts, shared)? else {
+        return Ok(None);
+    };
+    let merged = faces.merged()?;
+    Ok(Some(merged))
+}
+
+/// Returns the faces that the parts of a set contribute, with those between them; `None` if the attempt fails. While one
+/// thread makes the hull between the parts, another one merges what they contribute.
+pub(crate) fn joint_of<R: Threads>(
+    rt: &R,
+    alloc: Global,
+    set: Divided,
+    ids: &[Id],
+    outlines: Vec<Outline>,
+) -> Result<Option<Joint>, Memory>
+    requires { All (IsPartOf set.pts.now set.shared.now) set.parts.now }
+    ensures given { IfOk result (λ found. IfSome found (λ j. AreGivenOf set.entry.pts.now set.entry.shared.now set.entry.parts.now
+        j.faces j.gone.items)) }
+    ensures kept { IfOk result (λ found. IfSome found (λ _. HaveKept set.entry.parts.now set.entry.shared.now ids.now)) }
+{
+    let Some(given) = given_in_threads(rt, alloc, set, &outlines)? else {
+        return Ok(None);
+    };
+    // The outlines make way for what comes.
+    drop(outlines);
+    let Given {
+        faces,
+        gone,
+        borders,
+        seam,
+    } = given;
+    let (pts, parts, shared) = (set.pts, set.parts, set.shared);
+    let (merged, bridges) = join(
+        rt,
+        || -> Result<Option<UnsortedFaces>, Memory>
+            ensures same { IfOk result (λ found. IfSome found (IsPermutation faces)) }
+            ensures kept { IfOk result (λ found. IfSome found (λ _. HaveKept parts.entry.now shared.entry.now ids.entry.now)) }
+        { merged_if_kept(alloc, parts, shared, ids, faces) },
+        || -> Result<Option<Vec<Polygon>>, Memory> { bridge_over(alloc, pts, &borders, &seam) },
+    );
+    let Some(bridges) = bridges? else {
+        return Ok(None);
+    };
+    let Some(faces) = merged? else {
+        return Ok(None);
+    };
+    Ok(Some(Joint {
+        faces,
+        gone,
+        bridges,
+    }))
+}
