@@ -1,6 +1,10 @@
 #!/bin/sh
 # Runs what is asked of a change beside `rt ci` and takes seconds: definitions, links, counts, the version, the manual page,
-# and the unit tests of the scripts. From anywhere. The status is 1 if one of them found a fault.
+# and the unit tests of the scripts.
+#
+#     scripts/gate/checks.sh        from anywhere
+#
+# The status is 1 if one of them found a fault.
 . "$(dirname "$0")/../lib/paths.sh"
 found=0
 ask() {

@@ -6,8 +6,8 @@
 In an indented block of a document, a line that begins with `$ ` is a command; lines after it that begin with `> ` belong to
 it. The lines up to the next command or the end of the block are its expected output, of standard output and standard error
 together. A line `...` stands for any lines. The commands of one document run one after the other in one shell, in a new
-folder with links to everything at the top of the repository; so a command can read the files that an earlier one wrote. A
-comment just before a block may mark it:
+folder with links to everything at the top of the repository; so a command can read the files that an earlier one wrote.
+They are stopped after two hours; a command that did not run counts as different. A comment just before a block may mark it:
 
     <!-- needs: qhull -->          skipped if one of these programs is missing
     <!-- seconds vary -->          numbers with a decimal point, and `over N`, are not compared
@@ -38,7 +38,7 @@ MARK = re.compile(r"<!--\s*(.*?)\s*-->$")
 INDENT = "    "
 END = "end-of-command-"
 SECONDS = r"(?:\d+\.\d+|over \d+)"
-# A command of this many seconds is stopped.
+# The commands of one document are stopped after this many seconds.
 TIME_LIMIT = 7200
 
 
@@ -99,11 +99,15 @@ def printed(chosen, folder):
     script = os.path.join(folder, ".commands.sh")
     with open(script, "w", encoding="utf-8") as target:
         target.write(script_of(chosen))
-    done = subprocess.run(
-        ["bash", script], cwd=folder, stdin=subprocess.DEVNULL, stdout=subprocess.PIPE, stderr=subprocess.STDOUT,
-        timeout=TIME_LIMIT,
-    )
-    text = done.stdout.decode("utf-8", "backslashreplace").replace(script, "bash")
+    command = ["bash", script]
+    try:
+        done = subprocess.run(
+            command, cwd=folder, stdin=subprocess.DEVNULL, stdout=subprocess.PIPE, stderr=subprocess.STDOUT, timeout=TIME_LIMIT
+        )
+        told = done.stdout
+    except subprocess.TimeoutExpired as stopped:
+        told = stopped.stdout or b""
+    text = told.decode("utf-8", "backslashreplace").replace(script, "bash")
     parts = re.split(rf"{END}\d+\n", text)
     return [without_blank_end(part.split("\n")) for part in parts[: len(chosen)]]
 

@@ -21,34 +21,23 @@ from collections import Counter
 from pathlib import Path
 
 sys.path.insert(0, str(Path(__file__).resolve().parents[1]))
+from lib.processes import seconds_in, stats_below  # noqa: E402
 from lib.usage import names_given  # noqa: E402
 
-TICKS = os.sysconf("SC_CLK_TCK")
 PARTS = ["proof", "start", "tests", "bodies", "alone"]
+# The field of a process that tells its start: with its number, it names the process.
+START = 19
 # The parts whose checks are counted.
 COUNTED = {"bodies", "alone"}
 
 
-def read(path):
-    try:
-        with open(path, "rb") as file:
-            return file.read()
-    except OSError:
-        return b""
-
-
-def stat_of(pid):
-    """Returns the parent of a process, its start and its processor seconds, or None if it has ended."""
-    text = read(f"/proc/{pid}/stat")
-    if not text:
-        return None
-    fields = text.rpartition(b")")[2].split()
-    return int(fields[1]), int(fields[19]), (int(fields[11]) + int(fields[12])) / TICKS
-
-
 def part_of(pid):
-    """Returns the crate and the part that a process of the prover checks, or None for another process."""
-    words = [word.decode(errors="replace") for word in read(f"/proc/{pid}/cmdline").split(b"\0")]
+    """Returns the crate, the part that a process of the prover checks, and its folder, or None for another process."""
+    try:
+        line = Path(f"/proc/{pid}/cmdline").read_bytes()
+    except OSError:
+        return None
+    words = [word.decode(errors="replace") for word in line.split(b"\0")]
     if len(words) < 2 or not words[0].endswith("/rattle") or "--crate-name" not in words:
         return None
     crate = words[words.index("--crate-name") + 1]
@@ -75,20 +64,13 @@ class Watch:
         self.thread.start()
 
     def look(self):
-        found = {int(name): stat_of(name) for name in os.listdir("/proc") if name.isdigit()}
-        found = {pid: stat for pid, stat in found.items() if stat}
-        for pid, (_, start, seconds) in found.items():
-            above = pid
-            while above in found and above != self.root:
-                above = found[above][0]
-            if above != self.root:
-                continue
-            key = pid, start
-            # (one that was seen before it became the prover is asked again)
-            if not self.parts.get(key):
+        """Notes the seconds of each process of the prover that runs now."""
+        for pid, fields in stats_below(self.root).items():
+            key = pid, fields[START]
+            if not self.parts.get(key):  # a process that was seen before it became the prover is looked at again
                 self.parts[key] = part_of(pid)
             if self.parts[key]:
-                self.seconds[key] = seconds
+                self.seconds[key] = seconds_in(fields)
 
     def look_on(self):
         while not self.ended.wait(0.5):
@@ -117,8 +99,10 @@ def main():
     begun = time.monotonic()
     gate = subprocess.Popen(["rt", "ci", *names_given(__doc__)])
     watch = Watch(gate.pid)
-    status = gate.wait()
-    watch.stop()
+    try:
+        status = gate.wait()
+    finally:
+        watch.stop()
     watch.tell()
     print(f"{'all':26} {time.monotonic() - begun:8.0f} s by the clock")
     sys.exit(status)

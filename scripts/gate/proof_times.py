@@ -5,42 +5,27 @@
 
 It runs `rt check` in each crate with one job, with --test on its tests too, and takes the processor seconds of all its
 processes at each line that tells a function as checked: what passed since the line before is that function's. What comes
-before the first such line, as the crates below that are loaded, is told as `before the first`. What an earlier check kept
-is not proved again, so a crate is timed whole only where it has no `out/` here, and its like in no other clone. It prints
+before the first such line, such as loading the crates below, is told as `before the first`. What an earlier check kept is
+not proved again, so a crate is timed whole only if it has no `out/`, neither here nor in another clone. It prints
 the N dearest functions of all crates (20 where no N is given) and each crate's sum, and ends with status 1 if a check
 failed.
 """
 import argparse
-import os
 import re
 import subprocess
 import sys
 from pathlib import Path
 
-TICKS = os.sysconf("SC_CLK_TCK")
+sys.path.insert(0, str(Path(__file__).resolve().parents[1]))
+from lib.processes import seconds_with_children_in, stats_below  # noqa: E402
+from lib.usage import known  # noqa: E402
+
 CHECKED = re.compile(r"checked (\S+), \d+ of \d+")
-
-
-def stat_of(pid):
-    """Returns the parent of a process, and its seconds with those of its ended children, or None if it has ended."""
-    try:
-        fields = Path(f"/proc/{pid}/stat").read_text().rpartition(")")[2].split()
-    except OSError:
-        return None
-    return int(fields[1]), sum(map(int, fields[11:15])) / TICKS
 
 
 def seconds_below(root):
     """The processor seconds of a process and of all below it."""
-    found = {int(name): stat_of(name) for name in os.listdir("/proc") if name.isdigit()}
-    found = {pid: stat for pid, stat in found.items() if stat}
-    total = 0
-    for pid, (_, seconds) in found.items():
-        above = pid
-        while above in found and above != root:
-            above = found[above][0]
-        total += seconds if above == root else 0
-    return total
+    return sum(map(seconds_with_children_in, stats_below(root).values()))
 
 
 def times_of(crate, tests):
@@ -66,7 +51,8 @@ def main():
     parser.add_argument("--count", type=int, default=20, help="how many functions are printed")
     parser.add_argument("crates", nargs="*")
     asked = parser.parse_args()
-    crates = asked.crates or sorted(path.name for path in Path("crates").iterdir() if (path / "src").is_dir())
+    every = sorted(path.name for path in Path("crates").iterdir() if (path / "src").is_dir())
+    crates = known(asked.crates, every) or every
     rows, all_proved = [], True
     for crate in crates:
         found, proved = times_of(crate, asked.test)

@@ -13,13 +13,13 @@ many were refused, and names those whose refusal says little: a proof file named
 met a limit of its own.
 """
 import re
-import shutil
 import subprocess
 import sys
 import tempfile
 from pathlib import Path
 
 sys.path.insert(0, str(Path(__file__).resolve().parents[1]))
+from lib.copies import copy_crates  # noqa: E402
 from lib.usage import names_given  # noqa: E402
 
 LITTLE = re.compile(r"refused, as it must be \(only")
@@ -28,9 +28,7 @@ WRONG = re.compile(r": (NOT REFUSED|BAD EDIT|NOT TRIED)")
 
 def copied(top):
     """Copies the sources of the crates into the folder, with all wrong bodies of a crate in its must-fail."""
-    shutil.copytree("crates", top / "crates", symlinks=True, ignore=shutil.ignore_patterns("out"))
-    for name in ["crates.txt", "HANDLES"]:
-        shutil.copy(name, top / name)
+    copy_crates(top)
     for edit in sorted(top.glob("crates/*/wrong-bodies/*.edit")):
         folder = edit.parent.parent / "must-fail"
         folder.mkdir(exist_ok=True)
@@ -58,10 +56,11 @@ def tried(top, crate):
 
 
 def main():
+    names = names_given(__doc__)
     with tempfile.TemporaryDirectory() as folder:
         top = Path(folder)
         copied(top)
-        lines = [line for crate in names_given(__doc__) or crates_with_bodies(top) for line in tried(top, crate)]
+        lines = [line for crate in names or crates_with_bodies(top) for line in tried(top, crate)]
     wrong = [line for line in lines if WRONG.search(line)]
     little = [line for line in lines if LITTLE.search(line)]
     print(f"{len(lines) - len(wrong)} wrong bodies refused, {len(wrong)} not")

@@ -8,3 +8,11 @@ def names_given(text):
         print(text.strip())
         sys.exit(0)
     return sys.argv[1:]
+
+
+def known(names, choices):
+    """The names, each of which has to be one of the choices: another one ends the script, which would try nothing."""
+    for name in names:
+        if name not in choices:
+            sys.exit(f"{name} is none of: {', '.join(choices)}")
+    return names

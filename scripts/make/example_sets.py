@@ -142,8 +142,9 @@ SETS |= {"ball": lambda: ball(30), "ball7": lambda: ball(7)}
 
 def main():
     if len(sys.argv) != 2 or sys.argv[1] not in {*SETS, *MESHES}:
-        print(__doc__)
-        sys.exit(0 if sys.argv[1:] in (["--help"], ["-h"]) else 2)
+        is_help = sys.argv[1:] in (["--help"], ["-h"])
+        print(__doc__.strip(), file=sys.stdout if is_help else sys.stderr)
+        sys.exit(0 if is_help else 2)
     name = sys.argv[1]
     sys.stdout.write(MESHES[name]() if name in MESHES else text_of(SETS[name](), name))
 

@@ -1,8 +1,14 @@
 #!/bin/sh
-# Makes the pictures of the documents in docs/pictures. Needs the built program and
-# Qhull's (Debian's package qhull-bin), whose answer one of them shows.
+# Makes the pictures of the documents in docs/pictures.
+#
+#     scripts/make/pictures.sh        from anywhere
+#
+# Needs the built program and Qhull's (Debian's package qhull-bin), whose answer one of the pictures shows.
 set -eu
 . "$(dirname "$0")/../lib/paths.sh"
+for needed in "$program" qhull; do
+    command -v "$needed" > /dev/null || { echo "$needed is missing" >&2; exit 1; }
+done
 pictures=docs/pictures
 work=$(mktemp -d)
 trap 'rm -r "$work"' EXIT

@@ -20,6 +20,7 @@ from concurrent.futures import FIRST_COMPLETED, ThreadPoolExecutor, wait
 from pathlib import Path
 
 sys.path.insert(0, str(Path(__file__).resolve().parents[1]))
+from lib.copies import copy_crates  # noqa: E402
 from lib.usage import names_given  # noqa: E402
 
 COPIES = Path("build/prove")
@@ -73,29 +74,31 @@ def give(name, top, to):
 
 
 def proved(name, lane, jobs):
-    """Proves a crate in a copy, with so many processes. A program is built and run, too; that it was built is told by the
-    stamp that rt writes then, whatever the program ends with. Returns what rt said if it failed, or an empty text."""
+    """Proves a crate in a copy, with `jobs` processes. Returns what rt said if it failed, or an empty text.
+
+    A program is built and run, too. The stamp that rt writes tells that it was built, whatever the program ends with.
+    """
     folder = lane / "crates" / name
     is_program = (folder / "src/main.rt").exists()
     words = ["run" if is_program else "lib", "--jobs", str(jobs)] + ["--", "--help"] * is_program
-    run = subprocess.run(["rt", *words], cwd=folder, stdin=subprocess.DEVNULL, stdout=subprocess.PIPE, stderr=subprocess.STDOUT, text=True)
+    run = subprocess.run(
+        ["rt", *words], cwd=folder, stdin=subprocess.DEVNULL, stdout=subprocess.PIPE, stderr=subprocess.STDOUT, text=True
+    )
     failed = not (folder / "out" / f"{name}.stamp").exists() if is_program else run.returncode
     return run.stdout if failed else ""
 
 
 def copies(number):
-    """Returns so many copies of the crates, with the libraries that were proved before."""
+    """Returns the folders of new copies of the crates, which have nothing that was proved before."""
     shutil.rmtree(COPIES, ignore_errors=True)
     lanes = [COPIES / str(lane) for lane in range(number)]
     for lane in lanes:
-        shutil.copytree("crates", lane / "crates", ignore=shutil.ignore_patterns("out"))
-        for name in ["crates.txt", "HANDLES"]:
-            shutil.copy(name, lane)
+        copy_crates(lane)
     return lanes
 
 
 class Crates:
-    """The crates that are to be proved, those with the longest chain behind them first, and where those are that were."""
+    """The crates to prove, those with the longest chain behind them first, and the copies with those that are proved."""
 
     def __init__(self, names, processors):
         self.needs, self.processors = crates_below(names), processors
@@ -104,7 +107,10 @@ class Crates:
         self.free, self.running, self.home = copies(processors), {}, {}
 
     def processes(self, name, idle, ready):
-        """Returns how many processes a crate gets: its share of the idle processors, and half of all where all wait for its chain."""
+        """Returns the number of processes for a crate: its share of the idle processors.
+
+        The crate with the longest chain behind it gets half of all processors at least, and no crate more than MOST_EACH.
+        """
         least = self.processors // 2 if name == self.left[0] else 1
         return min(MOST_EACH, max(least, idle // len(ready), 1))
 
@@ -125,7 +131,7 @@ class Crates:
             self.running[pool.submit(proved, name, lane, jobs)] = name, lane, jobs
 
     def end(self, task):
-        """Notes that a crate was proved, and returns its name and its number of processes. One that was not ends the script."""
+        """Notes that a crate is proved. Returns its name and its number of processes. One that is not proved ends the script."""
         name, lane, jobs = self.running.pop(task)
         if task.result():
             sys.exit(f"{task.result()}{name} is NOT PROVED")
@@ -142,7 +148,10 @@ class Crates:
 
 
 def main():
-    crates, start = Crates(names_given(__doc__), int(os.environ.get("JOBS") or os.cpu_count())), time.monotonic()
+    names = names_given(__doc__)
+    if not names:
+        sys.exit("name a crate: scripts/make/prove.py CRATE..")
+    crates, start = Crates(names, max(1, int(os.environ.get("JOBS") or os.cpu_count()))), time.monotonic()
     try:
         with ThreadPoolExecutor(crates.processors) as pool:
             while crates.left or crates.running:

@@ -6,12 +6,13 @@
 It takes the program, the libraries for C and the shared one for Python as they were built, and makes
 
     qconvex-VERSION-linux-x86_64.tar.gz         bin, lib, include and share, to be unpacked anywhere
-    qconvex-exact_VERSION_amd64.deb             the same for Debian under /usr; its program and page are called qconvex-exact, so
-                                                that it lives beside Qhull's program qconvex
+    qconvex-exact_VERSION_amd64.deb             the same for Debian under /usr, beside Qhull's program qconvex: the program
+                                                and its page are called qconvex-exact
     qconvex-VERSION-py3-none-linux_x86_64.whl   the package for Python, with the library in it
     SHA256SUMS                                  the checksums of these
 
-Needed: make, gcc, dpkg-deb, and for the wheel python3 with pip, setuptools and wheel (PYTHON names another interpreter).
+Needed: make, gcc, git, gzip, dpkg-deb, and for the wheel python3 with pip, setuptools and wheel (PYTHON names another
+interpreter).
 """
 import hashlib
 import os

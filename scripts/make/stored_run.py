@@ -7,8 +7,9 @@ the points once more for a test of the gate, which counts what the tree joins of
 The points are 200 on a sphere, a lattice of 64 that sticks out of it, so that faces have points within them and within
 their edges, and some points given again, in a seeded order, in a file with comments and blanks. The program takes them
 in blocks of 3 with 7 workers, joined in the tree up to its root, and writes all outputs. Three things are not reached:
-the interior filter, which takes larger sets; a pass that gives up; and points in a line or a plane. What it has to write is the text of
-lib/hull_oracle.py, a hull over all triples; it takes a minute. --check writes nothing and fails where a file differs.
+the interior filter, which takes larger sets; a pass that gives up; and points in a line or a plane. What the program has
+to write is the text of lib/hull_oracle.py, a hull over all triples; that takes a minute. --check writes nothing, and its
+status is 1 if a file differs.
 """
 import argparse
 import random
@@ -81,7 +82,8 @@ def main():
     if not check:
         for path, text in files.items():
             path.write_text(text)
-    print("differs: %s" % ", ".join(differing) if differing else "all files are as they should be")
+    what = "differs" if check else "changed"
+    print(f"{what}: {', '.join(differing)}" if differing else "all files are as they should be")
     sys.exit(1 if check and differing else 0)
 
 

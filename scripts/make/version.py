@@ -9,7 +9,6 @@ run scripts/make/man_page.py, and build the program and the library anew.
 """
 import re
 import sys
-
 from pathlib import Path
 
 sys.path.insert(0, str(Path(__file__).resolve().parents[1]))

@@ -1,7 +1,7 @@
 #!/usr/bin/env python3
 """How often Qhull is wrong, or refuses, on the same solid written in random bases of the lattice.
 
-    scripts/studies/lattice_bases.py [--sets N] [--seed N] [--entries S,S,..]
+    scripts/studies/lattice_bases.py [--sets N] [--seed N] [--entries S,S,..] [--ordinary]
 
 A basis of the lattice is a matrix of whole numbers with determinant 1: here L U, L and U triangular with ones on the
 diagonal and random entries up to the square root of S. It maps lattice points to lattice points and faces to faces, and changes
@@ -14,6 +14,7 @@ the seeded families of bench/points.py and grids instead. The sets are seeded: t
 import argparse
 import os
 import random
+import shutil
 import subprocess
 import sys
 from collections import Counter
@@ -25,7 +26,7 @@ from types import SimpleNamespace
 sys.path.insert(0, str(Path(__file__).resolve().parents[1]))
 from lib import package  # noqa: E402,F401
 from lib.limits import COORDINATE_LIMIT  # noqa: E402
-from lib.paths import BENCH, PROGRAM, TOP  # noqa: E402
+from lib.paths import BENCH, PROGRAM, TOP, built  # noqa: E402
 from make.example_sets import ball  # noqa: E402
 from tools.check_hull import Checker, Wrong, check  # noqa: E402
 from qconvex.commands.meshes import vertices_of_mesh  # noqa: E402
@@ -122,18 +123,29 @@ def ordinary(options):
     print(row("a mesh at five scales", *counted(meshes())), flush=True)
 
 
+def numbers(words):
+    """Whole numbers with commas between."""
+    return [int(word) for word in words.split(",")]
+
+
 def arguments():
     parser = argparse.ArgumentParser(description=__doc__, formatter_class=argparse.RawDescriptionHelpFormatter)
     parser.add_argument("--sets", type=int, default=SETS, help=f"how many bases for each S (default {SETS})")
     parser.add_argument("--seed", type=int, default=1, help="the seed of the sets (default 1)")
-    parser.add_argument("--entries", type=lambda words: [int(word) for word in words.split(",")], default=ENTRIES)
-    parser.add_argument("--ordinary", action="store_true", help="ordinary sets instead")
+    parser.add_argument("--entries", type=numbers, default=ENTRIES, metavar="S,S,..", help="the sizes S of the entries")
+    parser.add_argument("--ordinary", action="store_true", help="families of bench/points.py and grids in place of the solids")
     return parser.parse_args()
 
 
 def main():
     options = arguments()
-    ordinary(options) if options.ordinary else bases(options)
+    built(PROGRAM)
+    if not shutil.which("qhull"):
+        sys.exit("qhull is missing (Debian's package qhull-bin)")
+    if options.ordinary:
+        ordinary(options)
+    else:
+        bases(options)
 
 
 if __name__ == "__main__":

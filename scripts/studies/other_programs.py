@@ -25,7 +25,7 @@ from types import SimpleNamespace
 
 sys.path.insert(0, str(Path(__file__).resolve().parents[1]))
 from lib import package  # noqa: E402,F401
-from lib.paths import PROGRAM, TOP  # noqa: E402
+from lib.paths import PROGRAM, TOP, built  # noqa: E402
 from tools.check_hull import Checker, check  # noqa: E402
 from qconvex.commands.off_files import off_text, read_off  # noqa: E402
 from qconvex.commands.point_files import points_of_file, text_of  # noqa: E402
@@ -50,6 +50,11 @@ def run(command, text="", folder=None):
         )
     except subprocess.TimeoutExpired:
         return SimpleNamespace(returncode=124, stdout="", stderr="stopped")
+
+
+def text_in(path):
+    """The text of a file that a program wrote, or an empty text if there is no file."""
+    return Path(path).read_text(encoding="utf-8") if os.path.exists(path) else ""
 
 
 def numbers(patterns, text):
@@ -100,8 +105,7 @@ def ask_normaliz(points):
         with open(os.path.join(folder, "hull.in"), "w", encoding="ascii") as target:
             target.write(f"amb_space 4\npolytope {len(points)}\n{rows}")
         done = run(["normaliz", "-s", "hull"], folder=folder)
-        path = os.path.join(folder, "hull.out")
-        text = open(path, encoding="utf-8").read() if os.path.exists(path) else ""
+        text = text_in(os.path.join(folder, "hull.out"))
     return answer_of(done, *numbers([r"^(\d+) extreme rays", r"^(\d+) support hyperplanes"], text))
 
 
@@ -169,8 +173,7 @@ def ask_meshlab(points):
                 target.write(text)
         words = ["xvfb-run", "-a", "meshlabserver", "-i", "points.off", "-o", "hull.off", "-s", "hull.mlx"]
         done = run(words, folder=folder)
-        path = os.path.join(folder, "hull.off")
-        text = open(path, encoding="utf-8").read() if os.path.exists(path) else ""
+        text = text_in(os.path.join(folder, "hull.off"))
     return answer_of(done, *numbers([r"^OFF\s+(\d+)", r"^OFF\s+\d+ (\d+)"], text))
 
 
@@ -264,6 +267,7 @@ def main():
     parser = argparse.ArgumentParser(description=__doc__, formatter_class=argparse.RawDescriptionHelpFormatter)
     parser.add_argument("files", nargs="*", default=SETS, metavar="POINTS", help="point files")
     options = parser.parse_args()
+    built(PROGRAM)
     sets = {}
     for path in options.files:
         points = points_of_file(path)

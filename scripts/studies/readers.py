@@ -1,7 +1,7 @@
 #!/usr/bin/env python3
 """Gives `off` and `offt` to every program that is installed and reads OFF, and says what each of them found in the file.
 
-    scripts/studies/readers.py [POINTS]...      the solids of examples/, a prism over 16 corners and 100,000 points, if none is named
+    scripts/studies/readers.py [POINTS]...      without a name: solids of examples/, a prism over 16 corners, 100,000 points
 
 For each program and each set it prints `vertices/faces` for `off` and for `offt`, marked `!` where these are not the
 numbers of the text. Programs of triangles alone (marked so) cut the faces of `off` themselves, so that for them the number
@@ -23,7 +23,7 @@ from pathlib import Path
 
 sys.path.insert(0, str(Path(__file__).resolve().parents[1]))
 from lib import package  # noqa: E402,F401
-from lib.paths import PROGRAM, TOP  # noqa: E402
+from lib.paths import PROGRAM, TOP, built  # noqa: E402
 from studies.other_programs import has, run, version  # noqa: E402
 from qconvex.commands.off_files import read_off  # noqa: E402
 from qconvex.commands.point_files import points_of_file, text_of  # noqa: E402
@@ -178,7 +178,9 @@ def cell(reader, right, path):
 def main():
     parser = argparse.ArgumentParser(description=__doc__, formatter_class=argparse.RawDescriptionHelpFormatter)
     parser.add_argument("points", nargs="*", metavar="POINTS", help="point files of solids")
-    sets = sets_of(parser.parse_args().points)
+    paths = parser.parse_args().points
+    built(PROGRAM)
+    sets = sets_of(paths)
     lost = False
     with tempfile.TemporaryDirectory() as folder:
         found = readers(folder)

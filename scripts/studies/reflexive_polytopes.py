@@ -10,21 +10,23 @@ facet; and six times the volume. The status is 1 where anything differs.
 """
 import argparse
 import re
+import shutil
 import subprocess
 import sys
 import tempfile
 from itertools import accumulate
 from math import gcd
+from pathlib import Path
 from typing import NamedTuple
 
 import numpy as np
-from pathlib import Path
 
 sys.path.insert(0, str(Path(__file__).resolve().parents[1]))
 from lib import package  # noqa: E402,F401
 from qconvex import hulls  # noqa: E402
 
 
+PROGRAMS = ["cws.x", "class.x", "poly.x"]
 HEAD = re.compile(r"(\d+) (\d+)  (Points of P|Vertices of P|Vertices of P-dual <-> Equations of P)\s*$")
 VOLUME = re.compile(r"vol=(\d+),")
 
@@ -46,7 +48,8 @@ def output(*command, folder, given=""):
 
 def polytopes_text(folder):
     """All reflexive polytopes that the weight systems give, as poly.x reads them."""
-    weights = [re.split(r"  [rt]+$|M:", line)[0] for kind in ("-w3", "-c3") for line in output("cws.x", kind, folder=folder).splitlines()]
+    lines = [line for kind in ("-w3", "-c3") for line in output("cws.x", kind, folder=folder).splitlines()]
+    weights = [re.split(r"  [rt]+$|M:", line)[0] for line in lines]
     with open(f"{folder}/weights.txt", "w", encoding="ascii") as target:
         target.writelines(f"{line}\n" for line in weights)
     output("class.x", "-po", "list.bin", "weights.txt", "log.txt", folder=folder)
@@ -107,6 +110,8 @@ def main():
     parser = argparse.ArgumentParser(description=__doc__, formatter_class=argparse.RawDescriptionHelpFormatter)
     parser.add_argument("--seed", type=int, default=1, help="of the order of the points (default 1)")
     options = parser.parse_args()
+    if not all(map(shutil.which, PROGRAMS)):
+        sys.exit("PALP is missing (Debian's package palp)")
     with tempfile.TemporaryDirectory() as folder:
         text = polytopes_text(folder)
         polytopes = list(told_of(output("poly.x", "-fpveiB", folder=folder, given=text)))

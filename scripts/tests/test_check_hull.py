@@ -19,12 +19,12 @@ CORNERS = [
 
 
 def is_near(i, j):
-    """Whether two corners are joined by an edge of the icosahedron."""
+    """Returns true if two corners are joined by an edge of the icosahedron."""
     return sum((p - q) ** 2 for p, q in zip(CORNERS[i], CORNERS[j])) < 2200**2
 
 
 def is_far(i, j):
-    """Whether two corners are neither joined by an edge nor opposite."""
+    """Returns true if two corners are neither joined by an edge nor opposite."""
     return not is_near(i, j) and any(p + q for p, q in zip(CORNERS[i], CORNERS[j]))
 
 
@@ -94,6 +94,12 @@ class Files(unittest.TestCase):
         for text in (f"OFF\n{rows}", f"OFF {rows}", f"3\n{rows}", rows):
             faces = read(faces_of_file, text)
             self.assertEqual((faces.points, faces.faces), ([(0, 1, 0.5)], [[0]]))
+
+    def test_no_point_is_refused(self):
+        self.assertRaises(ValueError, read, points_of_file, "3\n0\n")
+
+    def test_a_face_that_is_cut_off_is_refused(self):
+        self.assertRaises(ValueError, read, faces_of_file, "OFF\n3 1 0\n0 0 0\n1 0 0\n0 1 0\n4 0 1 2\n")
 
     def test_a_face_of_no_point_is_refused(self):
         self.assertRaises(ValueError, read, faces_of_file, "OFF\n1 1 0\n0 0 0\n1 1\n")

@@ -1,15 +1,21 @@
 """Unit tests of scripts/lib: `python3 -m unittest discover scripts/tests`, from the top of the repository."""
+import os
 import random
+import subprocess
 import sys
+import tempfile
 import unittest
 from pathlib import Path
 
 sys.path.insert(0, str(Path(__file__).resolve().parents[1]))
 from lib import package  # noqa: E402,F401
+from lib.copies import copy_crates, replace_once  # noqa: E402
 from lib.file_oracle import Fault, off_points_of, points_of  # noqa: E402
 from lib.hull_oracle import file_of, hull_text  # noqa: E402
 from lib.limits import BYTE_LIMIT, COORDINATE_LIMIT, POINT_LIMIT, limits_in  # noqa: E402
-from lib.paths import TOP  # noqa: E402
+from lib.paths import TOP, built  # noqa: E402
+from lib.processes import seconds_with_children_in, stats_below  # noqa: E402
+from lib.usage import known  # noqa: E402
 from qconvex.commands.point_files import read, triples  # noqa: E402
 from tools.check_hull import Box, dot  # noqa: E402
 
@@ -27,6 +33,54 @@ class Limits(unittest.TestCase):
 class Paths(unittest.TestCase):
     def test_the_top_is_that_of_the_repository(self):
         self.assertTrue((TOP / "crates.txt").is_file())
+
+    def test_a_program_that_is_missing_ends_the_script(self):
+        self.assertEqual(built("sh"), "sh")
+        self.assertRaises(SystemExit, built, str(TOP / "no-such-program"))
+
+
+class Usage(unittest.TestCase):
+    def test_a_name_that_is_no_choice_ends_the_script(self):
+        self.assertEqual(known(["b"], ["a", "b"]), ["b"])
+        self.assertEqual(known([], ["a", "b"]), [])
+        with self.assertRaises(SystemExit) as caught:
+            known(["c"], ["a", "b"])
+        self.assertEqual(caught.exception.code, "c is none of: a, b")
+
+
+class Copies(unittest.TestCase):
+    def setUp(self):
+        folder = tempfile.TemporaryDirectory()
+        self.addCleanup(folder.cleanup)
+        self.folder = Path(folder.name)
+
+    def test_what_was_built_is_not_copied(self):
+        for file in ("crates.txt", "HANDLES", "crates/one/src/lib.rt", "crates/one/out/one"):
+            (self.folder / "top" / file).parent.mkdir(parents=True, exist_ok=True)
+            (self.folder / "top" / file).touch()
+        self.addCleanup(os.chdir, os.getcwd())
+        os.chdir(self.folder / "top")
+        copy_crates(self.folder / "copy")
+        found = [str(path.relative_to(self.folder / "copy")) for path in (self.folder / "copy").rglob("*") if path.is_file()]
+        self.assertEqual(sorted(found), ["HANDLES", "crates.txt", "crates/one/src/lib.rt"])
+
+    def test_a_text_that_stands_twice_is_not_replaced(self):
+        path = self.folder / "file"
+        path.write_text("one two two")
+        self.assertEqual(replace_once(path, [("one", "1"), ("1 t", "3 t")]), "one two two")
+        self.assertEqual(path.read_text(), "3 two two")
+        self.assertRaises(SystemExit, replace_once, path, [("two", "2")])
+        self.assertEqual(path.read_text(), "3 two two")
+
+
+class Processes(unittest.TestCase):
+    def test_a_process_and_its_child_are_found(self):
+        with subprocess.Popen(["sleep", "60"]) as child:
+            below = stats_below(os.getpid())
+            self.assertTrue({os.getpid(), child.pid} <= set(below))
+            self.assertEqual(set(stats_below(child.pid)), {child.pid})
+            child.kill()
+        self.assertGreater(seconds_with_children_in(below[os.getpid()]), 0)
 
 
 class Boxes(unittest.TestCase):

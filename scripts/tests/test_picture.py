@@ -80,6 +80,14 @@ class Pictures(unittest.TestCase):
         self.assertRegex(text, r'viewBox="0 0 480 \d+"')
         self.assertIn("prefers-color-scheme: dark", text)
 
+    def test_any_title_is_text(self):
+        text = svg([Panel(CUBE_POINTS, CUBE_FACES, [], "1 < 2 & 3")], view_from(EYES[0], UP))
+        self.assertIn(">1 &lt; 2 &amp; 3</text>", text)
+
+    def test_the_eye_may_stand_straight_above(self):
+        for axis in ((1, 0, 0), (0, 1, 0), (0, 0, 1)):
+            self.assertEqual(len(polygons(svg([CUBE], view_from(axis, axis)))), 1)
+
     def test_lines_are_thinner_where_there_are_many(self):
         def width(side):
             points = [(x, y, 0) for x in range(side) for y in range(side)]

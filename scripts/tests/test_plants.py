@@ -25,6 +25,10 @@ class Plants(unittest.TestCase):
             with self.subTest(file=file, old=old):
                 self.assertEqual((TOP / file).read_text(encoding="utf-8").count(old), 1)
 
+    def test_one_line_states_the_runs_of_boards(self):
+        text = (TOP / "crates/qh_tests_board/src/tests/board/runs.rt").read_text(encoding="utf-8")
+        self.assertEqual(text.count("\nconst RUNS: u32 = "), 1)
+
 
 if __name__ == "__main__":
     unittest.main()

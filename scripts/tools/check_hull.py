@@ -380,6 +380,8 @@ def points_of_file(path):
     count = words[1] if words[0] == 3 else words[0]
     if 3 not in words[:2] or len(words) != 2 + 3 * count:
         raise ValueError(f"{count} points are announced, and {len(words) - 2} numbers follow")
+    if not count:
+        raise ValueError("there is no point")
     return list(zip(words[2::3], words[3::3], words[4::3]))
 
 
@@ -396,6 +398,8 @@ def faces_of_file(path):
     found = [[int(word) for word in row[1 : int(row[0]) + 1]] for row in rows[points + 1 : points + faces + 1]]
     if not all(face and 0 <= min(face) and max(face) < points for face in found):
         raise ValueError(f"a face names no point of {points}")
+    if any(len(face) < int(row[0]) for face, row in zip(found, rows[points + 1 :])):
+        raise ValueError("a face has fewer corners than it announces")
     return Faces([tuple(map(number, row[:3])) for row in rows[1 : points + 1]], found)
 
 
@@ -403,7 +407,7 @@ def read(reader, path):
     """What a file has; a wrong one ends the script."""
     try:
         return reader(path)
-    except (OSError, ValueError, IndexError) as wrong:
+    except (OSError, ValueError, IndexError, ZeroDivisionError) as wrong:
         sys.exit(f"{path}: {wrong}")
 
 

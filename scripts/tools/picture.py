@@ -14,6 +14,7 @@ an OBJ mesh in the same units are drawn within. Faces that run clockwise, as Qhu
 """
 import argparse
 import functools
+import html
 import math
 import sys
 from collections import namedtuple
@@ -58,9 +59,7 @@ def unit(vector):
 
 def view_from(eye, up):
     """The view of someone who looks from a direction, with another direction upwards on the page."""
-    right = cross(up, eye)
-    if not any(right):
-        right = cross((0.0, 1.0, 0.0), eye)
+    right = next(filter(any, (cross(axis, eye) for axis in (up, (0.0, 1.0, 0.0), (1.0, 0.0, 0.0)))))
     eye, right = unit(eye), unit(right)
     return View(right, cross(eye, right), eye)
 
@@ -134,7 +133,7 @@ def shade(normal, hue, view):
 
 
 def stroke(edges):
-    """The width of a line where there are so many."""
+    """The width of the lines of a picture, by the number of its edges."""
     return max(0.15, min(1.6, 14 / math.sqrt(max(edges, 1))))
 
 
@@ -211,7 +210,7 @@ def svg(panels, view, size=SIZE, mesh=None):
     for number, panel in enumerate(panels):
         lines += drawn(panel, functools.partial(place, left=number * size), view, thick, mesh)
         if panel.title:
-            lines.append(f'<text class="title" x="{(number + 0.5) * size}" y="{below + 15}">{panel.title}</text>')
+            lines.append(f'<text class="title" x="{(number + 0.5) * size}" y="{below + 15}">{html.escape(panel.title)}</text>')
     return "\n".join([*lines, "</svg>", ""])
 
 
@@ -227,8 +226,10 @@ def mesh_of(path):
 
 
 def direction(words):
-    """Three numbers with commas between."""
+    """Three numbers with commas between, not all of them 0."""
     x, y, z = map(float, words.split(","))
+    if not any((x, y, z)):
+        raise ValueError("no direction")
     return (x, y, z)
 
 

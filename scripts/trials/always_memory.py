@@ -3,22 +3,22 @@
 
     scripts/trials/always_memory.py        from the top of the repository
 
-No clause can tell that a growth was refused, so but for inputs that are too long the contract lets this body through.
-A test ends at its first row that fails, so the script turns the rows round: in a copy of the repository each comparison
-of what `answer` gave with what it should give asks for a difference. There the tests run with no proof, and all must
-pass. A test that fails names a row that a program passes which always wants memory. Only the rows that ask for want of
-memory stay as they are: those of the gate that takes no hull.
+No clause can tell that a growth was refused, so the contract lets this body through for all inputs but those that are
+too long. A test ends at its first row that fails, so the script turns the rows round: in a copy of the repository each
+comparison of what `answer` gave with what it should give asks for a difference. There the tests run with no proof, and
+all must pass. A test that fails names a row that holds although `answer` is always out of memory. The rows that expect
+it to be out of memory stay as they are: those of the gate that takes no hull.
 
-It prints how many comparisons it turned round in each file; most rows share one. The status is 1 if such a row was found.
+It prints how many comparisons it turned round in each file; most rows share one. The status is 1 if a test failed.
 """
 import re
-import shutil
 import subprocess
 import sys
 import tempfile
 from pathlib import Path
 
 sys.path.insert(0, str(Path(__file__).resolve().parents[1]))
+from lib.copies import copy_crates, replace_once  # noqa: E402
 from lib.usage import names_given  # noqa: E402
 
 ANSWER = "crates/qh_serve/src/answers.rt"
@@ -55,13 +55,6 @@ TURNED = [
 ENDS = re.compile(r"^test (\S+) \.\.\. (\w+)$", re.MULTILINE)
 
 
-def replace_once(path, old, new):
-    text = path.read_text()
-    if text.count(old) != 1:
-        sys.exit(f"{path}: not once: {old!r}")
-    path.write_text(text.replace(old, new))
-
-
 def turn_round(path):
     """Turns the comparisons of a file round, and answers how many there were."""
     text, count = path.read_text(), 0
@@ -74,12 +67,10 @@ def turn_round(path):
 
 def plant(top):
     """Plants the body and turns the rows round in a copy, and answers how many comparisons there were."""
-    shutil.copytree("crates", top / "crates", symlinks=True, ignore=shutil.ignore_patterns("out"))
-    for name in ["crates.txt", "HANDLES"]:
-        shutil.copy(name, top / name)
-    replace_once(top / ANSWER, RIGHT_BODY, PLANTED_BODY)
-    replace_once(top / ROWS / "src/tests/serve/limits.rt", LONGEST, SHORT)
-    replace_once(top / WORKERS / "src/tests/gated.rt", WATCHED, ANSWER_ALONE)
+    copy_crates(top)
+    replace_once(top / ANSWER, [(RIGHT_BODY, PLANTED_BODY)])
+    replace_once(top / ROWS / "src/tests/serve/limits.rt", [(LONGEST, SHORT)])
+    replace_once(top / WORKERS / "src/tests/gated.rt", [(WATCHED, ANSWER_ALONE)])
     total = 0
     for path in [path for crate in (ROWS, WORKERS) for path in sorted((top / crate / "src/tests").rglob("*.rt"))]:
         count = turn_round(path)
@@ -109,9 +100,9 @@ def main():
     ends = [end for _, ends in runs for end in ends]
     passing = [name for name, end in ends if end != "ok"]
     if passing:
-        print("WRONG: rows of these tests pass where `answer` always wants memory:", *passing, said, sep="\n    ")
+        print("WRONG: rows of these tests hold where `answer` is always out of memory:", *passing, said, sep="\n    ")
     else:
-        print(f"ok: where `answer` always wants memory, none of {total} comparisons with what it should give holds")
+        print(f"ok: where `answer` is always out of memory, none of {total} comparisons with what it should give holds")
     sys.exit(1 if passing else 0)
 
 

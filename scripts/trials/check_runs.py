@@ -24,13 +24,12 @@ from pathlib import Path
 sys.path.insert(0, str(Path(__file__).resolve().parents[1]))
 from lib.file_oracle import points_of  # noqa: E402
 from lib.hull_oracle import hull_text  # noqa: E402
-from lib.paths import CHECKER  # noqa: E402
-from trials.refuse import EXAMPLES, WORKERS, build, is_refusal, run  # noqa: E402
+from lib.paths import CHECKER, built  # noqa: E402
+from trials.refuse import EXAMPLES, VARIABLES, WORKERS, build, is_refusal, run  # noqa: E402
 
 # The lines of runs out of memory: while points or faces were read, or elsewhere.
 WITHOUT_MEMORY = [b"the points: Memory", b"the faces: Memory", b"out of memory"]
 MEMORY = [(3, b"", b"hullcheck: " + line + b"\n") for line in WITHOUT_MEMORY]
-VARIABLES = ["REFUSE_GROWTH", "REFUSE_GROWTHS_FROM", "REFUSE_THREAD", "REFUSE_THREADS_FROM"]
 POINTS = "examples/unit-cube.txt"
 # Words, the status, and what standard output is.
 DEVICES = [
@@ -93,7 +92,7 @@ def sweep(command, faces, library, variable):
 
 def arguments():
     parser = argparse.ArgumentParser(description=__doc__, formatter_class=argparse.RawDescriptionHelpFormatter)
-    parser.add_argument("--checker", default=CHECKER, help=f"the built program (default {CHECKER})")
+    parser.add_argument("--checker", type=built, default=CHECKER, help=f"the built program (default {CHECKER})")
     parser.add_argument("--workers", type=int, choices=range(1, 65), metavar="N", help="this number of workers alone")
     return parser.parse_args()
 

@@ -24,7 +24,7 @@ from scipy.spatial import ConvexHull as TheirHull, QhullError
 
 sys.path.insert(0, str(Path(__file__).resolve().parents[1]))
 from lib import package  # noqa: E402,F401
-from lib.paths import BENCH, PROGRAM  # noqa: E402
+from lib.paths import BENCH, PROGRAM, built  # noqa: E402
 from qconvex import COORDINATE_LIMIT, ConvexHull  # noqa: E402
 
 sys.path.insert(0, str(BENCH))
@@ -119,7 +119,7 @@ def main():
     parser.add_argument("--small", type=int, default=1000, help="how many small sets")
     parser.add_argument("--large", type=int, default=20, help="how many large sets")
     parser.add_argument("--seed", type=int, default=1)
-    parser.add_argument("--program", default=PROGRAM)
+    parser.add_argument("--program", type=built, default=PROGRAM)
     given = parser.parse_args()
     rng, counts, wrong = np.random.default_rng(given.seed), Counter(), 0
     sets = [small_set(rng) for _ in range(given.small)] + [large_set(number, rng) for number in range(given.large)]

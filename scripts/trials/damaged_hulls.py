@@ -1,14 +1,18 @@
 #!/usr/bin/env python3
 """Damages right hulls, and shows that check_hull.py finds each damage and passes the right ones.
 
-    scripts/trials/damaged_hulls.py [--cases N] [--seed N] [--program PATH] [--qhull COMMAND] [--cgal PATH] [--checker PATH [--alone]]
+    scripts/trials/damaged_hulls.py [--cases N] [--seed N] [--program PATH] [--qhull COMMAND] [--cgal PATH]
+                                    [--checker PATH [--alone]]
 
 The right hulls are this program's, of the small sets of fuzz_hulls.py. Each damage makes a wrong hull of any right one:
 a face is lost, doubled, turned, joined with its neighbour, loses or changes a corner; a corner is moved; a point is
 forgotten or comes on; a corner is put within an edge or a face. Where Qhull is installed, its facets (options `o` and
 `Qt o`) of the same sets have to pass, too, if they are the right ones: if it names the same points for each facet as this
-program. With --cgal the triangles of CGAL's program (`bench/peers.py cgal`) have to pass. With --checker the program hullcheck has to say the same of each set that is not flat, of faces in any order and beginning at
-any corner; with --alone it is asked alone. It prints how many of each were tried, and each that came out otherwise; the status is then 1.
+program. With --cgal the triangles of CGAL's program (`bench/peers.py cgal`) have to pass. With --checker the program
+hullcheck has to say the same of each set that is not flat, of faces in any order and beginning at any corner; with
+--alone it is asked alone.
+
+It prints how many of each were tried, and each that came out otherwise; the status is then 1.
 """
 import argparse
 import random
@@ -23,7 +27,7 @@ from pathlib import Path
 sys.path.insert(0, str(Path(__file__).resolve().parents[1]))
 from lib import package  # noqa: E402,F401
 from lib.limits import COORDINATE_LIMIT  # noqa: E402
-from lib.paths import PROGRAM  # noqa: E402
+from lib.paths import PROGRAM, built  # noqa: E402
 from tools.check_hull import Checker, Wrong, check, span  # noqa: E402
 from trials.damages import DAMAGES, with_faces  # noqa: E402
 from trials.small_sets import small_set  # noqa: E402
@@ -161,7 +165,7 @@ def verdict_of_qhull(points, text):
 
 
 def passes(qhull, options, points):
-    """Whether Qhull's facets pass."""
+    """Returns true if Qhull's facets pass."""
     text = written([*qhull, *options.split()], points)
     return text is not None and verdict_of_qhull(points, text) is None
 
@@ -178,10 +182,10 @@ def arguments():
     parser = argparse.ArgumentParser(description=__doc__, formatter_class=argparse.RawDescriptionHelpFormatter)
     parser.add_argument("--cases", type=int, default=CASES, help=f"how many of each sort (default {CASES})")
     parser.add_argument("--seed", type=int, default=1, help="the seed of the sets (default 1)")
-    parser.add_argument("--program", default=PROGRAM, help="the built program")
+    parser.add_argument("--program", type=built, default=PROGRAM, help="the built program")
     parser.add_argument("--qhull", default="qhull", help="Qhull's program (default qhull)")
-    parser.add_argument("--cgal", help="the program that bench/peers.py builds")
-    parser.add_argument("--checker", help="the built hullcheck, to be asked, too")
+    parser.add_argument("--cgal", type=built, help="the program that bench/peers.py builds")
+    parser.add_argument("--checker", type=built, help="the built hullcheck, to be asked, too")
     parser.add_argument("--alone", action="store_true", help="asks hullcheck alone where it can be asked")
     return parser.parse_args()
 

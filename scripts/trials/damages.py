@@ -1,4 +1,4 @@
-"""Damages of hulls: each function takes points, their faces and a random source, and returns a wrong hull, or None if it can't."""
+"""Damages of hulls: each takes a random source, points and their faces, and returns a wrong hull, or None if it can't."""
 import sys
 from pathlib import Path
 

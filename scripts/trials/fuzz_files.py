@@ -3,18 +3,18 @@
 
     scripts/trials/fuzz_files.py [--off] [--cases N] [--seed N] [--program PATH] [--large]      from the top of the repository
 
-The reader is lib/file_oracle.py. The files are small valid ones, of every layout
-that a point file may have, whose bytes are inserted, deleted, flipped, exchanged and cut, and whose words are
-exchanged for words at every limit. About a third of the files comes on a pipe in one piece, a third from a file, and
-a third in pieces of random length on a packet pipe, where each read of the program gets just one piece. For a fault
-the program must write its line, and nothing else, and end with status 1; for points it must write the `rank Fx off`
-of their hull, as lib/hull_oracle.py has it, and end with status 0.
+The reader is lib/file_oracle.py. The files are small valid ones, of every layout that a point file may have, whose
+bytes are inserted, deleted, flipped, exchanged and cut, and whose words are exchanged for words at every limit. About
+a third of the files comes on a pipe in one piece, a third from a file, and a third in pieces of random length on a
+packet pipe, where each read of the program gets just one piece. For a fault the program must write its line, and
+nothing else, and end with status 1; for points it must write the `rank Fx off` of their hull, as lib/hull_oracle.py
+has it, and end with status 0.
 
 With --off the files are OFF files, with comments, with faces and with junk in their place, and the program reads them
 by `--from off`.
 
-With --large, five large inputs of point files come first: 2^20 points, a point more, 2^28 bytes, a byte more, and a byte more with a
-fault at the start. They take about a gigabyte of memory.
+With --large, five large point files come first: 2^20 points, a point more, 2^28 bytes, a byte more, and a byte more with
+a fault at the start. They take about a gigabyte of memory.
 
 It prints each difference with the file's bytes, and of the first ten also the fewest of its bytes that still make one;
 then how many files it tried, and how many had which fault. The status is 1 if there was a difference. The same seed
@@ -32,7 +32,7 @@ from pathlib import Path
 sys.path.insert(0, str(Path(__file__).resolve().parents[1]))
 from lib.file_oracle import BYTE_LIMIT, COUNT_LIMIT, Fault, off_points_of, points_of  # noqa: E402
 from lib.hull_oracle import hull_text  # noqa: E402
-from lib.paths import PROGRAM  # noqa: E402
+from lib.paths import PROGRAM, built  # noqa: E402
 from trials.mutated_files import OFF_WORDS, WORDS, mutated_file, valid_file, valid_off_file  # noqa: E402
 
 CASES = 100_000
@@ -144,7 +144,7 @@ def arguments():
     parser = argparse.ArgumentParser(description=__doc__, formatter_class=argparse.RawDescriptionHelpFormatter)
     parser.add_argument("--cases", type=int, default=CASES, help="how many files (default 100000)")
     parser.add_argument("--seed", type=int, default=1, help="the seed of the files (default 1)")
-    parser.add_argument("--program", default=PROGRAM, help=f"the built program (default {PROGRAM})")
+    parser.add_argument("--program", type=built, default=PROGRAM, help=f"the built program (default {PROGRAM})")
     parser.add_argument("--off", action="store_true", help="OFF files in place of point files")
     parser.add_argument("--large", action="store_true", help="the five large inputs first")
     return parser.parse_args()

@@ -21,7 +21,7 @@ from pathlib import Path
 
 sys.path.insert(0, str(Path(__file__).resolve().parents[1]))
 from lib.hull_oracle import file_of, hull_text  # noqa: E402
-from lib.paths import PROGRAM  # noqa: E402
+from lib.paths import PROGRAM, built  # noqa: E402
 from trials.small_sets import small_set  # noqa: E402
 
 CASES = 100_000
@@ -42,7 +42,7 @@ def arguments():
     parser = argparse.ArgumentParser(description=__doc__, formatter_class=argparse.RawDescriptionHelpFormatter)
     parser.add_argument("--cases", type=int, default=CASES, help="how many sets (default 100000)")
     parser.add_argument("--seed", type=int, default=1, help="the seed of the sets (default 1)")
-    parser.add_argument("--program", default=PROGRAM, help=f"the built program (default {PROGRAM})")
+    parser.add_argument("--program", type=built, default=PROGRAM, help=f"the built program (default {PROGRAM})")
     return parser.parse_args()
 
 

@@ -3,11 +3,12 @@
 
     scripts/trials/fuzz_parts.py [--cases N] [--seed N] [--program PATH]      from the top of the repository
 
-The program is `crates/part_ways`, which `cd crates/part_ways && rt run < /dev/null` builds. It cuts each set into 2 to 16 parts, however
-small it is, and says whether the hull of the parts, all joined at their seams, came out, and whether it is that of one
-thread: in dimension, extreme ids, faces and edges. It says the same of the parts that are joined where that seems to pay.
-The sets are those of fuzz_hulls.py, and larger ones: lattices, repeats, planes and lines with few points off them, cones,
-prisms, shells of lattice points, paraboloids and curves, moved and turned at random, most with points in many common planes.
+The program is `crates/part_ways`, which `cd crates/part_ways && rt run < /dev/null` builds. It cuts each set into 2 to
+16 parts, however small it is, and says whether the hull of the parts, all joined at their seams, came out, and whether
+it is that of one thread: in dimension, extreme ids, faces and edges. It says the same of the parts that are joined
+where that seems to pay. The sets are those of fuzz_hulls.py, and larger ones: lattices, repeats, planes and lines with
+few points off them, cones, prisms, shells of lattice points, paraboloids and curves, moved and turned at random, most
+with points in many common planes.
 
 It prints each difference with the number of parts and the file's bytes, then of each family how many sets were tried, and
 of how many the joined hull came out. The status is 1 if there was a difference. The same seed gives the same sets.
@@ -22,7 +23,7 @@ from pathlib import Path
 
 sys.path.insert(0, str(Path(__file__).resolve().parents[1]))
 from lib.hull_oracle import file_of  # noqa: E402
-from lib.paths import PART_WAYS  # noqa: E402
+from lib.paths import PART_WAYS, built  # noqa: E402
 from trials.small_sets import combined, in_range, sheared, small_set, small_vector  # noqa: E402
 
 CASES = 100_000
@@ -183,7 +184,7 @@ def asked(program, tasks):
 
 
 def try_sets(program, rng, cases, families, joined):
-    """Tries so many sets, counts those of each family, and those joined; the number of differences, which it prints."""
+    """Tries `cases` sets, and counts those of each family and those joined. Prints the differences and returns their number."""
     differences = 0
     while families.total() < cases:
         sets = [some_set(rng) for _ in range(min(TOGETHER, cases - families.total()))]
@@ -205,7 +206,7 @@ def main():
     parser = argparse.ArgumentParser(description=__doc__, formatter_class=argparse.RawDescriptionHelpFormatter)
     parser.add_argument("--cases", type=int, default=CASES, help="how many sets (default 100000)")
     parser.add_argument("--seed", type=int, default=1, help="the seed of the sets (default 1)")
-    parser.add_argument("--program", default=PART_WAYS, help=f"the built program (default {PART_WAYS})")
+    parser.add_argument("--program", type=built, default=PART_WAYS, help=f"the built program (default {PART_WAYS})")
     options = parser.parse_args()
     families, joined = Counter(), Counter()
     differences = try_sets(options.program, random.Random(options.seed), options.cases, families, joined)

@@ -5,8 +5,8 @@
 
 The program is `crates/read_ways`, which `cd crates/read_ways && rt run < /dev/null` builds. It reads each file by
 `read_form` and three times by `read_form_sizes`, each time in other sizes, and says where they differ. The independent
-reader is lib/file_oracle.py and the mutations are those of fuzz_files.py; the files are longer, of up to 60 points, so that segments have
-points to tell. Half of them are OFF files.
+reader is lib/file_oracle.py and the mutations are those of fuzz_files.py; the files are longer, of up to 60 points, so
+that each thread reads some points. Half of them are OFF files.
 
 It prints each difference with the file's bytes, then how many files it tried, and how many had which fault. The status
 is 1 if there was a difference. The same seed gives the same files.
@@ -20,7 +20,7 @@ from pathlib import Path
 
 sys.path.insert(0, str(Path(__file__).resolve().parents[1]))
 from lib.file_oracle import Fault, off_points_of, points_of  # noqa: E402
-from lib.paths import READ_WAYS as PROGRAM  # noqa: E402
+from lib.paths import READ_WAYS as PROGRAM, built  # noqa: E402
 from trials.mutated_files import MUTATIONS, OFF_WORDS, WORDS, gap, off_gap, some_faces, spelling  # noqa: E402
 
 CASES = 100_000
@@ -84,7 +84,7 @@ def main():
     parser = argparse.ArgumentParser(description=__doc__, formatter_class=argparse.RawDescriptionHelpFormatter)
     parser.add_argument("--cases", type=int, default=CASES, help="how many files (default 100000)")
     parser.add_argument("--seed", type=int, default=1, help="the seed of the files (default 1)")
-    parser.add_argument("--program", default=PROGRAM, help=f"the built program (default {PROGRAM})")
+    parser.add_argument("--program", type=built, default=PROGRAM, help=f"the built program (default {PROGRAM})")
     options = parser.parse_args()
     sys.set_int_max_str_digits(0)
     WORDS.extend(OFF_WORDS)

@@ -1,7 +1,10 @@
 #!/bin/sh
 # Gives the built program inputs and devices that are hostile, and says how it ended: its exit status, what stands on
-# standard output, and the line on standard error. By hand. A C compiler builds the
-# library that refuses growths. The status is 1 if one was wrong.
+# standard output, and the line on standard error.
+#
+#     scripts/trials/hostile.sh        from anywhere
+#
+# A C compiler builds the library that refuses growths. The status is 1 if an answer was wrong.
 set -u
 . "$(dirname "$0")/../lib/paths.sh"
 work=$(mktemp -d)
@@ -23,7 +26,7 @@ ends() {
     fi
 }
 
-# A text, then blanks, so many bytes in all.
+# padded TEXT BYTES: a text, then blanks up to this number of bytes.
 padded() {
     printf '%s' "$1"
     head -c $(($2 - ${#1})) /dev/zero | tr '\0' ' '

@@ -1,6 +1,9 @@
 #!/bin/sh
 # Installs the program and the library for C into a folder of its own, uses them as they stand there, and removes them.
-# By hand, where both were built; CMake and pkg-config are tried where they are there.
+#
+#     scripts/trials/installed.sh        from anywhere, after both were built
+#
+# CMake and pkg-config are tried where they are installed. The status is 1 if something was wrong.
 set -eu
 . "$(dirname "$0")/../lib/paths.sh"
 room=$(mktemp -d)

@@ -1,6 +1,9 @@
 #!/bin/sh
-# Builds the library for C and runs all its tests: in C, in Python, and the programs of README. Run by hand. KIT is the folder
-# of the Rattle kit, needed only if `rt doc` doesn't name it.
+# Builds the library for C and runs all its tests: in C, in Python, and the programs of README.
+#
+#     scripts/trials/library.sh        from anywhere
+#
+# KIT is the folder of the Rattle kit, needed only if `rt doc` doesn't name it.
 set -eu
 . "$(dirname "$0")/../lib/paths.sh"
 make -s -C c test

@@ -13,7 +13,6 @@ is 1 if a text differed. The inputs are seeded, so a difference can be made agai
 lets it.
 """
 import random
-import shutil
 import subprocess
 import sys
 import tempfile
@@ -21,7 +20,8 @@ from concurrent.futures import ThreadPoolExecutor
 from pathlib import Path
 
 sys.path.insert(0, str(Path(__file__).resolve().parents[1]))
-from lib.paths import PROGRAM  # noqa: E402
+from lib.copies import copy_crates, replace_once  # noqa: E402
+from lib.paths import PROGRAM, built  # noqa: E402
 from lib.usage import names_given  # noqa: E402
 
 OUTPUTS = ["rank", "s", "Fx", "off", "offt"]
@@ -60,14 +60,8 @@ def run(case):
 
 def program_that_tells_roots(top):
     """Builds the program that answers Memory where the board has no root, in a copy of the repository."""
-    shutil.copytree("crates", top / "crates", symlinks=True, ignore=shutil.ignore_patterns("out"))
-    for name in ["crates.txt", "HANDLES"]:
-        shutil.copy(name, top / name)
-    right, planted = WITHOUT_ROOT
-    text = (top / RUN).read_text()
-    if text.count(right) != 1:
-        sys.exit(f"{RUN}: not once: {right!r}")
-    (top / RUN).write_text(text.replace(right, planted))
+    copy_crates(top)
+    replace_once(top / RUN, [WITHOUT_ROOT])
     folder = top / "crates/qconvex"
     subprocess.run(["rt", "run", "--", "rank"], cwd=folder, input=b"3\n1\n5 5 5\n", check=True, stdout=subprocess.DEVNULL)
     return str(folder / "out/qconvex")
@@ -87,6 +81,7 @@ def cases(rng, runs):
 
 def main():
     runs = int([*names_given(__doc__), RUNS][0])
+    built(PROGRAM)
     made, inputs, differences, roots = 0, 0, 0, 0
     with tempfile.TemporaryDirectory() as folder, ThreadPoolExecutor(max_workers=2) as pool:
         telling = program_that_tells_roots(Path(folder))

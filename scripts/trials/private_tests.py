@@ -15,7 +15,8 @@ import tempfile
 from pathlib import Path
 
 sys.path.insert(0, str(Path(__file__).resolve().parents[1]))
-from lib.usage import names_given  # noqa: E402
+from lib.copies import copy_crates  # noqa: E402
+from lib.usage import known, names_given  # noqa: E402
 
 STORE = Path("scripts/trials/private_tests")
 SECONDS = 600
@@ -54,12 +55,10 @@ def passes(top, crate):
 
 
 def main():
-    crates = names_given(__doc__) or crates_with_tests()
+    crates = known(names_given(__doc__), crates_with_tests()) or crates_with_tests()
     with tempfile.TemporaryDirectory() as folder:
         top = Path(folder)
-        shutil.copytree("crates", top / "crates", symlinks=True, ignore=shutil.ignore_patterns("out"))
-        for name in ["crates.txt", "HANDLES"]:
-            shutil.copy(name, top / name)
+        copy_crates(top)
         for crate in crates:
             put_in(top, crate)
         failed = [crate for crate in crates if not passes(top, crate)]

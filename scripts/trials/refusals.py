@@ -21,7 +21,7 @@ from collections import Counter
 from pathlib import Path
 
 sys.path.insert(0, str(Path(__file__).resolve().parents[1]))
-from lib.usage import names_given  # noqa: E402
+from lib.usage import known, names_given  # noqa: E402
 from trials.refuse import build, is_refusal, run  # noqa: E402
 
 
@@ -72,6 +72,9 @@ def try_crate(crate, library):
     """How the runs of a crate's refusal tests ended."""
     totals = Counter()
     program, tests = tests_of(crate)
+    if not tests:
+        print(f"WRONG: {crate} has no test of a module `refusals`", flush=True)
+        totals["WRONG"] += 1
     for test in tests:
         growths, threads = [sweep(program, test, library, variable) for variable in VARIABLES]
         if test.endswith(MAY_FAIL) and not growths["passed"]:
@@ -85,9 +88,10 @@ def try_crate(crate, library):
 
 def main():
     totals = Counter()
+    crates = known(names_given(__doc__), crates_with_tests()) or crates_with_tests()
     with tempfile.TemporaryDirectory() as folder:
         library = build(folder)
-        for crate in names_given(__doc__) or crates_with_tests():
+        for crate in crates:
             totals += try_crate(crate, library)
     print(f"{sum(totals.values())} refusals tried: {totals['passed']} passed, {totals['failed']} failed as they may, ", end="")
     print(f"{totals['WRONG']} WRONG")

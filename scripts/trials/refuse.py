@@ -27,7 +27,7 @@ from pathlib import Path
 sys.path.insert(0, str(Path(__file__).resolve().parents[1]))
 from lib import package  # noqa: E402,F401
 from lib.hull_oracle import file_of, hull_text  # noqa: E402
-from lib.paths import PROGRAM, TOP  # noqa: E402
+from lib.paths import PROGRAM, TOP, built  # noqa: E402
 from qconvex.commands.point_files import points_of_file  # noqa: E402
 
 
@@ -137,9 +137,9 @@ def step_of(command, data, library, wanted):
 
 def arguments():
     parser = argparse.ArgumentParser(description=__doc__, formatter_class=argparse.RawDescriptionHelpFormatter)
-    parser.add_argument("--program", default=PROGRAM, help=f"the built program (default {PROGRAM})")
+    parser.add_argument("--program", type=built, default=PROGRAM, help=f"the built program (default {PROGRAM})")
     parser.add_argument("--only", choices=[*EXAMPLES, MANY], help="this input alone")
-    parser.add_argument("--workers", type=int, choices=range(1, 65), metavar="N", help="so many workers alone")
+    parser.add_argument("--workers", type=int, choices=range(1, 65), metavar="N", help="this number of workers alone")
     parser.add_argument("--step", type=int, default=0, help=f"the step of the sweeps over {MANY}")
     return parser.parse_args()
 

@@ -18,7 +18,8 @@ import tempfile
 from pathlib import Path
 
 sys.path.insert(0, str(Path(__file__).resolve().parents[1]))
-from lib.usage import names_given  # noqa: E402
+from lib.copies import copy_crates, replace_once  # noqa: E402
+from lib.usage import known, names_given  # noqa: E402
 
 PASSES = "crates/qh_run/src/passes.rt"
 RUN = "crates/qh_run/src/run.rt"
@@ -75,6 +76,7 @@ BODIES = [
 ]
 
 # A body that tests each triple of the ids against all ids, and takes the hull only then.
+ALL_TRIPLES_NAME = "filters-all-triples"
 ALL_TRIPLES = (
     HULLS,
     [
@@ -133,23 +135,9 @@ def failures(said):
     return lines or said.splitlines()[-3:]
 
 
-def plant(path, edits):
-    """Makes the edits in a file. Returns the text before."""
-    right = path.read_text()
-    wrong = right
-    for old, new in edits:
-        if wrong.count(old) != 1:
-            sys.exit(f"{path}: not once: {old!r}")
-        wrong = wrong.replace(old, new)
-    path.write_text(wrong)
-    return right
-
-
 def copied(top, modules):
     """Copies the crates, with these modules alone of the tests of workers."""
-    shutil.copytree("crates", top / "crates", symlinks=True, ignore=shutil.ignore_patterns("out"))
-    for name in ["crates.txt", "HANDLES"]:
-        shutil.copy(name, top / name)
+    copy_crates(top)
     keep_modules((top / TESTS).with_suffix(".rt"), modules)
 
 
@@ -170,7 +158,7 @@ def try_bodies(modules, seconds, bodies):
         said, passes = tests_of(top, seconds)
         wrong = tell("the right bodies", passes, said, True)
         for name, file, edits in bodies:
-            right = plant(top / file, edits)
+            right = replace_once(top / file, edits)
             said, passes = tests_of(top, seconds)
             (top / file).write_text(right)
             wrong += tell(name, passes, said, False)
@@ -178,9 +166,9 @@ def try_bodies(modules, seconds, bodies):
 
 
 def main():
-    names = names_given(__doc__)
+    names = known(names_given(__doc__), [*(body[0] for body in BODIES), ALL_TRIPLES_NAME])
     watched = [body for body in BODIES if not names or body[0] in names]
-    timed = [("filters-all-triples", *ALL_TRIPLES)] if not names or "filters-all-triples" in names else []
+    timed = [(ALL_TRIPLES_NAME, *ALL_TRIPLES)] if not names or ALL_TRIPLES_NAME in names else []
     wrong = try_bodies(WATCHING, 1200, watched) if watched else 0
     wrong += try_bodies(TIMED, TIME_LIMIT, timed) if timed else 0
     sys.exit(1 if wrong else 0)
