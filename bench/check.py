@@ -19,7 +19,7 @@ from pathlib import Path
 
 BENCH = Path(__file__).resolve().parent
 sys.path.insert(0, str(BENCH.parent / "scripts"))
-from lib.paths import CHECKER, PROGRAM  # noqa: E402
+from lib.paths import CHECKER, PROGRAM, built  # noqa: E402
 
 
 def cpu_time(command, source=None):
@@ -61,10 +61,10 @@ def row(given, family, count, folder):
 
 
 def main():
-    parser = argparse.ArgumentParser(description=__doc__.split("\n\n", maxsplit=1)[0])
-    parser.add_argument("--ours", default=PROGRAM)
-    parser.add_argument("--checker", default=CHECKER)
-    parser.add_argument("--peer", help="qhull, where it is not in PATH; Debian installs it as qhull")
+    parser = argparse.ArgumentParser(description=__doc__, formatter_class=argparse.RawDescriptionHelpFormatter)
+    parser.add_argument("--ours", type=built, default=PROGRAM)
+    parser.add_argument("--checker", type=built, default=CHECKER)
+    parser.add_argument("--peer", help="Qhull's program, where it is not found as qhull")
     parser.add_argument("--families", default="sphere,cube")
     parser.add_argument("--counts", default="100000")
     parser.add_argument("--rounds", type=int, default=3)

@@ -1,8 +1,8 @@
 #!/usr/bin/env python3
 """Compares this program with others over seeded inputs: CPU time, wall time and peak memory.
 
-All programs read the same file from standard input, in turn, within one run; the best of the rounds
-counts. It prints the numbers and their ratios to those of this program's peer, and nothing is asserted.
+All programs read the same file from standard input, in turn, within one run; the best of the rounds counts. A row has the
+numbers of a program, the ratio of this program's CPU time to its own, and its exit status. Nothing is asserted.
 
     bench/compare.py --ours crates/qconvex/out/qconvex --words rank --peer '/usr/bin/qconvex s' cube 1048576
 
@@ -16,10 +16,10 @@ import sys
 import tempfile
 import time
 
-FAMILIES = ["ball", "cube", "cube-surface", "flat", "grid", "line", "paraboloid", "paraboloid-in-rows", "sphere"]
+from points import FAMILIES
 
 sys.path.insert(0, os.path.join(os.path.dirname(os.path.dirname(os.path.abspath(__file__))), "scripts"))
-from lib.paths import PROGRAM  # noqa: E402
+from lib.paths import PROGRAM, built  # noqa: E402
 
 POINTS = os.path.join(os.path.dirname(os.path.abspath(__file__)), "points.py")
 # Seconds by which runs of one program differ. One on 100,000 points of a grid takes five milliseconds.
@@ -51,12 +51,12 @@ def best_in_turn(commands, path, rounds):
 
 
 def main():
-    parser = argparse.ArgumentParser(description=__doc__.splitlines()[0])
-    parser.add_argument("--ours", default=PROGRAM, help="this program")
+    parser = argparse.ArgumentParser(description=__doc__, formatter_class=argparse.RawDescriptionHelpFormatter)
+    parser.add_argument("--ours", type=built, default=PROGRAM, help="this program")
     parser.add_argument("--words", default="s", help="the words that it is given")
     parser.add_argument("--peer", action="append", help="a command to compare with; may be repeated")
     parser.add_argument("--rounds", type=int, default=3)
-    parser.add_argument("family", choices=FAMILIES)
+    parser.add_argument("family", choices=sorted(FAMILIES))
     parser.add_argument("count", type=int)
     given = parser.parse_args()
     commands = [[given.ours] + shlex.split(given.words)] + [shlex.split(p) for p in given.peer or []]

@@ -35,6 +35,7 @@ def main():
     parser = argparse.ArgumentParser(description=__doc__, formatter_class=argparse.RawDescriptionHelpFormatter)
     parser.add_argument("--rounds", type=int, default=5)
     rounds = parser.parse_args().rounds
+    compare.built(compare.PROGRAM)
     print("| " + " | ".join(HEAD) + " |\n|" + "---|" * len(HEAD))
     for count in COUNTS:
         row = ["%d" % count] + [cell for family in FAMILIES for cell in cells(family, count, rounds)]

@@ -20,8 +20,10 @@ SOLID = ["cube", "ball", "sphere", "paraboloid", "grid", "cube-surface"]
 
 
 def extremes(command, path):
-    """The number of extreme points that a program finds: the first number that it prints, which of
-    programs named qconvex is that of `Fx`."""
+    """The number of extreme points that a program finds: the first number that it prints.
+
+    A program named qconvex, which may be Qhull's, is asked for `Fx`.
+    """
     if "qconvex" in os.path.basename(command[0]):
         command = [command[0], "Fx"]
     with open(path, "rb") as source, tempfile.TemporaryFile() as text:
@@ -43,8 +45,8 @@ def row(given, family, count, path):
 
 
 def main():
-    parser = argparse.ArgumentParser(description=__doc__.splitlines()[0])
-    parser.add_argument("--ours", default=compare.PROGRAM, help="this program")
+    parser = argparse.ArgumentParser(description=__doc__, formatter_class=argparse.RawDescriptionHelpFormatter)
+    parser.add_argument("--ours", type=compare.built, default=compare.PROGRAM, help="this program")
     parser.add_argument("--words", default="s", help="the words that it is given")
     parser.add_argument("--peer", action="append", help="a command to compare with; may be repeated")
     parser.add_argument("--counts", default="10000,100000,1000000")

@@ -40,9 +40,9 @@ def row(given, outs, path, folder):
 
 
 def main():
-    parser = argparse.ArgumentParser(description=__doc__.splitlines()[0])
-    parser.add_argument("--ours", default=compare.PROGRAM, help="this program")
-    parser.add_argument("--other", help="an older build of it")
+    parser = argparse.ArgumentParser(description=__doc__, formatter_class=argparse.RawDescriptionHelpFormatter)
+    parser.add_argument("--ours", type=compare.built, default=compare.PROGRAM, help="this program")
+    parser.add_argument("--other", type=compare.built, help="an older build of it")
     parser.add_argument("--counts", default="100000")
     parser.add_argument("--families", default="sphere,paraboloid,paraboloid-in-rows")
     parser.add_argument("--outs", default="s", help="the outputs")

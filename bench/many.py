@@ -1,13 +1,13 @@
 #!/usr/bin/env python3
 """More points than one call takes: hullmany beside Qhull, and `qconvex.dask.extremes` in bounded memory.
 
-    bench/many.py [--rounds N] file COUNT      a point file of a ball: hullmany with one job and four, Qhull, and Dask here
-    bench/many.py dask COUNT [--kill]          a ball made chunk by chunk on two workers of one thread each
+    bench/many.py [--rounds N] [--qhull PROGRAM] file COUNT     a point file of a ball: hullmany, Qhull, and Dask here
+    bench/many.py dask COUNT [--kill]                           a ball made chunk by chunk, by two workers with a thread each
 
-`file` prints the best CPU and wall seconds of each command, and whether all have the same extreme points. `dask` prints the
-wall time, and of each worker the CPU time and the most memory that it had; with --kill one worker is killed after five
-seconds, and the answer is compared with that of a run by itself. Needs numpy and dask, and the library of `make -C c`.
-Nothing is asserted.
+`file` prints the best CPU and wall seconds and the memory of each command, and whether all have the same extreme points;
+hullmany runs with one job and with four. `dask` prints the wall time, and of each worker the CPU time and the most
+memory that it had; with --kill one worker is killed after five seconds, and the answer is compared with that of a run
+without --kill. Needs numpy and dask, and the library of `make -C c`. Nothing is asserted.
 """
 import argparse
 import os
@@ -64,8 +64,9 @@ def of_file(given):
         writing = [sys.executable, __file__, "write", str(given.count), path]
         subprocess.run(writing, check=True)  # by a process of its own: the peak memory of a child begins at its parent's
         hullmany = [sys.executable, HULLMANY, "--quiet"]
+        qhull = f"{given.qhull} s"
         commands = {
-            f"{given.qhull} s": [given.qhull, "s"],
+            qhull: [given.qhull, "s"],
             "hullmany --jobs 1 Fx": [*hullmany, "--jobs", "1", "Fx"],
             "hullmany --jobs 4 Fx": [*hullmany, "--jobs", "4", "Fx"],
             "qconvex.dask.extremes, four threads": [sys.executable, "-c", BY_DASK, path],
@@ -77,7 +78,7 @@ def of_file(given):
         for name, rows in results.items():
             cpu, wall, memory, status = compare.best(rows)
             print(f"| {name} | {cpu:.1f} | {wall:.1f} | {memory:.0f} | status {status}")
-        answers = [extremes_of(command if name[0] != "/" else [given.qhull, "Fx"], path) for name, command in commands.items()]
+        answers = [extremes_of(command, path) for command in {**commands, qhull: [given.qhull, "Fx"]}.values()]
         print(len(answers[0]) - 1, "extreme,", "the same" if answers.count(answers[0]) == len(answers) else "DIFFERENT")
 
 
@@ -101,11 +102,13 @@ def by_dask(count, kill):
         shape = da.zeros((count, 3), chunks=(CHUNK, 3), dtype=np.int8)
         victim = next(iter(client.run(os.getpid).values()))
         print("at the start", *("%.1f s CPU, %.0f MB" % numbers for numbers in client.run(used).values()), sep="; ")
+        killer = threading.Timer(5, os.kill, (victim, signal.SIGKILL))
         if kill:
-            threading.Timer(5, os.kill, (victim, signal.SIGKILL)).start()
+            killer.start()
         start = time.monotonic()
         found = extremes(shape.map_blocks(chunk_of_ball, dtype=np.int32), client)
         print(f"{count} points, {len(found.indices)} extreme, {time.monotonic() - start:.0f} s")
+        killer.cancel()
         client.wait_for_workers(2)
         print("at the end", *("%.1f s CPU, %.0f MB" % numbers for numbers in client.run(used).values()), sep="; ")
         print("a worker was killed" if victim not in client.run(os.getpid).values() else "no worker was killed")

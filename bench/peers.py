@@ -1,15 +1,20 @@
 #!/usr/bin/env python3
-"""Builds the peers that are libraries into small programs: each reads a point file and prints the numbers of
-vertices and faces of its hull. CGAL's writes the hull as OFF text where it is run with a word, as `off`.
+"""Builds the peers that are libraries into small programs: each reads a point file and prints the numbers of vertices and faces.
 
-    bench/peers.py cgal PROGRAM      CGAL's convex_hull_3 with its exact-predicates kernel (Debian's libcgal-dev)
+    bench/peers.py cgal PROGRAM          CGAL's convex_hull_3 with its exact-predicates kernel (Debian's libcgal-dev)
     bench/peers.py cgal-plain PROGRAM    the same over plain doubles, whose predicates are rounded
-    bench/peers.py bullet PROGRAM    Bullet's btConvexHullComputer (Debian's libbullet-dev)
+    bench/peers.py bullet PROGRAM        Bullet's btConvexHullComputer (Debian's libbullet-dev)
+
+CGAL's program writes the hull as OFF text if it is run with a word, such as `off`.
 """
 import os
 import subprocess
 import sys
 import tempfile
+from pathlib import Path
+
+sys.path.insert(0, str(Path(__file__).resolve().parents[1] / "scripts"))
+from lib.usage import names_given  # noqa: E402
 
 # Reads the points of standard input and calls `add(x, y, z)` for each.
 READ = r"""
@@ -95,8 +100,11 @@ PEERS = {
 
 
 def main():
-    source, flags, libraries = PEERS[sys.argv[1]]
-    target = os.path.abspath(sys.argv[2])
+    names = names_given(__doc__)
+    if len(names) != 2 or names[0] not in PEERS:
+        sys.exit(f"name a peer, which is one of {', '.join(PEERS)}, and the program to build")
+    source, flags, libraries = PEERS[names[0]]
+    target = os.path.abspath(names[1])
     with tempfile.TemporaryDirectory() as folder:
         path = os.path.join(folder, "hull.cpp")
         with open(path, "w", encoding="ascii") as out:

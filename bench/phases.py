@@ -77,8 +77,8 @@ def number_sorts(command, folder):
 
 
 def main():
-    parser = argparse.ArgumentParser(description=__doc__.splitlines()[0])
-    parser.add_argument("--ours", default=compare.PROGRAM, help="this program")
+    parser = argparse.ArgumentParser(description=__doc__, formatter_class=argparse.RawDescriptionHelpFormatter)
+    parser.add_argument("--ours", type=compare.built, default=compare.PROGRAM, help="this program")
     parser.add_argument("--words", default="s", help="the words that it is given")
     parser.add_argument("--count", type=int, default=1000000)
     parser.add_argument("--families", default="cube,ball,cube-surface,grid,sphere,paraboloid,flat,line")

@@ -1,3 +1,4 @@
+#!/usr/bin/env python3
 """Seeded point files of the families that the benchmarks use.
 
     bench/points.py cube 1048576 > points.txt
@@ -5,6 +6,10 @@
 import math
 import random
 import sys
+from pathlib import Path
+
+sys.path.insert(0, str(Path(__file__).resolve().parents[1] / "scripts"))
+from lib.usage import names_given  # noqa: E402
 
 # The families go to this size either way, whatever the limit of the program: times stay comparable.
 SIZE = 1 << 20
@@ -95,7 +100,10 @@ FAMILIES = {
 
 
 def main():
-    family, count = sys.argv[1], int(sys.argv[2])
+    names = names_given(f"{__doc__.strip()}\n\nThe families are {', '.join(FAMILIES)}.")
+    if len(names) != 2 or names[0] not in FAMILIES:
+        sys.exit("name a family and a number of points; --help lists the families")
+    family, count = names[0], int(names[1])
     points = FAMILIES[family](random.Random(1), count)
     sys.stdout.write("3\n%d\n" % len(points))
     sys.stdout.writelines("%d %d %d\n" % p for p in points)

@@ -4,10 +4,10 @@
     bench/python.py [--counts 1000,10000,100000,1000000] [--families cube,ball,sphere] [--rounds N]
 
 Each row is one seeded set of points (`points.py`), which lies in memory as both want it: int32 for this module, float64
-for scipy. Both make the hull in turn, round after round, at least N times and sets of few points so often that they come to
-200,000 points; the best CPU time of each counts. scipy's constructor computes
-the triangles, their neighbours and equations, the area and the volume, so the second column of this module's times is
-with all of these. Needs numpy, scipy and the library of `make -C c`. Nothing is asserted.
+for scipy. Both make the hull in turn, round after round, at least N times, and of few points often enough for 200,000
+points together; the best CPU time of each counts. scipy's constructor computes the triangles, their neighbours and
+equations, the area and the volume, so the second column of this module's times is with all of these. Needs numpy,
+scipy and the library of `make -C c`. Nothing is asserted.
 """
 import argparse
 import random
@@ -30,10 +30,6 @@ def hull_with_all(points):
     return hull, (hull.simplices, hull.neighbors, hull.equations, hull.area, hull.volume)
 
 
-def best(times):
-    return min(times)
-
-
 def timed(work, points, times):
     """The result of some work, and its CPU time noted."""
     start = time.process_time()
@@ -53,13 +49,13 @@ def row(family, count, rounds):
         other = timed(TheirHull, decimal, theirs)
     same = set(map(tuple, whole[hull.vertices].tolist())) == set(map(tuple, whole[other.vertices].tolist()))
     cells = [family, str(count), str(len(hull.vertices)), "yes" if same else "NO"]
-    cells += ["%.5f" % best(times) for times in (bare, full, theirs)]
-    cells += ["%.1f" % (best(theirs) / best(times)) for times in (bare, full)]
+    cells += ["%.5f" % min(times) for times in (bare, full, theirs)]
+    cells += ["%.1f" % (min(theirs) / min(times)) for times in (bare, full)]
     return "| " + " | ".join(cells) + " |"
 
 
 def main():
-    parser = argparse.ArgumentParser(description=__doc__.splitlines()[0])
+    parser = argparse.ArgumentParser(description=__doc__, formatter_class=argparse.RawDescriptionHelpFormatter)
     parser.add_argument("--counts", default="1000,10000,100000,1000000")
     parser.add_argument("--families", default="cube,ball,sphere")
     parser.add_argument("--rounds", type=int, default=3)

@@ -74,8 +74,8 @@ def row(family, count, name, ours, cpu, goal):
 
 
 def main():
-    parser = argparse.ArgumentParser(description=__doc__.splitlines()[0])
-    parser.add_argument("--ours", default=compare.PROGRAM, help="this program")
+    parser = argparse.ArgumentParser(description=__doc__, formatter_class=argparse.RawDescriptionHelpFormatter)
+    parser.add_argument("--ours", type=compare.built, default=compare.PROGRAM, help="this program")
     for name in ["qhull", "cgal", "bullet"]:
         parser.add_argument("--" + name, help="the command of this peer")
     parser.add_argument("--rounds", type=int, default=3)

@@ -1,16 +1,22 @@
 #!/usr/bin/env python3
 """Times replacements of qh_mesh against the same steps in C++ with no proof.
 
-    bench/replace.py        from the top of the repository
+    bench/replace.py        from anywhere
 
-It copies the crates and what their last checks kept to a folder of its own, proves and builds there a program that puts
-one cone of three facets in the place of another, ten million times, builds the same in C++ (g++ -O3), runs both in turn,
-and prints the best CPU time of each a replaced facet, and their ratio.
+It copies the crates and what their last checks kept to a folder of its own. There it proves and builds a program that
+puts one cone of three facets in the place of another, ten million times, and builds the same in C++ (g++ -O3). It runs
+both in turn, and prints the least CPU time that each takes for a facet, and their ratio.
 """
 import os
 import shutil
 import subprocess
+import sys
 import tempfile
+from pathlib import Path
+
+sys.path.insert(0, str(Path(__file__).resolve().parents[1] / "scripts"))
+from lib.paths import TOP  # noqa: E402
+from lib.usage import names_given  # noqa: E402
 
 CRATES = "qh_model:\nqh_pred: qh_model\nqh_mesh: qh_model qh_pred\nreplacing: qh_model qh_pred qh_mesh\n"
 COPIED = ["qh_model", "qh_pred", "qh_mesh"]
@@ -232,9 +238,9 @@ def seconds(program):
 
 
 def main():
-    top = os.path.dirname(os.path.dirname(os.path.abspath(__file__)))
+    names_given(__doc__)
     with tempfile.TemporaryDirectory() as folder:
-        programs = [ours(top, folder), peer(folder)]
+        programs = [ours(TOP, folder), peer(folder)]
         runs = [[seconds(program) for program in programs] for _ in range(RUNS)]
     mesh, other = (min(run[k] for run in runs) / FACETS * 1e9 for k in range(2))
     print(f"qh_mesh {mesh:.1f} ns a facet, C++ {other:.1f} ns, ratio {mesh / other:.2f}")

@@ -63,9 +63,9 @@ def faults(given, family, count, outs, times):
 
 
 def main():
-    parser = argparse.ArgumentParser(description=__doc__.splitlines()[0])
-    parser.add_argument("--ours", default=compare.PROGRAM, help="this program")
-    parser.add_argument("--other", help="an older build of it, run with one worker")
+    parser = argparse.ArgumentParser(description=__doc__, formatter_class=argparse.RawDescriptionHelpFormatter)
+    parser.add_argument("--ours", type=compare.built, default=compare.PROGRAM, help="this program")
+    parser.add_argument("--other", type=compare.built, help="an older build of it, run with one worker")
     parser.add_argument("--peer", default="/usr/bin/qconvex", help="Qhull's qconvex; empty for none")
     parser.add_argument("--counts", default="100000,1000000")
     parser.add_argument("--families", default=FAMILIES)

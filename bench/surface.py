@@ -56,7 +56,7 @@ def surface(program, path, folder):
 
 
 def main():
-    parser = argparse.ArgumentParser(description=__doc__.splitlines()[0])
+    parser = argparse.ArgumentParser(description=__doc__, formatter_class=argparse.RawDescriptionHelpFormatter)
     parser.add_argument("programs", nargs="+")
     parser.add_argument("--count", type=int, default=1000000)
     parser.add_argument("--rounds", type=int, default=10)

@@ -31,9 +31,9 @@ def commands_of(given):
 
 
 def main():
-    parser = argparse.ArgumentParser(description=__doc__.splitlines()[0])
-    parser.add_argument("--ours", default=compare.PROGRAM, help="this program")
-    parser.add_argument("--other", help="another build of it")
+    parser = argparse.ArgumentParser(description=__doc__, formatter_class=argparse.RawDescriptionHelpFormatter)
+    parser.add_argument("--ours", type=compare.built, default=compare.PROGRAM, help="this program")
+    parser.add_argument("--other", type=compare.built, help="another build of it")
     parser.add_argument("--peer", help="a command to compare with")
     parser.add_argument("--counts", default="10000,100000,1000000")
     parser.add_argument("--families", default=",".join(SOLID))

@@ -20,7 +20,7 @@ import tempfile
 import worst_points
 
 sys.path.insert(0, os.path.join(os.path.dirname(os.path.dirname(os.path.abspath(__file__))), "scripts"))
-from lib.paths import PROGRAM  # noqa: E402
+from lib.paths import PROGRAM, built  # noqa: E402
 
 POINTS = os.path.join(os.path.dirname(os.path.abspath(__file__)), "worst_points.py")
 MOST_RATIO = 2
@@ -116,8 +116,8 @@ class Table:
 
 
 def main():
-    parser = argparse.ArgumentParser(description=__doc__.splitlines()[0])
-    parser.add_argument("--ours", default=PROGRAM, help="this program")
+    parser = argparse.ArgumentParser(description=__doc__, formatter_class=argparse.RawDescriptionHelpFormatter)
+    parser.add_argument("--ours", type=built, default=PROGRAM, help="this program")
     parser.add_argument("--words", default="s", help="the words that it is given, as 's --workers 1'")
     parser.add_argument("--peer", action="append", help="a command to compare with; may be repeated")
     parser.add_argument("--counts", default="100000,1000000")

@@ -1,3 +1,4 @@
+#!/usr/bin/env python3
 """Seeded point files that are hard for some hull programs, in the orders that are worst.
 
     bench/worst_points.py tent-20000 1000000 > points.txt
@@ -8,8 +9,12 @@ import functools
 import math
 import random
 import sys
+from pathlib import Path
 
 import points
+
+sys.path.insert(0, str(Path(__file__).resolve().parents[1] / "scripts"))
+from lib.usage import names_given  # noqa: E402
 
 SIZE = points.SIZE
 BLOCK = 4096  # the ids of a block of this program, by default
@@ -237,7 +242,10 @@ for kind in ("cube", "ball", "sphere", "paraboloid"):
 
 
 def main():
-    family, count = sys.argv[1], int(sys.argv[2])
+    names = names_given(f"{__doc__.strip()}\n\nThe families are {', '.join(FAMILIES)}.")
+    if len(names) != 2 or names[0] not in FAMILIES:
+        sys.exit("name a family and a number of points; --help lists the families")
+    family, count = names[0], int(names[1])
     found = FAMILIES[family](random.Random(1), count)
     sys.stdout.write("3\n%d\n" % len(found))
     sys.stdout.writelines("%d %d %d\n" % p for p in found)

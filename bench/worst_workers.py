@@ -42,8 +42,8 @@ def ratios(given, family, count):
 
 
 def main():
-    parser = argparse.ArgumentParser(description=__doc__.splitlines()[0])
-    parser.add_argument("--ours", default=compare.PROGRAM, help="this program")
+    parser = argparse.ArgumentParser(description=__doc__, formatter_class=argparse.RawDescriptionHelpFormatter)
+    parser.add_argument("--ours", type=compare.built, default=compare.PROGRAM, help="this program")
     parser.add_argument("--outs", default="s", help="the output")
     parser.add_argument("--counts", default="100000,1000000")
     parser.add_argument("--families", default=",".join(worst_points.FAMILIES))
