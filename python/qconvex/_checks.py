@@ -1,4 +1,4 @@
-"""Whether faces are the surface of the hull of points, as the library judges it."""
+"""The library's check of faces: it tells whether they are the surface of the hull of points."""
 from __future__ import annotations
 
 import ctypes
@@ -97,7 +97,7 @@ def _verdict_of(told: _Verdict) -> Verdict:
 
 
 def _indices(corners: Any, count: int) -> NDArray[np.uint32]:
-    """Returns corners as the library takes them: what is no index of so many points becomes the index of none."""
+    """Returns corners as the library takes them: what is no index of `count` points becomes the index of none."""
     given: NDArray[Any] = np.asarray(corners)
     if not given.size:
         return np.zeros(given.shape, np.uint32)

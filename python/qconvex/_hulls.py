@@ -11,7 +11,7 @@ from numpy.typing import ArrayLike, NDArray
 from ._hull import ConvexHull, WholePoints, whole_points
 from ._library import LIBRARY, FlatHull, error_of
 
-_DONE, _STARTS, _ROOM = 0, 6, 5
+_DONE, _STARTS = 0, 6
 
 # What a set is told: qconvex_answer of the header.
 _ANSWER = np.dtype(
@@ -132,7 +132,8 @@ def hulls(points: WholePoints, starts: ArrayLike, *, copy: bool = True) -> Hulls
     TypeError
         The points or the starts are not whole numbers.
     ValueError
-        The shape is not (n, 3), the starts don't rise or go beyond the points, or a coordinate has more than 32 bits.
+        The shape is not (n, 3), the starts don't rise or go beyond the points, or a coordinate of an array of a type that int32
+        does not hold is out of range. In an array of int32 the set with such a coordinate is refused, and the others are not.
     """
     whole, places = whole_points(points, copy), _whole_starts(starts)
     sets, end = len(places) - 1, int(places[-1])

@@ -143,6 +143,9 @@ def test_what_is_no_hull_is_refused():
     for given in ("", "OFF\n1 0 0\n0 0 0\n", "OFF\n1 1 0\n0.5 0 0\n1 0\n", CUBE_OFF.replace("4 4 6 7 5", "4 4 5 7 6")):
         done = run("hullfacets", given=given)
         assert done.returncode == 1 and done.stderr and not done.stdout
+    for given in ("OFF\n3 1 0\n0 0 0\n1 0 0\n2 0 0\n3 0 1 2\n", "OFF\n1 1 0\n1/0 0 0\n1 0\n"):
+        done = run("hullfacets", given=given)
+        assert done.returncode == 1 and not done.stdout and b"Traceback" not in done.stderr
 
 
 # ---- meshpoints
@@ -212,6 +215,17 @@ def test_a_hull_comes_back_in_the_units_of_the_mesh(tmp_path):
     path = tmp_path / "points.txt"
     path.write_text(out("meshpoints", "--scale", 8, "--centre", "1/2,0,0", TOP / "examples" / "knot.obj"))
     assert out("meshpoints", "--back", path, given="OFF\n1 1 0\n4 -8 1\n1 0\n") == "OFF\n1 1 0\n1 -1 0.125\n1 0\n"
+
+
+def test_a_scale_and_a_centre_are_numbers(tmp_path):
+    for words in (("--scale", "0"), ("--scale", "1/0"), ("--scale", "x"), ("--centre", "1,2"), ("--centre", "0,0,1/0")):
+        done = run("meshpoints", *words, TOP / "examples" / "knot.obj")
+        assert done.returncode == 2 and not done.stdout and b"Traceback" not in done.stderr
+    path = tmp_path / "points.txt"
+    for note in ("scale 0 centre 0 0 0", "scale x centre 0 0 0", "scale 1 centre 0 1/0 0"):
+        path.write_text(f"3 {note}\n1\n0 0 0\n")
+        done = run("meshpoints", "--back", path, given="OFF\n1 1 0\n1 1 1\n1 0\n")
+        assert done.returncode == 1 and not done.stdout and b"Traceback" not in done.stderr
 
 
 def test_a_hundred_thousand_vertices_take_a_second_or_so(tmp_path):

@@ -1,11 +1,17 @@
 """hullmany: any parts, jobs and failing commands give the answer of one run of the built program."""
 import os
 import random
+import signal
 import subprocess
 import sys
 import tempfile
+import time
 import unittest
 from pathlib import Path
+from unittest import mock
+
+from qconvex.commands import part_runs
+from qconvex.commands.part_lines import Part
 
 TOP = Path(__file__).resolve().parents[2]
 PROGRAM = str(TOP / "crates" / "qconvex" / "out" / "qconvex")
@@ -117,3 +123,35 @@ class Tests(unittest.TestCase):
         points = [[x, y, x * x + y * y] for x in range(-525, 525) for y in range(-525, 525)]
         got = hullmany(regular(points).encode(), "--jobs", 4)
         self.assertIn(b"1102500 points are extreme in their parts; the program takes 1048576 at once", got.stderr)
+
+
+class Ends(unittest.TestCase):
+    """How it ends early. The program is not needed."""
+
+    def test_an_interrupt_begins_no_other_part(self):
+        data = regular(points_of(random.Random(9), 400, 99)).encode()
+        with tempfile.TemporaryDirectory() as folder:
+            begun = Path(folder) / "begun"
+            words = ["--part", "100", "--jobs", "1", "--run", f"echo begun >> {begun}; sleep 60;"]
+            running = subprocess.Popen(
+                [*COMMAND, *words], stdin=subprocess.PIPE, stdout=subprocess.PIPE, stderr=subprocess.PIPE, start_new_session=True,
+                preexec_fn=lambda: signal.signal(signal.SIGINT, signal.SIG_DFL),
+            )
+            running.stdin.write(data)
+            running.stdin.close()
+            running.stdin = None
+            for _ in range(200):
+                if begun.exists() and begun.read_text():
+                    break
+                time.sleep(0.05)
+            os.killpg(running.pid, signal.SIGINT)
+            said, told = running.communicate(timeout=30)
+            self.assertEqual((running.returncode, said, told), (1, b"", b"hullmany: interrupted\n"))
+            self.assertEqual(begun.read_text(), "begun\n")
+
+    def test_a_command_is_free_again_after_any_error(self):
+        runs = part_runs.Runs(["command"], 1, 3)
+        with mock.patch.object(part_runs, "attempt", side_effect=OSError("no space")):
+            with self.assertRaises(OSError):
+                runs.extremes(Part(b"1 2 3\n", 1, 2))
+        self.assertEqual(runs.free, ["command"])

@@ -135,7 +135,7 @@ def main() -> None:
         sys.exit("hullfacets: a hull has faces, and whole coordinates")
     try:
         lines = list(in_form(points, hull.faces, options.form))
-    except KeyError:
+    except (KeyError, ZeroDivisionError):  # a side of one face alone, or a face whose corners lie in one line
         sys.exit("hullfacets: the faces are no closed surface; scripts/tools/check_hull.py says what is wrong")
     sys.stdout.writelines(f"{line}\n" for line in lines)
 

@@ -34,6 +34,7 @@ import sys
 import time
 from collections import deque
 from concurrent.futures import Future, ThreadPoolExecutor
+from contextlib import contextmanager
 from pathlib import Path
 from typing import BinaryIO, Deque, Iterable, Iterator, List, Optional, Tuple
 
@@ -47,7 +48,7 @@ Pending = Deque[Tuple[Part, "Future[Extremes]"]]
 
 OUTPUTS = ["Fx", "off"]
 BUILT = Path(__file__).resolve().parents[3] / "crates" / "qconvex" / "out" / "qconvex"
-# With no --part, the first round has about so many parts for each that is worked at at a time, of so many points at least.
+# With no --part, the first round has about PARTS_EACH parts for each that is worked at at a time, of LEAST_PART points at least.
 PARTS_EACH, LEAST_PART = 6, 1 << 16
 
 
@@ -75,6 +76,18 @@ class Progress:
             print(text, end=end, file=sys.stderr, flush=True)
 
 
+@contextmanager
+def threads_for(runs: Runs) -> Iterator[ThreadPoolExecutor]:
+    """A thread for each part that is worked at at a time. After an error or an interrupt no other part is begun."""
+    with ThreadPoolExecutor(runs.count) as pool:
+        try:
+            yield pool
+        except BaseException:
+            runs.stop()
+            pool.shutdown(wait=False, cancel_futures=True)
+            raise
+
+
 def in_order(parts: Iterable[Part], runs: Runs, pool: ThreadPoolExecutor, pending: Pending) -> Iterator[Tuple[Part, Extremes]]:
     """Each part with its extreme points, in order; those that are worked at stand in `pending`, twice as many as there are runs."""
     for part in parts:
@@ -92,7 +105,7 @@ def first_round(parts: LineParts, runs: Runs, progress: Progress) -> Tuple[List[
     kept: List[Indexed] = []
     pending: Pending = deque()
     first = 0
-    with ThreadPoolExecutor(runs.count) as pool:
+    with threads_for(runs) as pool:
         answers = in_order(parts, runs, pool, pending)
         while True:
             try:
@@ -112,7 +125,7 @@ def next_round(points: List[Indexed], size: int, runs: Runs, progress: Progress)
     count = -(-len(points) // size)
     dealt = [points[start::count] for start in range(count)]  # each point in another part than its neighbours
     kept: List[Indexed] = []
-    with ThreadPoolExecutor(runs.count) as pool:
+    with threads_for(runs) as pool:
         parts = [part_of_points(point for _, point in part) for part in dealt]
         for part, (of_part, (places, _)) in zip(dealt, in_order(parts, runs, pool, deque())):
             kept += (part[place] for place in places)
@@ -213,6 +226,8 @@ def main() -> None:
         sys.stdout.buffer.write(answer(points, runs, options.outputs))
     except (Refused, OSError) as why:
         sys.exit(f"hullmany: {why}")
+    except KeyboardInterrupt:
+        sys.exit("hullmany: interrupted")
 
 
 if __name__ == "__main__":

@@ -9,6 +9,7 @@ corners. Indices are those of the file's vertices, from 0 on.
 from __future__ import annotations
 
 import argparse
+import signal
 import sys
 from typing import Iterator, TextIO
 
@@ -54,6 +55,7 @@ def main() -> int:
     parser = argparse.ArgumentParser(prog="hullview", description=__doc__, formatter_class=argparse.RawDescriptionHelpFormatter)
     parser.add_argument("file", nargs="?", type=argparse.FileType("r"), default=sys.stdin, help="an OFF file; else standard input")
     given = parser.parse_args()
+    signal.signal(signal.SIGPIPE, signal.SIG_DFL)
     try:
         vertices, faces = read_off(given.file)
     except NotOff as error:

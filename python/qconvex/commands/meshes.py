@@ -7,12 +7,12 @@ import sys
 from dataclasses import dataclass
 from decimal import Context, Decimal, InvalidOperation
 from itertools import chain
-from typing import Any, List, NamedTuple, Sequence, Tuple, Union
+from typing import List, NamedTuple, Sequence, Tuple, Union
 
 from . import contents
 from .off_files import Malformed, rows_of
 
-# No coordinate of a mesh has so many decimals: the smallest double has 1074.
+# A coordinate of a mesh has fewer decimals than this: the smallest double has 1074.
 MOST_DECIMALS = 2000
 EXACT = Context(prec=10**6)
 

@@ -17,6 +17,7 @@ from __future__ import annotations
 
 import argparse
 import re
+import signal
 import sys
 from dataclasses import dataclass
 from decimal import ROUND_CEILING, Context, Decimal
@@ -113,13 +114,31 @@ def write_points(found: Rounded, by: Map) -> None:
         print(f"more than {POINT_LIMIT} points: hullmany takes them", file=sys.stderr)
 
 
+def number(word: str) -> Fraction:
+    """A number of the command line or of a point file's first line."""
+    try:
+        return Fraction(word)
+    except (ValueError, ZeroDivisionError):
+        raise argparse.ArgumentTypeError(f"{word!r} is no number such as 1000 or 1/3") from None
+
+
+def scale_of(word: str) -> Fraction:
+    """A scale, which is not 0."""
+    scale = number(word)
+    if not scale:
+        raise argparse.ArgumentTypeError("a scale is not 0")
+    return scale
+
+
 def map_of(path: str) -> Map:
     """The map that a point file's first line tells."""
     found = NOTE.search(contents.text_of(path).split("\n", 1)[0])
     if not found:
         sys.exit(f"{path}: its first line has no scale and centre")
-    scale, *centre = map(Fraction, found.groups())
-    return Map(scale, tuple(centre))
+    try:
+        return Map(scale_of(found[1]), tuple(map(number, found.groups()[1:])))
+    except argparse.ArgumentTypeError as wrong:
+        sys.exit(f"{path}: {wrong}")
 
 
 def decimal(value: Number) -> str:
@@ -137,19 +156,20 @@ def write_back(by: Map) -> None:
 
 def vector(words: str) -> Fractions:
     """Three numbers with commas between."""
-    parts = tuple(map(Fraction, words.split(",")))
+    parts = tuple(map(number, words.split(",")))
     if len(parts) != 3:
-        raise ValueError("three numbers")
+        raise argparse.ArgumentTypeError(f"{words!r} is not three numbers with commas between")
     return parts
 
 
 def main() -> None:
     parser = argparse.ArgumentParser(prog="meshpoints", description=__doc__, formatter_class=argparse.RawDescriptionHelpFormatter)
-    parser.add_argument("--scale", type=Fraction, help="how many units of the grid one unit of the mesh has, as 1000 or 1/3")
+    parser.add_argument("--scale", type=scale_of, help="how many units of the grid one unit of the mesh has, as 1000 or 1/3")
     parser.add_argument("--centre", type=vector, metavar="X,Y,Z", help="what becomes the origin (write --centre=-1,0,0)")
     parser.add_argument("--back", metavar="POINTS", help="turn the faces of standard input to the units of this file's mesh")
     parser.add_argument("mesh", nargs="?", metavar="MESH", help="a file whose name ends with .off, .obj, .ply or .stl")
     options = parser.parse_args()
+    signal.signal(signal.SIGPIPE, signal.SIG_DFL)
     if options.back:
         write_back(map_of(options.back))
         return

@@ -60,7 +60,7 @@ def read_off(text: str) -> Faces:
         if any(len(point) != 3 for point in found):
             raise Malformed("a point has fewer than three coordinates")
         return Faces(found, [face_of(row, points) for row in rows[points + 1 : points + faces + 1]])
-    except (IndexError, ValueError) as wrong:
+    except (IndexError, ValueError, ZeroDivisionError) as wrong:
         raise Malformed(f"no OFF text: {wrong}") from wrong
 
 

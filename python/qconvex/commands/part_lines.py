@@ -60,7 +60,7 @@ def data_words(line: bytes) -> List[bytes]:
 class LineParts:
     """The lines of a stream in parts of a size.
 
-    The first words are those that were read of it already, behind so many lines of the file.
+    The first words are those that were read of it already; `lines` lines of the file stand before them.
     """
 
     def __init__(self, source: BinaryIO, size: int, words: bytes, lines: int) -> None:

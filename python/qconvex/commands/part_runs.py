@@ -18,8 +18,10 @@ Extremes = Tuple[List[int], List[bytes]]
 REFUSAL = re.compile(r"qconvex: (\d+): (\w+)(?: at line (\d+))?\s*$")
 IRREGULAR = ("Long", "Short")
 HEADER_LINES = 2
-# After so many failures with no answer between, a command gets no more parts, unless it is the last one.
+# After this number of failures in a row, a command gets no more parts, unless it is the last one.
 FAILURES = 4
+# Seconds before a part is tried again, in which an interrupt that ended its command ends the whole.
+PAUSE = 0.1
 
 
 class Irregular(Exception):
@@ -85,6 +87,11 @@ class Runs:
         self.retries = retries
         self.failures = dict.fromkeys(commands, 0)
         self.change = threading.Condition()
+        self.stopped = threading.Event()
+
+    def stop(self) -> None:
+        """From now on no part is tried again."""
+        self.stopped.set()
 
     def answer(self, part: Part) -> bytes:
         """What a free command answers of a part to `Fx off`."""
@@ -107,10 +114,10 @@ class Runs:
             except Failed as why:
                 self.given_back(command, 1)
                 failed.append(command)
-                if len(failed) > self.retries:
+                if len(failed) > self.retries or self.stopped.wait(PAUSE):
                     raise Refused(f"{command}: {why}, at the last of {len(failed)} tries") from None
                 print(f"{command}: {why}; its part is tried again", file=sys.stderr)
-            except (Irregular, Refused):
+            except BaseException:  # the points or this machine are at fault, not the command
                 self.given_back(command, 0)
                 raise
 

@@ -18,7 +18,7 @@ def plus(p: Vector, q: Vector) -> Vector:
 
 
 def times(factor: int, p: Vector) -> Vector:
-    """The vector, so many times as long."""
+    """The vector times a factor."""
     return (factor * p[0], factor * p[1], factor * p[2])
 
 
