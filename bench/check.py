@@ -6,7 +6,7 @@
 For each family and number of points it writes the points, and the triangles of their hull by `qhull Qt i` where qhull is
 installed, else by `qconvex offt`. Then `hullcheck --workers 1` and `qconvex --workers 1 s` run in turn; a row has the least CPU
 time of each, in seconds, their ratio, and the time a triangle in microseconds. It ends with status 1 if a verdict is not
-`all right`.
+`all right`, or at the first run of qconvex that fails.
 """
 import argparse
 import os
@@ -20,15 +20,16 @@ from pathlib import Path
 BENCH = Path(__file__).resolve().parent
 sys.path.insert(0, str(BENCH.parent / "scripts"))
 from lib.paths import CHECKER, PROGRAM, built  # noqa: E402
+from lib.runs import must_succeed  # noqa: E402
 
 
 def cpu_time(command, source=None):
-    """The CPU seconds of a command, and what it wrote."""
+    """The CPU seconds of a command, and how it ended with what it wrote."""
     before = resource.getrusage(resource.RUSAGE_CHILDREN)
     with open(source or os.devnull, "rb") as given:
         done = subprocess.run(command, stdin=given, capture_output=True, check=False)
     after = resource.getrusage(resource.RUSAGE_CHILDREN)
-    return after.ru_utime + after.ru_stime - before.ru_utime - before.ru_stime, done.stdout
+    return after.ru_utime + after.ru_stime - before.ru_utime - before.ru_stime, done
 
 
 def write_triangles(given, points, faces):
@@ -45,19 +46,22 @@ def write_triangles(given, points, faces):
 
 
 def row(given, family, count, folder):
-    """Prints the row of a family and a number of points, and says whether the verdict was right."""
+    """Prints the row of a family and a number of points, and says whether all verdicts were right."""
     points, faces = folder / "points.txt", folder / "faces.txt"
     with open(points, "wb") as target:
         subprocess.run([sys.executable, str(BENCH / "points.py"), family, str(count)], stdout=target, check=True)
     triangles, told = write_triangles(given, points, faces)
-    checks, hulls = [], []
+    checks, hulls, right = [], [], True
     for _ in range(given.rounds):
-        seconds, text = cpu_time([given.checker, "--workers", "1", *told, str(points), str(faces)])
+        seconds, checked = cpu_time([given.checker, "--workers", "1", *told, str(points), str(faces)])
         checks.append(seconds)
-        hulls.append(cpu_time([given.ours, "--workers", "1", "s"], points)[0])
+        seconds, hulled = cpu_time([given.ours, "--workers", "1", "s"], points)
+        hulls.append(seconds)
+        must_succeed(hulled.args, hulled.returncode)
+        right = right and checked.stdout == b"all right\n"
     check, hull = min(checks), min(hulls)
     print(f"| {family} | {count} | {triangles} | {check:.2f} | {hull:.2f} | {check / hull:.2f} | {check / triangles * 1e6:.2f} |")
-    return text == b"all right\n"
+    return right
 
 
 def main():

@@ -20,6 +20,7 @@ from points import FAMILIES
 
 sys.path.insert(0, os.path.join(os.path.dirname(os.path.dirname(os.path.abspath(__file__))), "scripts"))
 from lib.paths import PROGRAM, built  # noqa: E402
+from lib.runs import must_succeed  # noqa: E402
 
 POINTS = os.path.join(os.path.dirname(os.path.abspath(__file__)), "points.py")
 # Seconds by which runs of one program differ. One on 100,000 points of a grid takes five milliseconds.
@@ -33,20 +34,26 @@ def run(command, path):
         process = subprocess.Popen(command, stdin=source, stdout=sink, stderr=subprocess.DEVNULL)
         _, status, usage = os.wait4(process.pid, 0)
         wall = time.monotonic() - start
-    return usage.ru_utime + usage.ru_stime, wall, usage.ru_maxrss / 1024, os.waitstatus_to_exitcode(status)
+        process.returncode = os.waitstatus_to_exitcode(status)
+    return usage.ru_utime + usage.ru_stime, wall, usage.ru_maxrss / 1024, process.returncode
 
 
 def best(results):
-    """The best of each number over the rounds; the status of the last."""
-    return tuple(min(r[k] for r in results) for k in range(3)) + (results[-1][3],)
+    """The best of each number over the rounds; the status of the first run that failed, else 0."""
+    return tuple(min(r[k] for r in results) for k in range(3)) + (next((r[3] for r in results if r[3]), 0),)
 
 
-def best_in_turn(commands, path, rounds):
-    """The best of each command on a file, over rounds in which all run in turn."""
+def best_in_turn(commands, path, rounds, own=0):
+    """The best of each command on a file, over rounds in which all run in turn.
+
+    The first `own` commands are builds of this program: a run of one that fails ends the script. Peers may fail.
+    """
     results = [[] for _ in commands]
     for _ in range(rounds):
-        for command, rows in zip(commands, results):
-            rows.append(run(command, path))
+        for place, command in enumerate(commands):
+            results[place].append(run(command, path))
+            if place < own:
+                must_succeed(command, results[place][-1][3])
     return [best(rows) for rows in results]
 
 

@@ -4,7 +4,8 @@
     bench/expect.py [--rounds N]
 
 For each number of points one set of which few are extreme (in a cube) and one of which all are (on a sphere): wall seconds with
-one worker and with four, and the peak memory of the latter in MB. The least of the rounds counts. Nothing is asserted.
+one worker and with four, and the peak memory of the latter in MB. The least of the rounds counts. A run that fails ends the
+script; nothing else is asserted.
 """
 import argparse
 import subprocess
@@ -22,12 +23,8 @@ def cells(family, count, rounds):
     """The wall times of one worker and of four, and the memory of four."""
     with tempfile.NamedTemporaryFile() as source:
         subprocess.run([sys.executable, compare.POINTS, family, str(count)], stdout=source, check=True)
-        results = {}
-        for _ in range(rounds):
-            for workers in ("1", "4"):
-                run = compare.run([compare.PROGRAM, "--workers", workers, "s"], source.name)
-                results.setdefault(workers, []).append(run)
-    alone, together = compare.best(results["1"]), compare.best(results["4"])
+        commands = [[compare.PROGRAM, "--workers", workers, "s"] for workers in ("1", "4")]
+        alone, together = compare.best_in_turn(commands, source.name, rounds, len(commands))
     return ["%.3f" % alone[1], "%.3f" % together[1], "%d" % together[2]]
 
 

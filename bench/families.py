@@ -5,7 +5,8 @@
 
 Each row is one seeded file that all programs read in turn. It prints this program's CPU time, wall time,
 peak memory and number of extreme points, then the same of each peer with the ratio of this program's CPU
-time to its own. The peers beside Qhull are made by `peers.py`. Nothing is asserted.
+time to its own. The peers beside Qhull are made by `peers.py`. A run of this program that fails ends the script;
+nothing else is asserted.
 """
 import argparse
 import os
@@ -36,7 +37,7 @@ def extremes(command, path):
 def row(given, family, count, path):
     """One row of the table."""
     commands = [[given.ours] + shlex.split(given.words)] + [shlex.split(p) for p in given.peer or []]
-    ours, *peers = compare.best_in_turn(commands, path, given.rounds)
+    ours, *peers = compare.best_in_turn(commands, path, given.rounds, own=1)
     cells = [family, str(count), "%.3f" % ours[0], "%.3f" % ours[1], "%.0f" % ours[2], extremes(commands[0], path)]
     for command, peer in zip(commands[1:], peers):
         ratio = "%.2f" % (ours[0] / peer[0]) if peer[3] == 0 else "refused"

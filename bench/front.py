@@ -7,7 +7,7 @@
 The rows of a million points are seconds: wall time of whole programs that read one file in turn, and CPU time of one process in
 Python, where this module computes all that scipy's constructor does. The last row is microseconds of CPU time a hull of 16
 points in one process, by the library's call in C and in Python. The least of the rounds counts. Needs the program and `make -C c`.
-Nothing is asserted.
+A run of the program that fails ends the script; nothing else is asserted.
 """
 import argparse
 import random
@@ -30,8 +30,9 @@ HEAD = ["", "1 worker", "4 workers", "Qhull", "CGAL", "in Python", "scipy"]
 
 
 def program_seconds(path, commands, rounds):
-    """The least wall time of each command on a file."""
-    return [best[1] for best in compare.best_in_turn(commands, path, rounds)]
+    """The least wall time of each command on a file. The commands that run this program stand first."""
+    own = sum(command[0] == compare.PROGRAM for command in commands)
+    return [best[1] for best in compare.best_in_turn(commands, path, rounds, own)]
 
 
 def module_seconds(points, rounds):

@@ -7,7 +7,7 @@
 For each family one seeded file; `perf record` takes samples of one run, and each belongs to the phase of the function that
 it is in. Functions that are inlined count with their caller, the sort of 64-bit numbers with the distinct points although the
 order of faces is one, and that of packed pairs with the faces although a large surface begins with one. What the system
-does (memory, pages, pipes) is a column of its own. By hand: no gate asks for it.
+does (memory, pages, pipes) is a column of its own. A run that fails ends the script. By hand: no gate asks for it.
 """
 import argparse
 import os
@@ -38,9 +38,10 @@ SORTS = re.compile(r"^core::slice::sort")
 def sample(command, path, folder):
     """The shares of the symbols of one run: pairs of a symbol and its part of 1."""
     record = os.path.join(folder, "perf.data")
+    sampled = ["perf", "record", "-q", "-F", "4000", "-o", record] + command
     with open(path, "rb") as source:
-        subprocess.run(["perf", "record", "-q", "-F", "4000", "-o", record] + command, stdin=source, stdout=subprocess.DEVNULL,
-                       stderr=subprocess.DEVNULL, check=True)
+        done = subprocess.run(sampled, stdin=source, stdout=subprocess.DEVNULL, stderr=subprocess.DEVNULL)
+    compare.must_succeed(sampled, done.returncode)
     text = subprocess.run(["perf", "report", "-i", record, "--stdio", "--no-children", "--sort", "dso,symbol"],
                           stdout=subprocess.PIPE, stderr=subprocess.DEVNULL, check=True, text=True).stdout
     for line in text.splitlines():
@@ -92,7 +93,7 @@ def main():
         for family in given.families.split(","):
             with open(path, "wb") as out:
                 subprocess.run([sys.executable, compare.POINTS, family, str(given.count)], stdout=out, check=True)
-            cpu = min(compare.run(command, path)[0] for _ in range(3))
+            cpu = compare.best_in_turn([command], path, 3, own=1)[0][0]
             parts = dict.fromkeys(PHASES, 0.0)
             for dso, space, name, part in sample(command, path, folder):
                 parts[phase(dso, space, name, os.path.basename(given.ours), numbers)] += part

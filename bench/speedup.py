@@ -7,7 +7,8 @@
 Each row is one seeded file that all programs read in turn, round after round; the least of the rounds counts. A cell is
 wall and CPU seconds. Exit 1 if, on a machine with as many processors as workers, the wall time of the most workers or
 their CPU time is above the share of one worker's that `wanted` says, or one worker is slower than the older build by more
-than 5 in 100. By hand, on an idle machine: no gate asks for it.
+than 5 in 100. A run of this program or of the older build that fails ends the script. By hand, on an idle machine: no
+gate asks for it.
 """
 import argparse
 import os
@@ -45,8 +46,8 @@ def row(given, outs, path):
     ours = [[given.ours, "--workers", n, outs] for n in given.workers.split(",")]
     other = [[given.other, "--workers", "1", outs]] if given.other else []
     peer = [[given.peer, QHULL.get(outs, outs)]] if given.peer else []
-    commands = ours + other + peer
-    return [best[1::-1] for best in compare.best_in_turn(commands, path, given.rounds)]
+    own = ours + other
+    return [best[1::-1] for best in compare.best_in_turn(own + peer, path, given.rounds, len(own))]
 
 
 def faults(given, family, count, outs, times):

@@ -5,7 +5,7 @@
 
 Each row is one seeded file that all programs read in turn; the best of the rounds counts. A cell is CPU and wall
 seconds. `--other` is an older build of this program, run with the same numbers of workers; `--words` are the outputs of
-both. Nothing is asserted.
+both. A run of either build that fails ends the script; nothing else is asserted.
 """
 import argparse
 import os
@@ -50,7 +50,8 @@ def main():
                 path = os.path.join(folder, "points.txt")
                 with open(path, "wb") as out:
                     subprocess.run([sys.executable, compare.POINTS, family, str(count)], stdout=out, check=True)
-                bests = compare.best_in_turn([command for _, command in columns], path, given.rounds)
+                commands = [command for _, command in columns]
+                bests = compare.best_in_turn(commands, path, given.rounds, len(commands) - bool(given.peer))
             cells = ["%.3f/%.3f" % best[:2] for best in bests]
             print("| " + " | ".join([family, str(count)] + cells) + " |", flush=True)
 

@@ -5,7 +5,7 @@
 
 The families are those of bench/worst_points.py. All numbers of workers read the same file in turn, round after round; the
 least of the rounds counts. Exit 1 if two workers take more than 1.1 of one worker's wall time on a family, or four more than
-0.9 on the median family. By hand, on an idle machine: no gate asks for it.
+0.9 on the median family, or at the first run that fails. By hand, on an idle machine: no gate asks for it.
 """
 import argparse
 import os
@@ -25,7 +25,7 @@ MEDIAN_LIMIT = 0.9
 def row(given, path):
     """The least CPU time, wall time and memory with each number of workers."""
     commands = [[given.ours, "--workers", str(n), given.outs] for n in (1, 2, 4)]
-    return compare.best_in_turn(commands, path, given.rounds)
+    return compare.best_in_turn(commands, path, given.rounds, len(commands))
 
 
 def ratios(given, family, count):

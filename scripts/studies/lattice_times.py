@@ -5,7 +5,7 @@
 
 The polytopes are those of example_sets.py: an octahedron with its corners cut off, thirty times a Reeve tetrahedron, a ball.
 Each program is asked for corners and faces only (`s`, `normaliz -s`, `lrs`) and stopped at the limit. What is not installed
-is left out.
+is left out. A run of this program that fails ends the script.
 """
 import argparse
 import os
@@ -19,6 +19,7 @@ from pathlib import Path
 sys.path.insert(0, str(Path(__file__).resolve().parents[1]))
 from lib import package  # noqa: E402,F401
 from lib.paths import PROGRAM  # noqa: E402
+from lib.runs import must_succeed  # noqa: E402
 from make.example_sets import SETS  # noqa: E402
 from qconvex.commands.point_files import text_of  # noqa: E402
 
@@ -55,12 +56,15 @@ def seconds(command, source, folder, limit):
     with open(path, "rb") as stream:
         start = time.monotonic()
         try:
-            subprocess.run(
+            done = subprocess.run(
                 command, stdin=stream, cwd=folder, stdout=subprocess.DEVNULL, stderr=subprocess.DEVNULL, timeout=limit
             )
         except subprocess.TimeoutExpired:
             return f"over {limit}"
-        return f"{time.monotonic() - start:.3f}"
+        taken = time.monotonic() - start
+    if command[0] == PROGRAM:
+        must_succeed(command, done.returncode)
+    return f"{taken:.3f}"
 
 
 def main():

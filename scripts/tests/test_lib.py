@@ -15,6 +15,7 @@ from lib.hull_oracle import file_of, hull_text  # noqa: E402
 from lib.limits import BYTE_LIMIT, COORDINATE_LIMIT, POINT_LIMIT, limits_in  # noqa: E402
 from lib.paths import TOP, built  # noqa: E402
 from lib.processes import seconds_with_children_in, stats_below  # noqa: E402
+from lib.runs import must_succeed  # noqa: E402
 from lib.usage import known  # noqa: E402
 from qconvex.commands.point_files import read, triples  # noqa: E402
 from tools.check_hull import Box, dot  # noqa: E402
@@ -81,6 +82,15 @@ class Processes(unittest.TestCase):
             self.assertEqual(set(stats_below(child.pid)), {child.pid})
             child.kill()
         self.assertGreater(seconds_with_children_in(below[os.getpid()]), 0)
+
+
+class Runs(unittest.TestCase):
+    def test_a_run_that_failed_ends_the_script_with_its_command_and_status(self):
+        must_succeed(["qconvex", "s"], 0)
+        for status, how in ((3, "status 3"), (-9, "signal 9")):
+            with self.assertRaises(SystemExit) as caught:
+                must_succeed(["./a folder/qconvex", "s"], status)
+            self.assertEqual(caught.exception.code, f"'./a folder/qconvex' s ended with {how}")
 
 
 class Boxes(unittest.TestCase):
