@@ -1,13 +1,15 @@
 #!/usr/bin/env python3
-"""Says where this program's CPU time goes: reading, distinct points, the interior filter, surfaces, faces, text.
+"""Says where this program's CPU time goes: reading, distinct points, the interior filter, surfaces, parts, faces, text.
 
     apt-get install linux-perf
     bench/phases.py --words off
 
 For each family one seeded file; `perf record` takes samples of one run, and each belongs to the phase of the function that
-it is in. Functions that are inlined count with their caller, the sort of 64-bit numbers with the distinct points although the
-order of faces is one, and that of packed pairs with the faces although a large surface begins with one. What the system
-does (memory, pages, pipes) is a column of its own. A run that fails ends the script. By hand: no gate asks for it.
+it is in. The interior filter is the column `filter`. A hull by parts has the hulls of its parts in `surface`, and what cuts
+and joins them in `parts`. Functions that are inlined count with their caller, the sort of 64-bit numbers with the distinct
+points although the order of faces is one, and that of packed pairs with the faces although a large surface and a hull by
+parts begin with one. What the system does (memory, pages, pipes) is a column of its own. A run that fails ends the script.
+By hand: no gate asks for it.
 """
 import argparse
 import os
@@ -18,17 +20,24 @@ import tempfile
 
 import compare
 
-PHASES = ["read", "distinct", "look", "surface", "faces", "text", "system", "else"]
+PHASES = ["read", "distinct", "filter", "surface", "parts", "faces", "text", "system", "else"]
 
-# the phase of the first pattern that a symbol has
+# The phase of the first pattern that a symbol matches. The crates are those of docs/DESIGN.md.
 OWNERS = [
-    (r"^qh_write::", "text"),
-    (r"^qh_read::|^qconvex::serve", "read"),
-    (r"^qh_plane::", "distinct"),
-    (r"^qh_interior::", "look"),
-    (r"^qh_block::(faces|face_order|face_keys|hulls|plane_walk|solid_edges|bodies|flat_sets)|^qh_surface::named_mesh", "faces"),
-    (r"^qh_block::solids::(corners|listed)|^qh_polygon::", "faces"),
-    (r"^qh_block::|^qh_surface::|^qh_mesh::|^qh_pred::", "surface"),
+    (r"^(qh_write|itoa)::", "text"),
+    (r"^(qh_plane|rayon)::", "distinct"),
+    (r"^qh_interior::|^qh_run::filtered::", "filter"),
+    # qh_join asks qh_check for the borders of faces.
+    (r"^qh_(parts|join|seam|guess|curve|places|check)::|^qh_serve::threaded::", "parts"),
+    (r"^qh_block::(faces|face_order|face_keys|unsorted_faces|hulls|plane_walk|solid_edges|bodies|flat_sets|segment)::", "faces"),
+    (r"^qh_block::solids::(corners|listed|past|mark|tally|body)|^qh_polygon::|^qh_surface::named_mesh::", "faces"),
+    (r"^(qh_block|qh_surface|qh_mesh|qh_pred)::", "surface"),
+    # The tree and its workers make lists of extreme ids by surfaces of blocks. Morton order is the start of a surface.
+    (r"^(qh_hull|qh_run|qh_board|qh_keys|atomic_table)::|^qh_serve::answers::hull", "surface"),
+    # What is inlined in the calls above the crates is mostly the loop that reads.
+    (r"^(qh_read|qh_serve|qconvex)::", "read"),
+    # Every phase has points and ids, and claims calls by threads.
+    (r"^(qh_model|qh_threads)::", "else"),
 ]
 
 # the sorts, by what is moved: a polygon is more than a number

@@ -1,5 +1,6 @@
 """Tests of bench/ and scripts/studies that need no build: `python3 -m unittest discover scripts/tests`."""
 import os
+import re
 import sys
 import tempfile
 import unittest
@@ -7,11 +8,16 @@ from pathlib import Path
 from unittest import mock
 
 sys.path.insert(0, str(Path(__file__).resolve().parents[1]))
-from lib.paths import BENCH  # noqa: E402
+from lib.paths import BENCH, TOP  # noqa: E402
+from make.prove import crates_below  # noqa: E402
 from studies import lattice_times  # noqa: E402
 
 sys.path.append(str(BENCH))
 import compare  # noqa: E402
+import phases  # noqa: E402
+
+# Crates of laws, which have no code that runs.
+LAWS = {"qh_laws", "qh_seam_laws", "qh_convex_laws", "qh_tree_laws"}
 
 
 class FailedRuns(unittest.TestCase):
@@ -32,6 +38,39 @@ class FailedRuns(unittest.TestCase):
                 lattice_times.seconds(["false", "s"], None, folder, 60)
             self.assertEqual(caught.exception.code, "false s ended with status 1")
             self.assertRegex(lattice_times.seconds(["sh", "-c", "exit 1"], None, folder, 60), r"^\d+\.\d{3}$")
+
+
+class Phases(unittest.TestCase):
+    def phase(self, name):
+        return phases.phase("qconvex", ".", name, "qconvex", set())
+
+    def test_each_crate_of_the_program_has_a_phase(self):
+        self.addCleanup(os.chdir, os.getcwd())
+        os.chdir(TOP)
+        for crate in sorted(set(crates_below(["qconvex"])) - LAWS):
+            with self.subTest(crate=crate):
+                self.assertTrue(any(re.search(pattern, f"{crate}::x::y") for pattern, _ in phases.OWNERS))
+
+    def test_each_pattern_has_a_column(self):
+        self.assertEqual({owner for _, owner in phases.OWNERS} - set(phases.PHASES), set())
+
+    def test_modules_that_a_pattern_names_are_there(self):
+        for pattern, _ in phases.OWNERS:
+            for crate, modules in re.findall(r"\b(qh_\w+)::\(?(\w[\w|]*)", pattern):
+                for module in modules.split("|"):
+                    with self.subTest(module=f"{crate}::{module}"):
+                        self.assertTrue((TOP / "crates" / crate / "src" / f"{module}.rt").exists())
+
+    def test_functions_of_one_crate_may_have_several_phases(self):
+        for name, wanted in [
+            ("qh_block::faces::new_face", "faces"), ("qh_block::unsorted_faces::UnsortedFaces::push", "faces"),
+            ("qh_block::solids::solid_mesh", "surface"), ("qh_block::solids::tally_of", "faces"),
+            ("qh_run::filtered::without_interior", "filter"), ("qh_run::unions::union", "surface"),
+            ("qh_serve::threaded::Threaded::finish", "parts"), ("qh_serve::serving::serve", "read"),
+            ("qh_interior::sieves::x", "filter"), ("qh_seam::rings::x", "parts"), ("memcpy", "else"),
+        ]:  # fmt: skip
+            with self.subTest(name=name):
+                self.assertEqual(self.phase(name), wanted)
 
 
 if __name__ == "__main__":
