@@ -1,4 +1,6 @@
 """Looks whether the scripts that plant bodies still find the lines that they replace, each once in its file."""
+import contextlib
+import io
 import sys
 import unittest
 from pathlib import Path
@@ -24,6 +26,19 @@ class Plants(unittest.TestCase):
         for file, old in plants():
             with self.subTest(file=file, old=old):
                 self.assertEqual((TOP / file).read_text(encoding="utf-8").count(old), 1)
+
+    def test_a_body_that_does_not_compile_is_told_apart(self):
+        for said, wanted in [
+            ("test a ... ok\ntest result: ok. 1 passed\nrun=ended status=0 runners=1 proved=no\n", wrong_workers.PASS),
+            ("test a ... FAILED\nrun=ended status=1 runners=1 proved=no\n", wrong_workers.FAIL),
+            ("run=no-answer runners=1 proved=no\n", wrong_workers.FAIL),
+            ("error: a type\nrun=none proved=no\n", wrong_workers.NOT_RUN),
+            ("", wrong_workers.NOT_RUN),
+        ]:
+            with self.subTest(said=said):
+                self.assertEqual(wrong_workers.outcome_of(said), wanted)
+                with contextlib.redirect_stdout(io.StringIO()):
+                    self.assertEqual(wrong_workers.tell("a body", said, wrong_workers.FAIL), wanted != wrong_workers.FAIL)
 
     def test_one_line_states_the_runs_of_boards(self):
         text = (TOP / "crates/qh_tests_board/src/tests/board/runs.rt").read_text(encoding="utf-8")

@@ -7,8 +7,8 @@ Each body gives the right hull: by workers that do not run at once, that are too
 is not used or that tell their gate something wrong; or by a filter of all triples of points, which takes too long. No
 clause speaks of these things, so the checker has nothing to refuse, and none of the bodies is handed to it. The script
 copies the repository to a folder of its own, puts one body after the other in the place of the right one, and runs the
-tests of qh_tests_workers there that watch the workers or the time. It ends with status 1 if a body passes all tests, or the right
-bodies fail one.
+tests of qh_tests_workers there that watch the workers or the time. It ends with status 1 if a body passes all tests, if tests
+do not run, as where a body does not compile, or if the right bodies fail one.
 """
 import re
 import shutil
@@ -109,6 +109,11 @@ ALL_TRIPLES = (
 # The time for the row of 20,000 points: the right body takes a fraction of it.
 TIME_LIMIT = 600
 
+# How tests end.
+PASS, FAIL, NOT_RUN = "pass all tests", "fail a test", "do not run: they may not compile"
+# The last line of `rt try` says how the run ended. It begins with run=none where nothing ran.
+RAN = re.compile(r"^run=(?!none\b)", re.MULTILINE)
+
 
 def keep_modules(file, names):
     """Removes all other modules of a file, and their files."""
@@ -122,11 +127,17 @@ def keep_modules(file, names):
 
 
 def tests_of(top, seconds=1200):
-    """What the tests say: a line for each, and whether all pass."""
+    """What the tests say: a line for each."""
     command = ["rt", "try", "--test", "--seconds", str(seconds)]
     run = subprocess.run(command, cwd=top / "crates/qh_tests_workers", capture_output=True, text=True)
-    said = run.stdout + run.stderr
-    return said, "test result: ok." in said
+    return run.stdout + run.stderr
+
+
+def outcome_of(said):
+    """How the tests ended that said this."""
+    if "test result: ok." in said:
+        return PASS
+    return FAIL if RAN.search(said) else NOT_RUN
 
 
 def failures(said):
@@ -141,13 +152,13 @@ def copied(top, modules):
     keep_modules((top / TESTS).with_suffix(".rt"), modules)
 
 
-def tell(name, passes, said, should_pass):
-    """Prints how a body fared. Returns true if that is wrong."""
-    if passes == should_pass:
-        print(f"ok: {name} {'pass all tests' if passes else 'fails'}", *([] if passes else failures(said)), sep="\n    ", flush=True)
-    else:
-        print(f"WRONG: {name} {'passes all tests' if passes else 'fail'}", *failures(said), sep="\n    ", flush=True)
-    return passes != should_pass
+def tell(name, said, wanted):
+    """Prints how the tests ended with a body. Returns true if that is wrong."""
+    outcome = outcome_of(said)
+    verdict = "ok" if outcome == wanted else "WRONG"
+    details = [] if outcome == wanted == PASS else failures(said)
+    print(f"{verdict}: with {name} the tests {outcome}", *details, sep="\n    ", flush=True)
+    return outcome != wanted
 
 
 def try_bodies(modules, seconds, bodies):
@@ -155,13 +166,12 @@ def try_bodies(modules, seconds, bodies):
     with tempfile.TemporaryDirectory() as folder:
         top = Path(folder)
         copied(top, modules)
-        said, passes = tests_of(top, seconds)
-        wrong = tell("the right bodies", passes, said, True)
+        wrong = tell("the right bodies", tests_of(top, seconds), PASS)
         for name, file, edits in bodies:
             right = replace_once(top / file, edits)
-            said, passes = tests_of(top, seconds)
+            said = tests_of(top, seconds)
             (top / file).write_text(right)
-            wrong += tell(name, passes, said, False)
+            wrong += tell(name, said, FAIL)
     return wrong
 
 
