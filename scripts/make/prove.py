@@ -9,7 +9,8 @@ others can be proved beside it. One folder admits one `rt` at a time, so each ru
 `build/prove`, which gets the libraries that were proved in the others. What was proved comes back to the repository,
 and the copies go. A library that was proved before, and whose files are the same, is not proved again.
 
-The script prints a line for each crate, and what `rt` said of one that is not proved. Then the status is 1.
+The script prints a line for each crate, and what `rt` said of one that is not proved. After that no other crate begins,
+those that have begun are proved to their end, and the status is 1.
 """
 import os
 import shutil
@@ -85,7 +86,7 @@ def proved(name, lane, jobs):
         ["rt", *words], cwd=folder, stdin=subprocess.DEVNULL, stdout=subprocess.PIPE, stderr=subprocess.STDOUT, text=True
     )
     failed = not (folder / "out" / f"{name}.stamp").exists() if is_program else run.returncode
-    return run.stdout if failed else ""
+    return (run.stdout or f"rt ended with status {run.returncode}\n") if failed else ""
 
 
 def copies(number):
@@ -131,13 +132,14 @@ class Crates:
             self.running[pool.submit(proved, name, lane, jobs)] = name, lane, jobs
 
     def end(self, task):
-        """Notes that a crate is proved. Returns its name and its number of processes. One that is not proved ends the script."""
+        """Notes that a crate has ended. Returns a line that says how, and true if the crate is proved."""
         name, lane, jobs = self.running.pop(task)
         if task.result():
-            sys.exit(f"{task.result()}{name} is NOT PROVED")
+            return f"{task.result()}{name} is NOT PROVED", False
         self.free.append(lane)
         self.home[name] = lane
-        return name, jobs
+        processes = "1 process" if jobs == 1 else f"{jobs} processes"
+        return f"{name} is proved ({len(self.home)} of {len(self.needs)}, {processes})", True
 
     def bring_back(self):
         """Puts what was proved into the repository."""
@@ -152,17 +154,22 @@ def main():
     if not names:
         sys.exit("name a crate: scripts/make/prove.py CRATE..")
     crates, start = Crates(names, max(1, int(os.environ.get("JOBS") or os.cpu_count()))), time.monotonic()
+    failed = False
     try:
         with ThreadPoolExecutor(crates.processors) as pool:
-            while crates.left or crates.running:
-                crates.begin(pool)
+            while crates.running or (crates.left and not failed):
+                if not failed:
+                    crates.begin(pool)
                 for task in wait(crates.running, return_when=FIRST_COMPLETED).done:
-                    name, jobs = crates.end(task)
-                    processes = "1 process" if jobs == 1 else f"{jobs} processes"
-                    done = f"{len(crates.home)} of {len(crates.needs)}"
-                    print(f"{time.monotonic() - start:5.0f} s  {name} is proved ({done}, {processes})", flush=True)
+                    line, is_proved = crates.end(task)
+                    if is_proved:
+                        print(f"{time.monotonic() - start:5.0f} s  {line}", flush=True)
+                    else:
+                        print(line, file=sys.stderr, flush=True)
+                        failed = True
     finally:
         crates.bring_back()
+    sys.exit(1 if failed else 0)
 
 
 if __name__ == "__main__":

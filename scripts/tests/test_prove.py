@@ -1,5 +1,6 @@
 """Tests of make/prove.py, with a command `rt` that proves nothing."""
 import os
+import subprocess
 import sys
 import tempfile
 import unittest
@@ -15,6 +16,8 @@ case $(basename "$PWD") in
 program) touch out/program.stamp; exit 2 ;;
 refused) echo refused; exit 1 ;;
 wrong) echo wrong; exit 1 ;;
+killed) kill -9 $$ ;;
+slow) sleep 0.5; mkdir out/rlib ;;
 esac
 """
 
@@ -42,6 +45,22 @@ class Proved(unittest.TestCase):
     def test_a_library_is_proved_where_rt_ends_with_0(self):
         self.assertEqual(prove.proved("library", self.lane, 2), "")
         self.assertEqual(prove.proved("wrong", self.lane, 2), "wrong\n")
+
+    def test_a_crate_whose_rt_says_nothing_is_not_proved(self):
+        (self.lane / "crates" / "killed" / "src").mkdir(parents=True)
+        self.assertEqual(prove.proved("killed", self.lane, 2), "rt ended with status -9\n")
+
+    def test_what_is_proved_while_another_crate_fails_comes_back(self):
+        (self.lane / "crates" / "slow" / "src").mkdir(parents=True)
+        (self.lane / "crates.txt").write_text("wrong:\nslow:\nlibrary: wrong slow\n")
+        (self.lane / "HANDLES").touch()
+        done = subprocess.run(
+            [sys.executable, prove.__file__, "library"], cwd=self.lane, env={**os.environ, "JOBS": "2"}, capture_output=True, text=True
+        )
+        self.assertEqual((done.returncode, done.stderr), (1, "wrong\nwrong is NOT PROVED\n"))
+        self.assertIn("slow is proved (1 of 3, 1 process)", done.stdout)
+        self.assertTrue((self.lane / "crates/slow/out/rlib").is_dir())
+        self.assertFalse((self.lane / "crates/library/out").exists() or (self.lane / "build/prove").exists())
 
 
 if __name__ == "__main__":
