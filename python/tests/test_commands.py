@@ -148,6 +148,25 @@ def test_what_is_no_hull_is_refused():
         assert done.returncode == 1 and not done.stdout and b"Traceback" not in done.stderr
 
 
+@pytest.mark.parametrize("form", ["normaliz", "polymake", "lrs"])
+def test_a_segment_without_length_is_refused(form):
+    for given in ("OFF\n2 1 1\n1 1 1\n1 1 1\n2 0 1\n", "OFF\n1 1 1\n1 1 1\n2 0 0\n"):
+        done = run("hullfacets", "--form", form, given=given)
+        assert done.returncode == 1 and not done.stdout and b"closed surface" in done.stderr
+
+
+def test_numbers_are_exact_and_an_exponent_without_end_is_refused():
+    from qconvex.commands.off_files import MOST_EXPONENT, Malformed, number
+
+    assert [number(word) for word in ("-12", "+3", "25e-1", "1E2", "1/4")] == [-12, 3, 2.5, 100, 0.25]
+    assert number(f"1e{MOST_EXPONENT}") == 10**MOST_EXPONENT
+    for word in ("1e999999999", "-1.5E-999999999", "1e999_999_999"):
+        with pytest.raises(Malformed, match="the exponent of"):
+            number(word)
+    done = run("hullfacets", given="OFF\n1 1 0\n0 0 1e999999999\n1 0\n")
+    assert done.returncode == 1 and done.stderr == b"-: the exponent of 1e999999999 is beyond 2000\n"
+
+
 # ---- meshpoints
 
 
@@ -218,7 +237,8 @@ def test_a_hull_comes_back_in_the_units_of_the_mesh(tmp_path):
 
 
 def test_a_scale_and_a_centre_are_numbers(tmp_path):
-    for words in (("--scale", "0"), ("--scale", "1/0"), ("--scale", "x"), ("--centre", "1,2"), ("--centre", "0,0,1/0")):
+    scales = [("--scale", word) for word in ("0", "1/0", "x", "1e999999999")]
+    for words in (*scales, ("--centre", "1,2"), ("--centre", "0,0,1/0")):
         done = run("meshpoints", *words, TOP / "examples" / "knot.obj")
         assert done.returncode == 2 and not done.stdout and b"Traceback" not in done.stderr
     path = tmp_path / "points.txt"
@@ -260,6 +280,27 @@ def test_what_is_no_mesh_is_refused(name, tmp_path):
     path.write_bytes(NO_MESHES[name])
     done = run("meshpoints", path)
     assert done.returncode == 1 and not done.stdout and b"Traceback" not in done.stderr
+
+
+# ---- hullview
+
+
+def hull_in(page):
+    """The hull that a page shows."""
+    return json.loads(re.search(r'\{"ids":.*\}', page)[0])
+
+
+def test_a_page_has_the_numbers_of_its_file(tmp_path):
+    assert hull_in(out("hullview", given=CUBE_OFF))["points"] == list(map(list, CUBE))
+    path = tmp_path / "two.off"
+    path.write_text("COFF\n2 1 1\n0.5 1e1 -3 255 0 0\n1/4 2 3.0 0 0 255\n2 0 1 9 9 9\n")
+    assert hull_in(out("hullview", path)) == {"ids": [0, 1], "points": [[0.5, 10, -3], [0.25, 2, 3]], "faces": [[0, 1]]}
+
+
+def test_what_is_no_off_text_has_no_page():
+    for given in ("", "OFF\n1 1 0\n0 0 0\n1 7\n", "OFF\n1 0 0\n0 0\n", "OFF\n1 1 0\n0 0 1e999999999\n1 0\n"):
+        done = run("hullview", given=given)
+        assert done.returncode == 1 and not done.stdout and done.stderr.startswith(b"hullview: -: ")
 
 
 # ---- hullexplain

@@ -77,6 +77,16 @@ def test_a_square_and_a_point_are_shown(tmp_path):
     assert asked(page_of([[5, 5, 5]]), tmp_path, MOVE % "say(seen[0], seen[1])") == "vertex 0 (5, 5, 5)"
 
 
+@needs_browser
+def test_a_drag_ends_with_its_pointer(tmp_path):
+    question = """["pointerup", "pointercancel", "lostpointercapture"].map(end => {
+        canvas.dispatchEvent(new PointerEvent("pointerdown"));
+        const began = held !== null;
+        canvas.dispatchEvent(new PointerEvent(end));
+        return began && held === null; })"""
+    assert asked(page_of(CUBE), tmp_path, question) == [True, True, True]
+
+
 def test_the_command(tmp_path, capsys, monkeypatch):
     path = tmp_path / "cube.off"
     path.write_text("OFF # a cube\n" + ConvexHull(CUBE).to_off()[4:])

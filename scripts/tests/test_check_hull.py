@@ -101,6 +101,13 @@ class Files(unittest.TestCase):
     def test_a_face_that_is_cut_off_is_refused(self):
         self.assertRaises(ValueError, read, faces_of_file, "OFF\n3 1 0\n0 0 0\n1 0 0\n0 1 0\n4 0 1 2\n")
 
+    def test_an_exponent_without_end_is_refused(self):
+        text = "OFF\n1 1 0\n0 1 %s\n1 0\n"
+        self.assertEqual(read(faces_of_file, text % "25e-1").points, [(0, 1, 2.5)])
+        self.assertEqual(read(faces_of_file, text % "1E+2000").points, [(0, 1, 10**2000)])
+        for word in ("1e999999999", "-1.5E-999999999", "1e999_999_999", "1e" + 5000 * "9"):
+            self.assertRaises(ValueError, read, faces_of_file, text % word)
+
     def test_a_face_of_no_point_is_refused(self):
         self.assertRaises(ValueError, read, faces_of_file, "OFF\n1 1 0\n0 0 0\n1 1\n")
 

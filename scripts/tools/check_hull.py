@@ -27,6 +27,10 @@ from math import gcd
 # A box with at most this number of points is not split.
 FEW = 16
 
+# The greatest absolute value of an exponent: those of doubles stay below 325. An exact number has about that many digits.
+MOST_EXPONENT = 2000
+EXPONENT = re.compile(r"[eE]([-+]?\d[\d_]*)$")
+
 # The points that faces name by their places, and the faces as lists of places.
 Faces = namedtuple("Faces", "points faces")
 
@@ -363,6 +367,9 @@ def check(checker, faces, options):
 
 def number(word):
     """A number, exactly: whole where it is whole."""
+    exponent = EXPONENT.search(word)
+    if exponent and abs(int(exponent[1])) > MOST_EXPONENT:
+        raise ValueError(f"the exponent of {word} is beyond {MOST_EXPONENT}")
     value = Fraction(word)
     return value.numerator if value.denominator == 1 else value
 

@@ -20,7 +20,7 @@ class Halfspaces(NamedTuple):
 
 
 def row_of(normal: Vector, offset: int) -> Row:
-    """The row of `normal . p <= offset`, without a common divisor."""
+    """The row of `normal . p <= offset`, without a common divisor. Zeros alone raise ZeroDivisionError."""
     row = (offset, *times(-1, normal))
     divisor = gcd(*row)
     return tuple(number // divisor for number in row)
@@ -44,12 +44,12 @@ def of_polygon(corners: List[Vector]) -> Halfspaces:
 
 
 def of_segment(corners: List[Vector]) -> Halfspaces:
-    """A line, and on it the two ends."""
+    """A line, and on it the two ends. Equal ends raise ZeroDivisionError, as a polygon without a plane does."""
     start, end = corners
     along = minus(end, start)
+    ends = [row_of(along, dot(along, end)), row_of(times(-1, along), -dot(along, start))]
     moved = next(place for place, part in enumerate(along) if part)
     across = [cross(along, axis) for place, axis in enumerate(AXES) if place != moved]
-    ends = [row_of(along, dot(along, end)), row_of(times(-1, along), -dot(along, start))]
     return Halfspaces(ends, [row_of(vector, dot(vector, start)) for vector in across])
 
 

@@ -11,57 +11,31 @@ from __future__ import annotations
 import argparse
 import signal
 import sys
-from typing import Iterator, TextIO
 
 from .._view import page
+from .contents import text_of
+from .off_files import Malformed, Number, read_off
 
 
-class NotOff(Exception):
-    """The file is no OFF file; the text says why."""
-
-
-def _words(source: TextIO) -> Iterator[str]:
-    for line in source:
-        yield from line.split("#", 1)[0].split()
-
-
-def _number(word: str) -> int | float:
-    try:
-        return int(word)
-    except ValueError:
-        return float(word)
-
-
-def read_off(source: TextIO) -> tuple[list[list[int | float]], list[list[int]]]:
-    """The vertices and the faces of an OFF file."""
-    words = _words(source)
-    try:
-        if next(words) != "OFF":
-            raise NotOff("the first word is not OFF")
-        vertex_count, face_count, _edges = (int(next(words)) for _ in range(3))
-        vertices = [[_number(next(words)) for _ in range(3)] for _ in range(vertex_count)]
-        faces = [[int(next(words)) for _ in range(int(next(words)))] for _ in range(face_count)]
-    except StopIteration:
-        raise NotOff("the file ends too soon") from None
-    except ValueError as error:
-        raise NotOff(str(error)) from None
-    if any(not 0 <= corner < vertex_count for face in faces for corner in face):
-        raise NotOff("a face has a corner that is no vertex")
-    return vertices, faces
+def shown(value: Number) -> int | float:
+    """A coordinate as the page takes it: whole, or the nearest double."""
+    return value if isinstance(value, int) else float(value)
 
 
 def main() -> int:
     """Writes the page on standard output; 1 where the file can't be read."""
     parser = argparse.ArgumentParser(prog="hullview", description=__doc__, formatter_class=argparse.RawDescriptionHelpFormatter)
-    parser.add_argument("file", nargs="?", type=argparse.FileType("r"), default=sys.stdin, help="an OFF file; else standard input")
+    parser.add_argument("file", nargs="?", default="-", metavar="FILE", help="an OFF file (default: standard input)")
     given = parser.parse_args()
     signal.signal(signal.SIGPIPE, signal.SIG_DFL)
     try:
-        vertices, faces = read_off(given.file)
-    except NotOff as error:
-        print(f"hullview: {given.file.name}: {error}", file=sys.stderr)
+        points, faces = read_off(text_of(given.file))
+        vertices = [list(map(shown, point)) for point in points]
+    except (Malformed, OverflowError) as error:
+        print(f"hullview: {given.file}: {error}", file=sys.stderr)
         return 1
-    sys.stdout.write(page(list(range(len(vertices))), vertices, faces, given.file.name))
+    title = "hull" if given.file == "-" else given.file
+    sys.stdout.write(page(list(range(len(vertices))), vertices, faces, title))
     return 0
 
 

@@ -26,9 +26,9 @@ from math import ceil, floor
 from typing import List, NamedTuple, Sequence, Tuple
 
 from .._limits import COORDINATE_LIMIT, POINT_LIMIT
-from . import contents
+from . import contents, off_files
 from .meshes import Vertices, vertices_of_mesh
-from .off_files import Number, off_text, read_off_file
+from .off_files import Malformed, Number, off_text, read_off_file
 
 Fractions = Tuple[Fraction, ...]
 
@@ -117,8 +117,8 @@ def write_points(found: Rounded, by: Map) -> None:
 def number(word: str) -> Fraction:
     """A number of the command line or of a point file's first line."""
     try:
-        return Fraction(word)
-    except (ValueError, ZeroDivisionError):
+        return Fraction(off_files.number(word))
+    except (Malformed, ValueError, ZeroDivisionError):
         raise argparse.ArgumentTypeError(f"{word!r} is no number such as 1000 or 1/3") from None
 
 

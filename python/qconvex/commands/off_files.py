@@ -1,6 +1,7 @@
 """Faces as programs write them: OFF texts, ours and those of others, and the text of Qhull's option `o`."""
 from __future__ import annotations
 
+import re
 import sys
 from fractions import Fraction
 from typing import Any, List, NamedTuple, Sequence, Tuple, Union
@@ -9,6 +10,10 @@ from . import contents
 
 # A whole number where it is whole.
 Number = Union[int, Fraction]
+
+# The greatest absolute value of an exponent: those of doubles stay below 325. An exact number has about that many digits.
+MOST_EXPONENT = 2000
+EXPONENT = re.compile(r"[eE]([-+]?\d[\d_]*)$")
 
 
 class Faces(NamedTuple):
@@ -24,6 +29,11 @@ class Malformed(Exception):
 
 def number(word: str) -> Number:
     """A number, exactly: whole where it is whole."""
+    if word.lstrip("+-").isdecimal():
+        return int(word)
+    exponent = EXPONENT.search(word)
+    if exponent and abs(int(exponent[1])) > MOST_EXPONENT:
+        raise Malformed(f"the exponent of {word} is beyond {MOST_EXPONENT}")
     value = Fraction(word)
     return value.numerator if value.denominator == 1 else value
 
