@@ -4,13 +4,14 @@
     scripts/tests/test_picture.py
 """
 import re
-import unittest
 import sys
+import tempfile
+import unittest
 from collections import Counter
 from pathlib import Path
 
 sys.path.insert(0, str(Path(__file__).resolve().parents[1]))
-from tools.picture import Panel, svg, view_from  # noqa: E402
+from tools.picture import Panel, mesh_of, panels_of, svg, view_from  # noqa: E402
 
 
 CUBE_POINTS = [(x, y, z) for x in (0, 1) for y in (0, 1) for z in (0, 1)]
@@ -22,6 +23,14 @@ SEGMENT = Panel([(0, 0, 0), (2, 2, 2)], [[0, 1]], [], "")
 POINT = Panel([(5, 5, 5)], [[0]], [], "")
 EYES = [(5, 9, 4), (1, 2, 3), (-3, 1, 2), (2, -5, -1), (-1, -2, -3), (0.1, 0.2, 9)]
 UP = (0, 0, 1)
+
+
+def read(reader, text):
+    """What a reader makes of a file with a text."""
+    with tempfile.NamedTemporaryFile("w") as file:
+        file.write(text)
+        file.flush()
+        return reader(file.name)
 
 
 def polygons(text):
@@ -83,6 +92,20 @@ class Pictures(unittest.TestCase):
     def test_any_title_is_text(self):
         text = svg([Panel(CUBE_POINTS, CUBE_FACES, [], "1 < 2 & 3")], view_from(EYES[0], UP))
         self.assertIn(">1 &lt; 2 &amp; 3</text>", text)
+
+    def test_negative_indices_of_a_mesh_count_back_from_the_face(self):
+        vertices = "v 0 0 0\nv 1 0 0\nv 0 1 0\n"
+        mesh = read(mesh_of, f"{vertices}f 1/7 2//3 3\nf -3/1 -1 -2\nv 5 5 5\nf -1 1 2\n")
+        self.assertEqual(mesh.faces, [[0, 1, 2], [0, 2, 1], [3, 0, 1]])
+        for word in ("0", "4", "-4"):
+            with self.assertRaises(SystemExit) as caught:
+                read(mesh_of, f"{vertices}f 1 2 {word}\n")
+            self.assertIn("a face names no vertex of 3", caught.exception.code)
+
+    def test_a_text_without_faces_is_refused(self):
+        with self.assertRaises(SystemExit) as caught:
+            read(lambda path: panels_of([path], [""]), "OFF\n1 0 0\n0 0 0\n")
+        self.assertIn("there is no face to draw", caught.exception.code)
 
     def test_the_eye_may_stand_straight_above(self):
         for axis in ((1, 0, 0), (0, 1, 0), (0, 0, 1)):

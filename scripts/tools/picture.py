@@ -106,6 +106,8 @@ def panels_of(paths, titles):
     panels = []
     for path, title in zip(paths, titles):
         points, faces = used(read_off_file(path))
+        if not faces:
+            sys.exit(f"{path}: there is no face to draw")
         lost = sorted(set(panels[0].points) - set(points)) if panels else []
         panels.append(Panel(points, outward(points, faces), lost, title))
     return panels
@@ -214,14 +216,23 @@ def svg(panels, view, size=SIZE, mesh=None):
     return "\n".join([*lines, "</svg>", ""])
 
 
+def place_of(word, count):
+    """The place of the vertex that a word of an OBJ face names. A negative index counts back from the last vertex so far."""
+    index = int(word.split("/")[0])
+    return count + index if index < 0 else index - 1
+
+
 def mesh_of(path):
-    """The vertices and the faces of an OBJ file, in numbers of the machine."""
+    """The vertices and the faces of an OBJ file, in numbers of the machine. A face that names no vertex ends the script."""
     points, faces = [], []
     for row in map(str.split, text_of(path).split("\n")):
         if row[:1] == ["v"]:
             points.append(tuple(map(float, row[1:4])))
         elif row[:1] == ["f"]:
-            faces.append([int(word.split("/")[0]) - 1 for word in row[1:]])
+            faces.append([place_of(word, len(points)) for word in row[1:]])
+    wrong = next((face for face in faces if not all(0 <= place < len(points) for place in face)), None)
+    if wrong is not None:
+        sys.exit(f"{path}: a face names no vertex of {len(points)}")
     return Panel(points, faces, [], "")
 
 
