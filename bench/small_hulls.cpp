@@ -74,7 +74,10 @@ static long by_qhull(const Input &in) {
         qh_zero(qh, nowhere);
         int code = qh_new_qhull(qh, 3, int(in.size), &points[3 * set * in.size], False, options, nullptr, nowhere);
         vertices = code || vertices < 0 ? -1 : vertices + qh->num_vertices;
-        qh_freeqhull(qh, qh_ALL);
+        /* Frees long memory, then short memory, as Qhull's own programs do. */
+        int left, bytes_left;
+        qh_freeqhull(qh, !qh_ALL);
+        qh_memfreeshort(qh, &left, &bytes_left);
     }
     return vertices;
 }

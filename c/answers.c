@@ -69,6 +69,10 @@ static void bad_points_are_refused(void) {
     static const qconvex_point ends[2] = {{-1073741824, 1073741824, 0}, {1073741824, 0, -1073741824}};
     static const qconvex_point least[1] = {{0, 0, INT32_MIN}};
     qconvex_point *many = calloc(QCONVEX_POINT_LIMIT + 1, sizeof *many);
+    if (!many) {
+        expect(false, "memory for one point too many");
+        return;
+    }
     expect(hull(cube, 0, EXTREMES, OFFSETS, CORNERS) == QCONVEX_NO_POINT, "no point");
     expect(buffers_kept() && sizes.dimension == UNTOUCHED, "buffers after QCONVEX_NO_POINT");
     expect(hull(many, QCONVEX_POINT_LIMIT + 1, EXTREMES, OFFSETS, CORNERS) == QCONVEX_TOO_MANY, "one point too many");

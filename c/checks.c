@@ -79,6 +79,10 @@ static void refusals(void) {
     static const qconvex_point far[1] = {{0, QCONVEX_COORDINATE_LIMIT + 1, 0}};
     static const size_t falling[3] = {0, 4, 3}, beyond[2] = {0, 25}, part[2] = {4, 8}, none[1] = {0};
     qconvex_point *many = calloc(QCONVEX_POINT_LIMIT + 1, sizeof *many);
+    if (!many) {
+        expect(false, "memory for one point too many");
+        return;
+    }
     expect(check(cube, 0, faces, FACES, 4) == QCONVEX_NO_POINT && is_kept(), "no point");
     expect(check(many, QCONVEX_POINT_LIMIT + 1, faces, FACES, 4) == QCONVEX_TOO_MANY && is_kept(), "one point too many");
     expect(check(far, 1, faces, FACES, 4) == QCONVEX_RANGE && is_kept(), "a coordinate out of range");
