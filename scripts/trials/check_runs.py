@@ -3,9 +3,9 @@
 
     scripts/trials/check_runs.py [--checker PATH] [--workers N]      from the top of the repository
 
-Devices: standard output that is full or closed, folders and missing files in place of the two files, files that end
-early, and command lines that are refused. Each run has to end with its status of docs/CHECKING.md, write nothing on
-standard output, and a line on standard error.
+Devices: folders and missing files in place of the two files, files that end early, and command lines that are refused.
+Each run has to end with its status of docs/CHECKING.md, write nothing on standard output, and a line on standard error.
+Where standard output is full or closed, the status alone is asked for.
 
 Memory: with the library of refuse.py each growth, and then each thread, is refused in turn, of checks of right and of
 wrong faces of the examples, in triangles and whole. Each run has to give the verdict of a run that meets no refusal, or
