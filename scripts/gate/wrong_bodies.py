@@ -6,7 +6,8 @@
 A crate's `must-fail/` has the wrong bodies that `rt ci` tries at each run: those that tell most of each public call.
 Its `wrong-bodies/` has the others, in the same form. They are tried before a release, and when a contract of their
 crate changes. The script copies the repository's crates to a folder of its own, puts both together there, and runs
-`rt must-fail`, which prints for each body the line at which the prover refused it.
+`rt must-fail`, which prints for each body the line at which the prover refused it. Libraries that were proved in the
+repository are not proved again.
 
 The status is 1 if a body is still proved, could not be applied or read, or was not tried. The script prints last how
 many were refused, and names those whose refusal says little: a proof file named what the body took away, or the prover
@@ -19,7 +20,7 @@ import tempfile
 from pathlib import Path
 
 sys.path.insert(0, str(Path(__file__).resolve().parents[1]))
-from lib.copies import copy_crates  # noqa: E402
+from lib.copies import copy_crates, give_library  # noqa: E402
 from lib.usage import names_given  # noqa: E402
 
 LITTLE = re.compile(r"refused, as it must be \(only")
@@ -27,8 +28,13 @@ WRONG = re.compile(r": (NOT REFUSED|BAD EDIT|NOT TRIED)")
 
 
 def copied(top):
-    """Copies the sources of the crates into the folder, with all wrong bodies of a crate in its must-fail."""
+    """Copies the sources of the crates into the folder, with all wrong bodies of a crate in its must-fail.
+
+    A library that was proved in the repository comes with them.
+    """
     copy_crates(top)
+    for folder in Path("crates").iterdir():
+        give_library(folder.name, Path("."), top)
     for edit in sorted(top.glob("crates/*/wrong-bodies/*.edit")):
         folder = edit.parent.parent / "must-fail"
         folder.mkdir(exist_ok=True)

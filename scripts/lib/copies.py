@@ -1,4 +1,5 @@
-"""Copies of the crates, for scripts that plant other bodies or tests in them."""
+"""Copies of the crates, for scripts that plant other bodies or tests in them, or prove several crates side by side."""
+import os
 import shutil
 import sys
 
@@ -8,6 +9,25 @@ def copy_crates(top):
     shutil.copytree("crates", top / "crates", symlinks=True, ignore=shutil.ignore_patterns("out"))
     for name in ["crates.txt", "HANDLES"]:
         shutil.copy(name, top / name)
+
+
+def link_or_copy(source, target):
+    """Makes the target a link to the source's bytes, or a copy of them where the file system has no link for it."""
+    try:
+        os.link(source, target)
+    except OSError:
+        shutil.copy2(source, target)
+
+
+def give_library(name, top, to):
+    """Gives the crate of this name below `to` the library that was proved in its folder below `top`, if one was.
+
+    Its files are links: `rt` removes a library before it writes another one, so neither folder changes the other's.
+    """
+    library, target = top / "crates" / name / "out/rlib", to / "crates" / name / "out/rlib"
+    if library.is_dir() and top != to:
+        shutil.rmtree(target, ignore_errors=True)
+        shutil.copytree(library, target, copy_function=link_or_copy)
 
 
 def replace_once(path, edits):

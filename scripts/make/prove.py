@@ -21,7 +21,7 @@ from concurrent.futures import FIRST_COMPLETED, ThreadPoolExecutor, wait
 from pathlib import Path
 
 sys.path.insert(0, str(Path(__file__).resolve().parents[1]))
-from lib.copies import copy_crates  # noqa: E402
+from lib.copies import copy_crates, give_library  # noqa: E402
 from lib.usage import names_given  # noqa: E402
 
 COPIES = Path("build/prove")
@@ -64,14 +64,6 @@ def lines_behind(needs):
     for name in needs:
         of(name)
     return behind
-
-
-def give(name, top, to):
-    """Gives a folder with crates the library that was proved in another, by links to its files, if it was."""
-    library, target = top / "crates" / name / "out/rlib", to / "crates" / name / "out/rlib"
-    if library.is_dir() and top != to:
-        shutil.rmtree(target, ignore_errors=True)
-        shutil.copytree(library, target, copy_function=os.link)
 
 
 def proved(name, lane, jobs):
@@ -124,9 +116,9 @@ class Crates:
                 break
             name, lane = ready[0], self.free.pop()
             jobs = self.processes(name, idle, ready)
-            give(name, Path("."), lane)
+            give_library(name, Path("."), lane)
             for below in crates_below(self.needs[name]):
-                give(below, self.home[below], lane)
+                give_library(below, self.home[below], lane)
             self.left.remove(name)
             ready.remove(name)
             self.running[pool.submit(proved, name, lane, jobs)] = name, lane, jobs

@@ -9,7 +9,7 @@ from pathlib import Path
 
 sys.path.insert(0, str(Path(__file__).resolve().parents[1]))
 from lib import package  # noqa: E402,F401
-from lib.copies import copy_crates, replace_once  # noqa: E402
+from lib.copies import copy_crates, give_library, replace_once  # noqa: E402
 from lib.file_oracle import Fault, off_points_of, points_of  # noqa: E402
 from lib.hull_oracle import file_of, hull_text  # noqa: E402
 from lib.limits import BYTE_LIMIT, COORDINATE_LIMIT, POINT_LIMIT, limits_in  # noqa: E402
@@ -64,6 +64,18 @@ class Copies(unittest.TestCase):
         copy_crates(self.folder / "copy")
         found = [str(path.relative_to(self.folder / "copy")) for path in (self.folder / "copy").rglob("*") if path.is_file()]
         self.assertEqual(sorted(found), ["HANDLES", "crates.txt", "crates/one/src/lib.rt"])
+
+    def test_a_library_is_given_if_it_was_proved(self):
+        library = self.folder / "top/crates/one/out/rlib"
+        library.mkdir(parents=True)
+        (library / "stamp").write_text("new")
+        given = self.folder / "copy/crates/one/out/rlib"
+        given.mkdir(parents=True)
+        (given / "older").touch()
+        for name in ("one", "two"):
+            give_library(name, self.folder / "top", self.folder / "copy")
+        found = [str(path.relative_to(self.folder / "copy")) for path in (self.folder / "copy").rglob("*") if path.is_file()]
+        self.assertEqual(found, ["crates/one/out/rlib/stamp"])
 
     def test_a_text_that_stands_twice_is_not_replaced(self):
         path = self.folder / "file"
