@@ -13,8 +13,11 @@ use std::alloc::{AllocError, Global};
 /// shared ids.
 #[derive(Clone, Copy, Drop)]
 pub struct Kept<'a> {
+    /// All points of the set, by id.
     pub pts: &'a [Point],
+    /// For each part, in the order of the parts, its own corners with their points in `pts`.
     pub corners: &'a [Places],
+    /// The ids that all parts share, each below the number of points.
     pub shared: &'a [Id],
     ghost corners_in: { All (ArePlaced pts.now) corners.now },
     ghost shared_in: { AreIndices pts.now shared.now },

@@ -57,7 +57,7 @@ pub(crate) fn joint_of<R: Threads>(
     let Some(given) = given_in_threads(rt, alloc, set, &outlines)? else {
         return Ok(None);
     };
-    // The outlines make way for what comes.
+    // Nothing below needs the outlines, and the list of faces needs their memory.
     drop(outlines);
     let Given {
         faces,

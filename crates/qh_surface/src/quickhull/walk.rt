@@ -72,8 +72,8 @@ fn make_room(marks: &mut Vec<bool>, places: usize) -> Result<(), AllocError>
     Ok(())
 }
 
-/// Takes the marks of the facets found back: there are no others.
-fn take_back(marks: &mut [bool], found: &[FacetNo])
+/// Removes the marks of the facets found: no others have marks.
+fn unmark(marks: &mut [bool], found: &[FacetNo])
     requires only { (f : ℕ) → mark_at marks.old f ≡ true → In f found.now }
     requires marked { All (IsMarked marks.old) found.now }
     ensures { (f : ℕ) → mark_at marks.new f ≡ false }
@@ -120,7 +120,7 @@ impl Walk {
             self.marks.clear();
             return Err(Memory);
         };
-        take_back(&mut self.marks, &self.found);
+        unmark(&mut self.marks, &self.found);
         Ok(())
     }
 

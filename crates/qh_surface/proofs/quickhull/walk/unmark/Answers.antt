@@ -1,7 +1,7 @@
 -- At first each facet with a mark is to come.
 use Rattle.std.proofs.Common.{arith, refl, sym}
 use Rattle.qh_model.proofs.Members.{in_at}
-use Rattle.qh_surface.proofs.quickhull.walk.take_back.Goals as goal
+use Rattle.qh_surface.proofs.quickhull.walk.unmark.Goals as goal
 
 pub loop-f-init : goal.loop-f-init
 loop-f-init c = record {

@@ -1,7 +1,7 @@
 -- The marks that are left are those of facets that come later.
 use Rattle.std.proofs.Common.{slice_index, ◌≡◌, ◌≤◌, ◌<◌, ℕ, length, true}
 use Rattle.qh_surface.specs.contract.Walks.{mark_at}
-use Rattle.qh_surface.proofs.quickhull.walk.take_back.Given as goal
+use Rattle.qh_surface.proofs.quickhull.walk.unmark.Given as goal
 
 abbrev pub invariant-loop-f : goal.invariant-loop-f
 invariant-loop-f l = record {
