@@ -1,22 +1,14 @@
 -- Fans of small faces and their edges, computed.
 use Rattle.std.proofs.Common.{◌≡◌, ℕ, refl, List, [], ◌∷◌}
 use Rattle.qh_model.specs.headline.Fan.{fan, fans, pairs_round, edge_count}
+use Rattle.qh_examples.proofs.Tables.{Shows}
 
 -- ---- fans
--- five corners give three triangles, all from the first
-pub five_corners : fan (0 ∷ 2 ∷ 9 ∷ 7 ∷ 5 ∷ []) ≡ (0 ∷ 2 ∷ 9 ∷ []) ∷ (0 ∷ 9 ∷ 7 ∷ []) ∷ (0 ∷ 7 ∷ 5 ∷ []) ∷ []
-five_corners = refl
-
--- a triangle is its own fan
-pub triangle : fan (0 ∷ 3 ∷ 1 ∷ []) ≡ (0 ∷ 3 ∷ 1 ∷ []) ∷ []
-triangle = refl
-
--- the faces of a segment and of a point stay as they are
-pub segment : fan (2 ∷ 6 ∷ []) ≡ (2 ∷ 6 ∷ []) ∷ []
-segment = refl
-
-pub point : fan (4 ∷ []) ≡ (4 ∷ []) ∷ []
-point = refl
+-- all triangles from the first corner; a triangle is its own fan, and the faces of a segment and of a point stay as they are
+pub of_faces : Shows fan (
+    (0 ∷ 2 ∷ 9 ∷ 7 ∷ 5 ∷ [], (0 ∷ 2 ∷ 9 ∷ []) ∷ (0 ∷ 9 ∷ 7 ∷ []) ∷ (0 ∷ 7 ∷ 5 ∷ []) ∷ [])
+    ∷ (0 ∷ 3 ∷ 1 ∷ [], (0 ∷ 3 ∷ 1 ∷ []) ∷ []) ∷ (2 ∷ 6 ∷ [], (2 ∷ 6 ∷ []) ∷ []) ∷ (4 ∷ [], (4 ∷ []) ∷ []) ∷ [])
+of_faces = refl
 
 -- triangles that share another corner are no fan
 pub not_from_1 : ¬ (fan (0 ∷ 1 ∷ 2 ∷ 3 ∷ []) ≡ (1 ∷ 2 ∷ 3 ∷ []) ∷ (1 ∷ 3 ∷ 0 ∷ []) ∷ [])
@@ -39,29 +31,17 @@ in_order = refl
 pub neighbours : pairs_round (0 ∷ 9 ∷ 7 ∷ []) ≡ (0, 9) ∷ (7, 9) ∷ (0, 7) ∷ []
 neighbours = refl
 
--- two faces that share an edge
-pub shared : edge_count ((0 ∷ 1 ∷ 2 ∷ []) ∷ (0 ∷ 2 ∷ 3 ∷ []) ∷ []) ≡ 5
-shared = refl
-
--- the same edges from either side
-pub both_sides : edge_count ((0 ∷ 1 ∷ 2 ∷ []) ∷ (0 ∷ 2 ∷ 1 ∷ []) ∷ []) ≡ 3
-both_sides = refl
-
--- the two ways between the ends of a segment are one edge
-pub segment_edge : edge_count ((2 ∷ 6 ∷ []) ∷ []) ≡ 1
-segment_edge = refl
-
--- a point has none, though it is its own neighbour
-pub no_edge : edge_count ((4 ∷ []) ∷ []) ≡ 0
-no_edge = refl
-
 -- the faces of the unit cube
 abbrev cube : List (List ℕ)
 cube = (0 ∷ 1 ∷ 3 ∷ 2 ∷ []) ∷ (0 ∷ 2 ∷ 6 ∷ 4 ∷ []) ∷ (0 ∷ 4 ∷ 5 ∷ 1 ∷ []) ∷ (1 ∷ 5 ∷ 7 ∷ 3 ∷ []) ∷ (2 ∷ 3 ∷ 7 ∷ 6 ∷ []) ∷ (4 ∷ 6 ∷ 7 ∷ 5 ∷ []) ∷ []
 
--- have 12 edges, and their fans one more for each face
-pub cube_edges : edge_count cube ≡ 12
-cube_edges = refl
+-- two faces that share an edge, the same edges from either side, a segment (the two ways between its ends are one edge), a
+-- point (it is its own neighbour, and has no edge), and the cube
+pub edges : Shows edge_count (
+    ((0 ∷ 1 ∷ 2 ∷ []) ∷ (0 ∷ 2 ∷ 3 ∷ []) ∷ [], 5) ∷ ((0 ∷ 1 ∷ 2 ∷ []) ∷ (0 ∷ 2 ∷ 1 ∷ []) ∷ [], 3)
+    ∷ ((2 ∷ 6 ∷ []) ∷ [], 1) ∷ ((4 ∷ []) ∷ [], 0) ∷ (cube, 12) ∷ [])
+edges = refl
 
+-- the fans of the cube have one edge more for each face
 pub cube_fan_edges : edge_count (fans cube) ≡ 18
 cube_fan_edges = refl

@@ -1,3 +1,4 @@
+pub mod Tables
 pub mod Reading
 pub mod RoundTrip
 pub mod OffReading

@@ -59,25 +59,10 @@ turn_3 = corners (λ w. ¬ (w ≡ 3) → ¬ (w ≡ 0) → pos 0 <ℤ left upward
 pub polygon_of_square : IsPolygon square (Members around) upward around
 polygon_of_square = record {
   members = λ i. (λ h. h, λ h. h);
-  once = (λ h. no_first h, (λ h. no_second h, (λ h. no_third h, (λ h. h, tt))));
+  once = (λ h. grind (arith, h), (λ h. grind (arith, h), (λ h. grind (arith, h), (λ h. h, tt))));
   round = round_holds (TurnsLeft square upward around) around (turn_0, (turn_1, (turn_2, turn_3)));
   least = λ v i. omega arith;
 }
-  where
-    no_first : Members (1 ∷ 2 ∷ 3 ∷ []) 0 → ⊥
-    no_first (inl e) = omega arith
-    no_first (inr (inl e)) = omega arith
-    no_first (inr (inr (inl e))) = omega arith
-    no_first (inr (inr (inr n))) = n
-
-    no_second : Members (2 ∷ 3 ∷ []) 1 → ⊥
-    no_second (inl e) = omega arith
-    no_second (inr (inl e)) = omega arith
-    no_second (inr (inr n)) = n
-
-    no_third : Members (3 ∷ []) 2 → ⊥
-    no_third (inl e) = omega arith
-    no_third (inr n) = n
 
 -- clockwise it is no polygon: from 0 to 3 it would have to turn left to 1
 pub not_clockwise : ¬ (IsPolygon square (Members around) upward (0 ∷ 3 ∷ 2 ∷ 1 ∷ []))
@@ -92,13 +77,7 @@ not_from_1 p = let least = p.least 0 (inr (inr (inl refl))) in omega (arith, lea
 
 -- with a corner left out it is no polygon
 pub not_three_corners : ¬ (IsPolygon square (Members around) upward (0 ∷ 1 ∷ 2 ∷ []))
-not_three_corners p = none ((p.members 3).1 (inr (inr (inr (inl refl)))))
-  where
-    none : In {X = ℕ} 3 (0 ∷ 1 ∷ 2 ∷ []) → ⊥
-    none (inl e) = omega arith
-    none (inr (inl e)) = omega arith
-    none (inr (inr (inl e))) = omega arith
-    none (inr (inr (inr n))) = n
+not_three_corners p = let third = (p.members 3).1 (inr (inr (inr (inl refl)))) in grind (arith, third)
 
 -- ---- neighbours: the first follows the last
 pub last_and_first : Follows 3 0 around
@@ -106,10 +85,7 @@ last_and_first = inr (inr (inr (refl, refl)))
 
 -- 2 does not follow 0
 pub not_across : ¬ (Follows 0 2 around)
-not_across (inl e) = omega (arith, e.1)
-not_across (inr (inl e)) = omega (arith, e.0)
-not_across (inr (inr (inl e))) = omega (arith, e.0)
-not_across (inr (inr (inr e))) = omega (arith, e.0)
+not_across h = grind (arith, h)
 
 -- a pair of neighbours is an edge, the lower first, whichever follows the other
 pub edge : IsEdge (around ∷ []) 0 3
@@ -122,14 +98,11 @@ beginning = inr (refl, inr (refl, tt))
 
 -- and not after
 pub not_after : ¬ (ComesBefore (0 ∷ 1 ∷ 3 ∷ []) (0 ∷ 1 ∷ []))
-not_after (inl h) = omega (arith, h)
-not_after (inr (e, inl h)) = omega (arith, h)
-not_after (inr (e, inr (f, n))) = n
+not_after h = grind (arith, h)
 
 -- nor does it come before itself
 pub not_itself : ¬ (ComesBefore (4 ∷ []) (4 ∷ []))
-not_itself (inl h) = omega (arith, h)
-not_itself (inr (e, n)) = n
+not_itself h = grind (arith, h)
 
 -- numbers decide, not digits
 pub nine_and_ten : ComesBefore (9 ∷ []) (10 ∷ [])

@@ -2,10 +2,10 @@
 use Rattle.std.proofs.Common.{◌≡◌, ℕ, refl, List, [], ◌∷◌, ◌++◌, inl, false, true}
 use Rattle.std.proofs.lemmas.Bool.{leb-true}
 use Rattle.std.specs.Prelude.{pos, negsuc, Some, None, codes}
-use Rattle.qh_model.specs.declared.form.Form.TheVariants.{Qhull}
 use Rattle.qh_model.specs.declared.read_fault.ReadFault.TheVariants.{NoHeader, BadNumber, NotThree, Count, Range, Long, Short}
-use Rattle.qh_model.specs.headline.{FileFault.first_fault, Forms.IsFirstFault, Numbers.number_of, PointFile.Reads, Vector.Vector}
+use Rattle.qh_model.specs.headline.{FileFault.first_fault, Numbers.number_of, PointFile.Reads, Vector.Vector}
 use Rattle.qh_model.specs.headline.Words.{Word, data_words, is_blank, is_data}
+use Rattle.qh_examples.proofs.Tables.{Shows}
 
 -- ---- a point file with comments
 -- a word of one byte
@@ -28,87 +28,22 @@ pub words_of_file : data_words file
     ∷ word 49 5 ∷ word 48 5 ∷ word 48 6 ∷ word 48 6 ∷ word 49 6 ∷ []
 words_of_file = refl
 
--- ---- which words are numbers
--- 007
-pub zeros_and_seven : number_of (48 ∷ 48 ∷ 55 ∷ []) ≡ Some (pos 7)
-zeros_and_seven = refl
+-- ---- words
+-- which of them are numbers
+pub numbers : Shows number_of (
+    (codes "007", Some (pos 7)) ∷ (codes "+7", Some (pos 7)) ∷ (codes "7", Some (pos 7)) ∷ (codes "-7", Some (negsuc 6))
+    ∷ (codes "-0", Some (pos 0)) ∷ (codes "+0", Some (pos 0)) ∷ (codes "000", Some (pos 0))
+    ∷ (codes "7.", None) ∷ (codes ".7", None) ∷ (codes "7e0", None) ∷ (codes "2nd", None)
+    ∷ (codes "+", None) ∷ (codes "-", None) ∷ (codes "--7", None) ∷ [])
+numbers = refl
 
--- +7
-pub plus_seven : number_of (43 ∷ 55 ∷ []) ≡ Some (pos 7)
-plus_seven = refl
+-- which begin a comment
+pub data_words_begin : Shows is_data ((codes "x7", false) ∷ (codes "#7", false) ∷ (codes "(7", false) ∷ (codes "-x", true) ∷ [])
+data_words_begin = refl
 
--- 7
-pub seven : number_of (55 ∷ []) ≡ Some (pos 7)
-seven = refl
-
--- -7
-pub minus_seven : number_of (45 ∷ 55 ∷ []) ≡ Some (negsuc 6)
-minus_seven = refl
-
--- -0
-pub minus_zero : number_of (45 ∷ 48 ∷ []) ≡ Some (pos 0)
-minus_zero = refl
-
--- +0
-pub plus_zero : number_of (43 ∷ 48 ∷ []) ≡ Some (pos 0)
-plus_zero = refl
-
--- 000
-pub zeros : number_of (48 ∷ 48 ∷ 48 ∷ []) ≡ Some (pos 0)
-zeros = refl
-
--- 7. is no number
-pub seven_point : number_of (55 ∷ 46 ∷ []) ≡ None
-seven_point = refl
-
--- .7 is no number
-pub point_seven : number_of (46 ∷ 55 ∷ []) ≡ None
-point_seven = refl
-
--- 7e0 is no number
-pub exponent : number_of (55 ∷ 101 ∷ 48 ∷ []) ≡ None
-exponent = refl
-
--- 2nd is no number
-pub second : number_of (50 ∷ 110 ∷ 100 ∷ []) ≡ None
-second = refl
-
--- + is no number
-pub plus : number_of (43 ∷ []) ≡ None
-plus = refl
-
--- - is no number
-pub minus : number_of (45 ∷ []) ≡ None
-minus = refl
-
--- --7 is no number
-pub two_signs : number_of (45 ∷ 45 ∷ 55 ∷ []) ≡ None
-two_signs = refl
-
--- x7 begins a comment
-pub letter : is_data (120 ∷ 55 ∷ []) ≡ false
-letter = refl
-
--- #7 begins a comment
-pub hash : is_data (35 ∷ 55 ∷ []) ≡ false
-hash = refl
-
--- (7 begins a comment
-pub bracket : is_data (40 ∷ 55 ∷ []) ≡ false
-bracket = refl
-
--- ---- blanks
--- byte 9, a tab, is a blank
-pub tab : is_blank 9 ≡ true
-tab = refl
-
--- byte 10 ends a line, and is no blank
-pub line_end : is_blank 10 ≡ false
-line_end = refl
-
--- byte 13 is a blank
-pub carriage_return : is_blank 13 ≡ true
-carriage_return = refl
+-- the tab, 9, and the byte 13 are blanks; the byte 10 ends a line and is none
+pub blanks : Shows is_blank ((9, true) ∷ (13, true) ∷ (10, false) ∷ [])
+blanks = refl
 
 -- ---- one point, with a tab between its numbers
 abbrev one_point : List ℕ
@@ -137,30 +72,14 @@ one_point_has_no_fault = refl
 abbrev after_header : List ℕ → List ℕ
 after_header text = codes "3" ++ 10 ∷ codes "1" ++ 10 ∷ text
 
-pub nothing : IsFirstFault Qhull [] NoHeader
-nothing = refl
+-- headers, and their faults
+pub headers : Shows first_fault (
+    ([], Some NoHeader) ∷ (codes "3", Some NoHeader) ∷ (codes "2" ++ 10 ∷ codes "4", Some NotThree)
+    ∷ (codes "3" ++ 10 ∷ codes "0", Some Count) ∷ [])
+headers = refl
 
-pub three_alone : IsFirstFault Qhull (codes "3") NoHeader
-three_alone = refl
-
-pub two_and_four : IsFirstFault Qhull (codes "2" ++ 10 ∷ codes "4") NotThree
-two_and_four = refl
-
-pub no_points : IsFirstFault Qhull (codes "3" ++ 10 ∷ codes "0") Count
-no_points = refl
-
-pub half : IsFirstFault Qhull (after_header (codes "0 0.5 0")) (BadNumber 3)
-half = refl
-
-pub far_away : IsFirstFault Qhull (after_header (codes "0 0 99999999999 x")) (Range 3)
-far_away = refl
-
-pub two_numbers : IsFirstFault Qhull (after_header (codes "0 0")) Short
-two_numbers = refl
-
-pub four_numbers : IsFirstFault Qhull (after_header (codes "0 0 0 7")) (Long 3)
-four_numbers = refl
-
--- a comment is no word too many
-pub commented : first_fault (after_header (codes "0 0 0 origin 7")) ≡ None
-commented = refl
+-- what follows a header of one point; a comment is no word too many
+pub points : Shows (λ text. first_fault (after_header text)) (
+    (codes "0 0.5 0", Some (BadNumber 3)) ∷ (codes "0 0 99999999999 x", Some (Range 3)) ∷ (codes "0 0", Some Short)
+    ∷ (codes "0 0 0 7", Some (Long 3)) ∷ (codes "0 0 0 origin 7", None) ∷ [])
+points = refl

@@ -1,0 +1,5 @@
+-- Examples in a table: the first of each row, and what a function makes of it.
+use Rattle.std.proofs.Common.{◌≡◌, List, map}
+
+abbrev pub Shows : {A B : Type 0} → (A → B) → List (A × B) → Type 0
+Shows f rows = map (λ r. f r.0) rows ≡ map (λ r. r.1) rows
