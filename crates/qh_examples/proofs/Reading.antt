@@ -41,7 +41,7 @@ numbers = refl
 pub data_words_begin : Shows is_data ((codes "x7", false) ∷ (codes "#7", false) ∷ (codes "(7", false) ∷ (codes "-x", true) ∷ [])
 data_words_begin = refl
 
--- the tab, 9, and the byte 13 are blanks; the byte 10 ends a line and is none
+-- the tab, 9, and the byte 13 are blanks; the byte 10 ends a line, and is no blank
 pub blanks : Shows is_blank ((9, true) ∷ (13, true) ∷ (10, false) ∷ [])
 blanks = refl
 
