@@ -27,9 +27,10 @@ all: $(PROGRAM) $(CHECKER)
 $(PROGRAM):
 	JOBS=$(JOBS) scripts/make/prove.py qconvex hullcheck
 	cd crates/qconvex && rt run -- s < ../../examples/unit-cube.txt
+	$(PROGRAM) off < examples/unit-cube.txt | $(CHECKER) examples/unit-cube.txt
 
-$(CHECKER): $(PROGRAM)
-	$(PROGRAM) off < examples/unit-cube.txt | (cd crates/hullcheck && rt run -- ../../examples/unit-cube.txt)
+$(CHECKER): | $(PROGRAM)
+	JOBS=$(JOBS) scripts/make/prove.py hullcheck
 
 install: $(PROGRAM) $(CHECKER)
 	install -d $(DESTDIR)$(BINDIR) $(dir $(PAGE)) $(dir $(BASH_COMPLETION)) $(dir $(ZSH_COMPLETION)) $(dir $(FISH_COMPLETION))
