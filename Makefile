@@ -29,8 +29,9 @@ $(PROGRAM):
 	cd crates/qconvex && rt run -- s < ../../examples/unit-cube.txt
 	$(PROGRAM) off < examples/unit-cube.txt | $(CHECKER) examples/unit-cube.txt
 
+# The rule above makes the checker, too; this one is for a checker that was removed since.
 $(CHECKER): | $(PROGRAM)
-	JOBS=$(JOBS) scripts/make/prove.py hullcheck
+	test -x $@ || JOBS=$(JOBS) scripts/make/prove.py hullcheck
 
 install: $(PROGRAM) $(CHECKER)
 	install -d $(DESTDIR)$(BINDIR) $(dir $(PAGE)) $(dir $(BASH_COMPLETION)) $(dir $(ZSH_COMPLETION)) $(dir $(FISH_COMPLETION))
