@@ -2,8 +2,9 @@
 use Rattle.std.proofs.Common.{◌≡◌, ℕ, refl, List, [], ◌∷◌, ◌++◌, inl, false, true}
 use Rattle.std.proofs.lemmas.Bool.{leb-true}
 use Rattle.std.specs.Prelude.{pos, negsuc, Some, None, codes}
+use Rattle.qh_model.specs.declared.form.Form.TheVariants.{Qhull}
 use Rattle.qh_model.specs.declared.read_fault.ReadFault.TheVariants.{NoHeader, BadNumber, NotThree, Count, Range, Long, Short}
-use Rattle.qh_model.specs.headline.{FileFault.first_fault, Numbers.number_of, PointFile.Reads, Vector.Vector}
+use Rattle.qh_model.specs.headline.{FileFault.first_fault, Forms.first_fault_in, Numbers.number_of, PointFile.Reads, Vector.Vector}
 use Rattle.qh_model.specs.headline.Words.{Word, data_words, is_blank, is_data}
 use Rattle.qh_examples.proofs.Tables.{Shows}
 
@@ -37,9 +38,9 @@ pub numbers : Shows number_of (
     ∷ (codes "+", None) ∷ (codes "-", None) ∷ (codes "--7", None) ∷ [])
 numbers = refl
 
--- which begin a comment
-pub data_words_begin : Shows is_data ((codes "x7", false) ∷ (codes "#7", false) ∷ (codes "(7", false) ∷ (codes "-x", true) ∷ [])
-data_words_begin = refl
+-- which are data, and which begin a comment
+pub comment_begins : Shows is_data ((codes "x7", false) ∷ (codes "#7", false) ∷ (codes "(7", false) ∷ (codes "-x", true) ∷ [])
+comment_begins = refl
 
 -- the tab, 9, and the byte 13 are blanks; the byte 10 ends a line, and is no blank
 pub blanks : Shows is_blank ((9, true) ∷ (13, true) ∷ (10, false) ∷ [])
@@ -73,13 +74,13 @@ abbrev after_header : List ℕ → List ℕ
 after_header text = codes "3" ++ 10 ∷ codes "1" ++ 10 ∷ text
 
 -- headers, and their faults
-pub headers : Shows first_fault (
+pub headers : Shows (first_fault_in Qhull) (
     ([], Some NoHeader) ∷ (codes "3", Some NoHeader) ∷ (codes "2" ++ 10 ∷ codes "4", Some NotThree)
     ∷ (codes "3" ++ 10 ∷ codes "0", Some Count) ∷ [])
 headers = refl
 
 -- what follows a header of one point; a comment is no word too many
-pub points : Shows (λ text. first_fault (after_header text)) (
+pub points : Shows (λ text. first_fault_in Qhull (after_header text)) (
     (codes "0 0.5 0", Some (BadNumber 3)) ∷ (codes "0 0 99999999999 x", Some (Range 3)) ∷ (codes "0 0", Some Short)
     ∷ (codes "0 0 0 7", Some (Long 3)) ∷ (codes "0 0 0 origin 7", None) ∷ [])
 points = refl
