@@ -1,6 +1,6 @@
 # Builds and installs the programs; the library for C has its own Makefile in c/.
 #
-#     make                  builds the programs; those that were not built yet are proved first
+#     make                  proves and builds the programs that were not built yet, on all processors
 #     make install          the program with its manual page and what shells complete, and hullcheck, under PREFIX (/usr/local),
 #                           below DESTDIR
 #     make install NAME=qconvex-exact
@@ -8,10 +8,9 @@
 #     make uninstall
 #     make -C c install     the libraries for C, with header, qconvex.pc and a CMake package
 #
-# JOBS is how many processors prove side by side.
+# `taskset -c 0,1 make` proves on two processors.
 PREFIX ?= /usr/local
 NAME ?= qconvex
-JOBS ?= $(shell nproc)
 BINDIR ?= $(PREFIX)/bin
 DATADIR ?= $(PREFIX)/share
 PROGRAM = crates/qconvex/out/qconvex
@@ -25,13 +24,12 @@ FISH_COMPLETION = $(DESTDIR)$(DATADIR)/fish/vendor_completions.d/$(NAME).fish
 all: $(PROGRAM) $(CHECKER)
 
 $(PROGRAM):
-	JOBS=$(JOBS) scripts/make/prove.py qconvex hullcheck
-	cd crates/qconvex && rt run -- s < ../../examples/unit-cube.txt
+	scripts/make/programs.py qconvex hullcheck
 	$(PROGRAM) off < examples/unit-cube.txt | $(CHECKER) examples/unit-cube.txt
 
 # The rule above makes the checker, too; this one is for a checker that was removed since.
 $(CHECKER): | $(PROGRAM)
-	test -x $@ || JOBS=$(JOBS) scripts/make/prove.py hullcheck
+	test -x $@ || scripts/make/programs.py hullcheck
 
 install: $(PROGRAM) $(CHECKER)
 	install -d $(DESTDIR)$(BINDIR) $(dir $(PAGE)) $(dir $(BASH_COMPLETION)) $(dir $(ZSH_COMPLETION)) $(dir $(FISH_COMPLETION))

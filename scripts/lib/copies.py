@@ -2,6 +2,7 @@
 import os
 import shutil
 import sys
+from pathlib import Path
 
 
 def copy_crates(top):
@@ -9,6 +10,24 @@ def copy_crates(top):
     shutil.copytree("crates", top / "crates", symlinks=True, ignore=shutil.ignore_patterns("out"))
     for name in ["crates.txt", "HANDLES"]:
         shutil.copy(name, top / name)
+
+
+def crates_below(names):
+    """Returns the crates that these need, themselves among them, each with those that it needs directly."""
+    needs = {}
+    for line in Path("crates.txt").read_text().splitlines():
+        head, colon, rest = line.partition(":")
+        if colon and not line.startswith("#"):
+            needs[head.split()[0]] = rest.split()
+    wanted, found = list(names), {}
+    while wanted:
+        name = wanted.pop()
+        if name not in needs:
+            sys.exit(f"{name} is no crate of crates.txt")
+        if name not in found:
+            found[name] = [need for need in needs[name] if need in needs]
+            wanted += found[name]
+    return found
 
 
 def link_or_copy(source, target):

@@ -21,30 +21,12 @@ from concurrent.futures import FIRST_COMPLETED, ThreadPoolExecutor, wait
 from pathlib import Path
 
 sys.path.insert(0, str(Path(__file__).resolve().parents[1]))
-from lib.copies import copy_crates, give_library  # noqa: E402
+from lib.copies import copy_crates, crates_below, give_library  # noqa: E402
 from lib.usage import names_given  # noqa: E402
 
 COPIES = Path("build/prove")
 # The most processes that one crate gets: each loads the libraries anew.
 MOST_EACH = 4
-
-
-def crates_below(names):
-    """Returns the crates that these need, themselves among them, each with those that it needs directly."""
-    needs = {}
-    for line in Path("crates.txt").read_text().splitlines():
-        head, colon, rest = line.partition(":")
-        if colon and not line.startswith("#"):
-            needs[head.split()[0]] = rest.split()
-    wanted, found = list(names), {}
-    while wanted:
-        name = wanted.pop()
-        if name not in needs:
-            sys.exit(f"{name} is no crate of crates.txt")
-        if name not in found:
-            found[name] = [need for need in needs[name] if need in needs]
-            wanted += found[name]
-    return found
 
 
 def lines_of(name):

@@ -1,0 +1,82 @@
+#!/usr/bin/env python3
+"""Builds programs by the gate, which proves them and the crates below them.
+
+    scripts/make/programs.py PROGRAM..      from the top of the repository
+
+The script runs `rt ci` over the crates that the programs need and no others, in a copy of the sources below
+`build/programs` that has no wrong bodies. The programs come to `crates/PROGRAM/out`, and the copy goes. It takes all
+processors that the script may run on; `taskset` gives it fewer.
+
+What the gate passed, `rt` keeps on the machine where it may write beside itself. So a second run, and one after a gate
+over the whole repository, proves nothing again and takes a minute, and a gate after this script goes on from it.
+
+The script prints a line for each crate, and what `rt` said of one that is not proved. Then the status is 1.
+"""
+import shutil
+import subprocess
+import sys
+import time
+from pathlib import Path
+
+sys.path.insert(0, str(Path(__file__).resolve().parents[1]))
+from lib.copies import copy_crates, crates_below  # noqa: E402
+from lib.usage import names_given  # noqa: E402
+
+COPY = Path("build/programs")
+
+
+def make_copy(names):
+    """Makes a repository of these crates alone, without their wrong bodies, in a new folder."""
+    shutil.rmtree(COPY, ignore_errors=True)
+    # `rt ci` wants the top of a repository.
+    (COPY / ".git").mkdir(parents=True)
+    copy_crates(COPY)
+    for folder in (COPY / "crates").iterdir():
+        shutil.rmtree(folder / "must-fail" if folder.name in names else folder, ignore_errors=True)
+    wanted = [line for line in Path("crates.txt").read_text().splitlines() if line.partition(":")[0].split(" ")[0] in names]
+    (COPY / "crates.txt").write_text("".join(f"{line}\n" for line in wanted))
+
+
+def told(lines):
+    """Prints what the gate says of each crate as it comes, with the seconds since the call.
+
+    What it says besides goes to standard error, for a crate that failed and for the end.
+    """
+    start, besides = time.monotonic(), []
+    for line in lines:
+        if not line.startswith("rt: "):
+            besides.append(line)
+            continue
+        if "NOT PROVED" in line or "FAILED" in line:
+            sys.stderr.write("".join(besides))
+        print(f"{time.monotonic() - start:5.0f} s  {line[len('rt: '):]}", end="", flush=True)
+        besides.clear()
+    sys.stderr.write("".join(besides))
+
+
+def passed():
+    """Runs the gate in the copy, and returns its status."""
+    words = {"stdin": subprocess.DEVNULL, "stdout": subprocess.PIPE, "stderr": subprocess.STDOUT}
+    with subprocess.Popen(["rt", "ci"], cwd=COPY, text=True, **words) as gate:
+        told(gate.stdout)
+    return gate.returncode
+
+
+def main():
+    programs = names_given(__doc__)
+    if not programs:
+        sys.exit("name a program: scripts/make/programs.py PROGRAM..")
+    make_copy(crates_below(programs))
+    try:
+        status = passed()
+        for name in programs if status == 0 else ():
+            made = Path("crates", name, "out")
+            made.mkdir(exist_ok=True)
+            shutil.copy(COPY / made / name, made / name)
+    finally:
+        shutil.rmtree(COPY, ignore_errors=True)
+    sys.exit(status)
+
+
+if __name__ == "__main__":
+    main()
