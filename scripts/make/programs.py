@@ -66,7 +66,11 @@ def main():
     programs = names_given(__doc__)
     if not programs:
         sys.exit("name a program: scripts/make/programs.py PROGRAM..")
-    make_copy(crates_below(programs))
+    needs = crates_below(programs)
+    for name in programs:
+        if not Path("crates", name, "src/main.rt").exists():
+            sys.exit(f"{name} is no program")
+    make_copy(needs)
     try:
         status = passed()
         for name in programs if status == 0 else ():

@@ -60,8 +60,10 @@ class Programs(unittest.TestCase):
         self.assertEqual(done.stderr, "what is wrong\n1 passed, 1 failed\n")
         self.assertFalse((self.top / "crates/program/out/program").exists() or (self.top / "build/programs").exists())
 
-    def test_a_crate_that_is_not_there_is_refused(self):
+    def test_what_is_no_program_is_refused_before_anything_is_proved(self):
         self.assertEqual(self.made("nothing").stderr, "nothing is no crate of crates.txt\n")
+        self.assertEqual(self.made("program", "below").stderr, "below is no program\n")
+        self.assertFalse((self.top / "seen").exists())
 
 
 if __name__ == "__main__":
