@@ -27,8 +27,8 @@ OWNERS = [
     (r"^(qh_write|itoa)::", "text"),
     (r"^(qh_plane|rayon)::", "distinct"),
     (r"^qh_interior::|^qh_run::filtered::", "filter"),
-    # qh_join asks qh_check for the borders of faces.
-    (r"^qh_(parts|join|seam|guess|curve|places|check)::|^qh_serve::threaded::", "parts"),
+    # qh_join asks qh_steps for the borders of faces.
+    (r"^qh_(parts|division|join|seam|guess|gap|curve|places|check|steps)::|^qh_serve::threaded::", "parts"),
     (r"^qh_block::(faces|face_order|face_keys|unsorted_faces|hulls|plane_walk|solid_edges|bodies|flat_sets|segment)::", "faces"),
     (r"^qh_block::solids::(corners|listed|past|mark|tally|body)|^qh_polygon::|^qh_surface::named_mesh::", "faces"),
     (r"^(qh_block|qh_surface|qh_mesh|qh_pred)::", "surface"),

@@ -10,6 +10,5 @@ pub mod FaceKeys
 pub mod MergedFaces
 pub mod FaceOrder
 pub mod EdgeCounts
-pub mod StepCounts
 pub mod ClosedFaces
 pub mod SolidBodies

@@ -12,7 +12,7 @@ use Rattle.qh_check.specs.declared.findings.Finding.{Finding}
 use Rattle.qh_check.specs.declared.verdict.FaceFault.{FaceFault}
 use Rattle.qh_check.specs.steps.Faces.{IsFaceOf, IsFaultOf}
 use Rattle.qh_check.specs.steps.Findings.{IsFaceAmong, IsFound}
-use Rattle.qh_check.proofs.Chunks.{chunk_all}
+use Rattle.qh_places.proofs.Chunks.{chunk_all}
 
 -- what a thread answers
 abbrev pub Answer : Type 0

@@ -13,7 +13,8 @@ use Rattle.qh_check.specs.declared.extent.Extent.TheVariants.{Piece}
 use Rattle.qh_check.specs.declared.findings.Finding.{Finding}
 use Rattle.qh_check.specs.declared.flaw.SurfaceVerdict.{SurfaceVerdict}
 use Rattle.qh_check.specs.declared.flaw.SurfaceVerdict.TheVariants.{Right, OtherPolygons, NoPiece, Open, Twice}
-use Rattle.qh_check.specs.contract.Claims.{ArePolygonsOf, IsOpen}
+use Rattle.qh_steps.specs.contract.OpenSteps.{IsOpen}
+use Rattle.qh_check.specs.contract.Claims.{ArePolygonsOf}
 use Rattle.qh_check.specs.contract.Surfaces.{IsFaceSurface, IsHullSurface, IsSurfaceReason, IsSurfaceVerdictOf}
 use Rattle.qh_check.specs.steps.Faces.{IsFaceOf}
 use Rattle.qh_check.specs.steps.Findings.{IsFound}

@@ -19,12 +19,13 @@ use Rattle.qh_check.specs.declared.extent.Extent.TheVariants.{Whole}
 use Rattle.qh_check.specs.declared.verdict.FaceFault.{FaceFault}
 use Rattle.qh_check.specs.declared.verdict.Verdict.{Verdict}
 use Rattle.qh_check.specs.declared.verdict.Verdict.TheVariants.{Right, OtherPolygons, OutOfOrder, NoFace, Open}
-use Rattle.qh_check.specs.contract.Claims.{ArePolygonsOf, IsOutOfOrder, IsOpen, IsReason, IsVerdictOf}
+use Rattle.qh_steps.specs.contract.{OpenSteps.IsOpen, Order.IsOutOfOrder}
+use Rattle.qh_check.specs.contract.Claims.{ArePolygonsOf, IsReason, IsVerdictOf}
 use Rattle.qh_check.specs.declared.findings.Finding.{Finding}
 use Rattle.qh_check.specs.steps.Faces.{IsFaceOf, IsFaultOf}
 use Rattle.qh_check.specs.steps.Findings.{IsFound}
 use Rattle.qh_check.proofs.FirstCorners.{no_face}
-use Rattle.qh_check.proofs.OrderedPolygons.{rises_at}
+use Rattle.qh_steps.proofs.OrderedPolygons.{rises_at}
 
 -- ---- solid sets
 module _ (pts : List Vector) (ids : List ℕ) (qs : List (List ℕ)) (set : IsIdSet pts ids)

@@ -1,5 +1,4 @@
 -- What the contracts of public functions cite.
-pub mod Borders
 pub mod Claims
 pub mod Pieces
 pub mod Surfaces

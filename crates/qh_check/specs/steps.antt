@@ -4,4 +4,3 @@ pub mod Faces
 pub mod Findings
 pub mod HullFaces
 pub mod Rounds
-pub mod StepKeys

@@ -3,18 +3,16 @@
 //!
 //! Faces that close up are all faces (`qh_model::laws::closed_faces_are_hull`). So [`check`] looks at each
 //! polygon by itself, and counts the steps from corner to corner: each polygon has to be that of a
-//! supporting plane (`faces`), and each step has to be taken as often as the step back (`closed`). Nobody
+//! supporting plane (`faces`), and each step has to be taken as often as the step back (`qh_steps`). Nobody
 //! needs to know how the polygons were found.
 //!
 //! A plane asks few of the points: they stand along a Morton curve, with boxes over consecutive positions
-//! (`qh_places`), and a plane is above most boxes. `order` tells whether the polygons stand in lexicographic order.
+//! (`qh_places`), and a plane is above most boxes.
 #![tactic(auto)]
 
 mod asking;
-mod borders;
 mod claim;
 mod claims;
-mod closed;
 mod corner_table;
 mod extent;
 mod face_table;
@@ -23,19 +21,15 @@ mod findings;
 mod flaw;
 mod found_pieces;
 mod hull_faces;
-mod order;
 mod rounds;
 mod searchers;
 mod solids;
 mod surfaces;
 mod verdict;
 
-pub use borders::have_one_border;
 pub use claim::Claim;
 pub use claims::{check, check_by_workers};
-pub use closed::{Step, open_step};
 pub use extent::Extent;
 pub use flaw::SurfaceVerdict;
-pub use order::out_of_order;
 pub use surfaces::{check_surface, check_surface_alone};
 pub use verdict::{FaceFault, Verdict};

@@ -13,13 +13,12 @@ ghost use Rattle.qh_check.specs.steps.Faces.{IsFaceOf};
 ghost use Rattle.qh_check.specs.steps.Findings.{IsFound};
 
 use crate::claim::Claim;
-use crate::closed::open_step;
 use crate::extent::Extent;
 use crate::findings::Finding;
-use crate::order::out_of_order;
 use crate::searchers::{Searcher, find_fault};
 use crate::verdict::Verdict;
 use qh_model::{Memory, Polygon};
+use qh_steps::{open_step, out_of_order};
 use std::alloc::Global;
 
 /// Returns the verdict on polygons in order, from the one that is no face, if there is one. Else they have

@@ -13,7 +13,6 @@ ghost use Rattle.qh_check.specs.steps.Findings.{IsFound};
 
 use crate::claim::Claim;
 use crate::claims::compare;
-use crate::closed::{open_step, repeated_step};
 use crate::extent::Extent;
 use crate::findings::Finding;
 use crate::flaw::SurfaceVerdict;
@@ -22,6 +21,7 @@ use crate::searchers::{Alone, InThreads, Searcher, find_fault};
 use crate::verdict::Verdict;
 use qh_model::{Memory, Polygon};
 use qh_polygon::{Shape, rank};
+use qh_steps::{open_step, repeated_step};
 use std::alloc::Global;
 use std::thread::Threads;
 

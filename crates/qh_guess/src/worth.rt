@@ -2,7 +2,7 @@
 use crate::cut::{Facets, Others};
 use crate::outlines::Outline;
 use crate::sights::Sight;
-use qh_seam::{Divided, Part};
+use qh_division::{Divided, Part};
 
 /// The greatest number of corners of all parts whose hull is made so quickly that joining at seams does not pay.
 const FEW_CORNERS: usize = 40_000;

@@ -8,7 +8,7 @@ use Rattle.qh_model.proofs.{Members.All-In, Members.All-of, lists.Joined.in_appe
 use Rattle.qh_pred.specs.contract.Planes.{PlaneValue}
 use Rattle.qh_places.specs.contract.Places.{AreLevel}
 use Rattle.qh_places.specs.declared.places.Places.{Places}
-use Rattle.qh_seam.proofs.Chunked.{all_both}
+use Rattle.qh_division.proofs.Chunked.{all_both}
 use Rattle.qh_join.specs.contract.Kept.{held_in, ArePlaced, AreHeld}
 
 module _ (corners : List Places) (shared : List ℕ) where

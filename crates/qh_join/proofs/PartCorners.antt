@@ -4,8 +4,8 @@ use Rattle.std.specs.List.{flat_map}
 use Rattle.qh_model.specs.headline.{Vector.Vector, Sets.In}
 use Rattle.qh_model.proofs.{Members.All-In, Members.All-of, lists.Joined.in_flat_map, lists.Joined.of_flat_map}
 use Rattle.qh_model.proofs.lists.Images.{in_map, of_map}
-use Rattle.qh_seam.specs.declared.parts.Part.{Part}
-use Rattle.qh_seam.specs.contract.Parts.{own_in, KeepsCorners, IsPartOf}
+use Rattle.qh_division.specs.declared.parts.Part.{Part}
+use Rattle.qh_division.specs.contract.Parts.{own_in, KeepsCorners, IsPartOf}
 use Rattle.qh_join.specs.contract.Kept.{held_in, places_of, ArePlaced, AreHeld}
 
 module _ (pts : List Vector) (shared : List ℕ) (parts : List Part) (are : All (IsPartOf pts shared) parts) where

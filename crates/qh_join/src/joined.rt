@@ -2,7 +2,7 @@
 ghost use Rattle.std.specs.Prelude.{◌≡◌, ◌↔◌, ◌++◌, IfOk, IfSome, IsPermutation, IsTrue};
 ghost use Rattle.std.specs.List.{All};
 ghost use Rattle.qh_model.specs.headline.Polygons.{RiseStrictly};
-ghost use Rattle.qh_check.specs.contract.Borders.{HaveOneBorder};
+ghost use Rattle.qh_steps.specs.contract.Borders.{HaveOneBorder};
 ghost use Rattle.qh_join.specs.contract.Joined.{IsBodyOfJoined};
 ghost use Rattle.qh_join.specs.steps.Bridges.{IsBridge};
 ghost use Rattle.qh_join.specs.steps.JoinedFaces.{IsBodyOfFaces};
@@ -10,8 +10,8 @@ ghost use Rattle.qh_join.specs.steps.JoinedFaces.{IsBodyOfFaces};
 use crate::bridges::are_bridges;
 use crate::kept::Kept;
 use qh_block::{UnsortedFaces, body_of_faces, tally_of};
-use qh_check::{have_one_border, out_of_order};
 use qh_model::{Body, Memory, Polygon};
+use qh_steps::{have_one_border, out_of_order};
 use std::alloc::{AllocError, Global};
 use std::thread::{Threads, join};
 

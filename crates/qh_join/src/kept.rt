@@ -4,9 +4,9 @@ ghost use Rattle.std.specs.List.{All};
 ghost use Rattle.qh_model.specs.contract.IdSets.{AreIndices};
 ghost use Rattle.qh_join.specs.contract.Kept.{places_of, ArePlaced};
 
+use qh_division::Part;
 use qh_model::{Id, Point};
 use qh_places::Places;
-use qh_seam::Part;
 use std::alloc::{AllocError, Global};
 
 /// The points of a set, and the ids that are kept of it: the own corners of each of its parts, by blocks, and the

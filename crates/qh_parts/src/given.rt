@@ -2,13 +2,15 @@
 //! of its own.
 ghost use Rattle.std.specs.Prelude.{All, ◌≡◌, ◌<◌, ◌⊎◌, ℕ, List, IfOk, IfSome, OnOk, length};
 ghost use Rattle.qh_model.specs.headline.Sets.{In};
-ghost use Rattle.qh_seam.specs.contract.Parts.{IsPartOf};
+ghost use Rattle.qh_division.specs.contract.Parts.{IsPartOf};
 ghost use Rattle.qh_parts.specs.steps.Given.{IsContribution, IsGiven};
 
 use qh_block::UnsortedFaces;
-use qh_guess::{Border, Outline, border_of, marks_of, outline_of};
+use qh_division::{Divided, Guess};
+use qh_gap::{Border, border_of};
+use qh_guess::{Outline, marks_of, outline_of};
 use qh_model::{Id, Memory, Polygon};
-use qh_seam::{Divided, Guess, staying_faces};
+use qh_seam::staying_faces;
 use qh_threads::map_indices;
 use std::alloc::{AllocError, Global};
 use std::thread::Threads;

@@ -1,7 +1,10 @@
 pub mod BlockBoxes
 pub mod BundleSlabs
+pub mod Chunks
 pub mod Coordinates
 pub mod FoundIds
+pub mod LevelFaces
+pub mod ListMembers
 pub mod Listed
 pub mod NearPositions
 pub mod PointBoxes

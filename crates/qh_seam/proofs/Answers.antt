@@ -10,12 +10,12 @@ use Rattle.qh_model.proofs.algebra.Order.{negative_le}
 use Rattle.qh_mesh.specs.contract.Replacement.{IsLive}
 use Rattle.qh_surface.specs.declared.named_mesh.NamedMesh.{NamedMesh}
 use Rattle.qh_surface.specs.contract.{NamedMeshes.named, Walks.mark_at}
-use Rattle.qh_block.proofs.finished.NamedWalks.{named_live}
+use Rattle.qh_surface.proofs.NamedFacets.{named_live}
 use Rattle.qh_seam_laws.specs.contract.{Between.IsBetweenFour}
 use Rattle.qh_seam_laws.proofs.Between.{between_four_is_below}
-use Rattle.qh_seam.specs.declared.parts.Part.{Part}
+use Rattle.qh_division.specs.declared.parts.Part.{Part}
 use Rattle.qh_seam.specs.declared.triangles.Four.{Four}
-use Rattle.qh_seam.specs.contract.Parts.{IsPartOf}
+use Rattle.qh_division.specs.contract.Parts.{IsPartOf}
 use Rattle.qh_seam.specs.steps.Apart.{IsApart}
 use Rattle.qh_seam.specs.steps.Triangles.{four_vols, IsFourOf, IsInCone}
 use Rattle.qh_seam.specs.steps.Witnesses.{IsAnswered, IsRingOver}

@@ -1,12 +1,4 @@
-pub mod Lists
-pub mod Asked
-pub mod Runs
 pub mod RingsBefore
 pub mod Answers
 pub mod RingFacets
-pub mod ListedCorners
-pub mod Chunked
-pub mod PartCorners
 pub mod StayingParts
-pub mod LeftIds
-pub mod OnceListed

@@ -5,7 +5,7 @@ use Rattle.qh_model.specs.contract.Surface.{Surface}
 use Rattle.qh_model.proofs.lists.Joined.{in_append, of_append}
 use Rattle.qh_pred.specs.contract.Planes.{PlaneValue}
 use Rattle.qh_seam.specs.steps.Witnesses.{IsPlaneOf, HasPlane}
-use Rattle.qh_seam.proofs.Asked.{AreAsked, asking_starts, asking_goes, next_live}
+use Rattle.qh_division.proofs.Asked.{AreAsked, asking_starts, asking_goes, next_live}
 
 -- those of which Q holds, among the live ones that were asked, and only live ones
 pub record AreRing (Q : ℕ → Type 0) (live left found : List ℕ) : Type 0 where

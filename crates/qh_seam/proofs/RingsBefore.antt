@@ -4,7 +4,7 @@ use Rattle.qh_model.specs.headline.Sets.{In}
 use Rattle.qh_model.specs.contract.StoredSurface.{surface_of}
 use Rattle.qh_surface.specs.declared.named_mesh.NamedMesh.{NamedMesh}
 use Rattle.qh_surface.specs.contract.NamedMeshes.{named}
-use Rattle.qh_block.proofs.finished.NamedWalks.{names}
+use Rattle.qh_surface.proofs.NamedFacets.{names}
 use Rattle.qh_seam_laws.specs.contract.Seam.{IsRing}
 
 -- a facet of the ring over ids is one over positions

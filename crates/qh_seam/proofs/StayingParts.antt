@@ -11,8 +11,9 @@ use Rattle.qh_surface.specs.contract.{NamedMeshes.named}
 use Rattle.qh_block.specs.steps.Faces.{IsFacetPolygon}
 use Rattle.qh_seam_laws.specs.contract.Parts.{IsPartFace}
 use Rattle.qh_seam_laws.proofs.Parts.{strict_is_clear}
-use Rattle.qh_seam.specs.declared.parts.Part.{Part}
-use Rattle.qh_seam.specs.contract.Parts.{ids_in, own_in, KeepsCorners, IsPartOf, IsStayingPart}
+use Rattle.qh_division.specs.declared.parts.Part.{Part}
+use Rattle.qh_division.specs.contract.Parts.{ids_in, own_in, KeepsCorners, IsPartOf}
+use Rattle.qh_seam.specs.contract.Staying.{IsStayingPart}
 use Rattle.qh_seam.specs.steps.Apart.{IsApart}
 
 -- the id at a place of a list is one of the list

@@ -1,2 +1,2 @@
 -- What the contracts of public functions cite.
-pub mod Parts
+pub mod Staying

@@ -1,7 +1,4 @@
-//! Parts of a set, and the faces of them that stay at a checked seam.
-//!
-//! A set is cut into parts (`chunks`), each with a finished mesh and its corners (`parts`). The corners of
-//! all are what is kept of the set (`kept`): all extreme ids are among them.
+//! The faces of the parts of a set that stay at a checked seam.
 //!
 //! Some facets of a part are marked to stay where the corners of the other parts come in. The marks may be
 //! any: that they are right is checked here (`staying`, `seams`). Each corner of the others has a witness
@@ -12,18 +9,11 @@
 //! `qh_join` makes the hull of these and others.
 #![tactic(auto)]
 
-mod chunks;
-mod kept;
 mod marked;
-mod parts;
 mod rings;
 mod seams;
 mod staying;
 mod triangles;
 mod witnesses;
 
-pub use chunks::parts_of;
-pub use kept::kept_ids;
-pub use parts::Part;
-pub use staying::{Divided, Guess, staying_faces};
-pub use witnesses::Run;
+pub use staying::staying_faces;

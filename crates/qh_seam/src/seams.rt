@@ -10,9 +10,9 @@ ghost use Rattle.qh_surface.specs.contract.Walks.{mark_at};
 ghost use Rattle.qh_seam.specs.steps.Witnesses.{AreUnder, IsAnswered};
 
 use crate::marked::Marked;
-use crate::parts::Part;
 use crate::triangles::Four;
-use crate::witnesses::{Run, are_answered};
+use crate::witnesses::are_answered;
+use qh_division::{Part, Run};
 use qh_mesh::FacetNo;
 use std::alloc::{AllocError, Global};
 

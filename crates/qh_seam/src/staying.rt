@@ -6,32 +6,16 @@ ghost use Rattle.qh_model.specs.headline.Sets.{In, Members};
 ghost use Rattle.qh_model.specs.contract.IdSets.{AreIndices, HasDistinctPoints};
 ghost use Rattle.qh_surface.specs.contract.Walks.{mark_at};
 ghost use Rattle.qh_seam_laws.specs.contract.Parts.{IsPartFace};
-ghost use Rattle.qh_seam.specs.declared.parts.Part.{Part};
-ghost use Rattle.qh_seam.specs.contract.Parts.{ids_in, KeepsCorners, IsPartOf, IsStayingPart, CloseUp};
+ghost use Rattle.qh_division.specs.declared.parts.Part.{Part};
+ghost use Rattle.qh_division.specs.contract.Parts.{ids_in, KeepsCorners, IsPartOf};
+ghost use Rattle.qh_seam.specs.contract.Staying.{IsStayingPart, CloseUp};
 
 use crate::marked::Marked;
-use crate::parts::Part;
 use crate::triangles::four_of;
-use crate::witnesses::Run;
 use qh_block::{PartedFaces, parted_faces};
-use qh_model::{Id, Memory, Point};
+use qh_division::{Divided, Guess, Part};
+use qh_model::Memory;
 use std::alloc::Global;
-
-/// A set in parts, with ids that belong to every part.
-#[derive(Clone, Copy, Drop)]
-pub struct Divided<'a> {
-    pub pts: &'a [Point],
-    pub parts: &'a [Part],
-    pub shared: &'a [Id],
-}
-
-/// A guess of what stays of a part: a mark for each place of its mesh, and for each part witnesses for the
-/// corners of that part.
-#[derive(Clone, Copy, Drop)]
-pub struct Guess<'a> {
-    pub stay: &'a [bool],
-    pub runs: &'a [Vec<Run>],
-}
 
 /// Returns true if the guess for the part of this number is seen to be right. A right one may be refused.
 fn stays<'a>(

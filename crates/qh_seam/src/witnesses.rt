@@ -12,16 +12,10 @@ ghost use Rattle.qh_seam.specs.steps.Witnesses.{IsAnswered};
 
 use crate::marked::Marked;
 use crate::triangles::{Four, Triangle};
+use qh_division::Run;
 use qh_mesh::FacetNo;
 use qh_model::Point;
 use qh_pred::Plane;
-
-/// A facet that is the witness for the next `count` points of a list.
-#[derive(Clone, Copy, Drop)]
-pub struct Run {
-    pub facet: FacetNo,
-    pub count: usize,
-}
 
 /// A facet as a witness: its triangle and plane, whether it stays, and four points of the part.
 #[derive(Clone, Copy, Drop)]

@@ -3,14 +3,14 @@
 ghost use Rattle.std.specs.Prelude.{IfOk, IfSome};
 ghost use Rattle.std.specs.List.{All};
 ghost use Rattle.qh_model.specs.contract.IdSets.{AreIndices};
-ghost use Rattle.qh_seam.specs.contract.Parts.{IsPartOf};
+ghost use Rattle.qh_division.specs.contract.Parts.{IsPartOf};
 
 mod guess;
 mod seam;
 
+use qh_division::{Part, parts_of};
 use qh_fixtures::ids::ids_of;
 use qh_model::{Id, Memory, Point};
-use qh_seam::{Part, parts_of};
 use std::alloc::Global;
 
 /// The corners of both parts.

@@ -6,11 +6,11 @@ use Rattle.qh_model.specs.headline.{Vector.Vector, Vector.origin, Predicates.pla
 use Rattle.qh_model.specs.contract.{Surface.Side, Surface.Surface, Surface.IsCorner, Surface.IsWhole, StoredSurface.surface_of}
 use Rattle.qh_model.specs.laws.FacetPlanes.{IsLevelFacet, IsLevelWith}
 use Rattle.qh_model.proofs.Members.{All-In, All-of, In-get_or}
-use Rattle.qh_model.proofs.surfaces.{Named.IsNamed, Named.stored_named, Stored.live_is_marked}
+use Rattle.qh_model.proofs.surfaces.Stored.{live_is_marked}
 use Rattle.qh_mesh.specs.contract.{Names.name_in, Replacement.IsLive}
 use Rattle.qh_surface.specs.declared.named_mesh.NamedMesh.{NamedMesh}
 use Rattle.qh_surface.specs.contract.{NamedMeshes.named, NamedMeshes.IsNamedMesh, Walks.IsMarked, Walks.IsWalkFrom}
-use Rattle.qh_surface.proofs.runs.OrderedIds.{name_is}
+use Rattle.qh_surface.proofs.{NamedFacets.names, NamedFacets.named_live, NamedFacets.live_before, runs.OrderedIds.name_is}
 
 module _ (n : NamedMesh) where
   abbrev m : Surface
@@ -21,16 +21,6 @@ module _ (n : NamedMesh) where
 
   abbrev name : ℕ → ℕ
   name = name_in n.ids.items
-
-  pub names : IsNamed m m' name
-  names = stored_named name n.mesh
-
-  -- the same facets are live
-  pub named_live : (f : ℕ) → IsLive n.mesh f → IsLive (named n) f
-  named_live f l = (live_is_marked (named n) f).0 (subst (In f) (sym names.live) ((live_is_marked n.mesh f).1 l))
-
-  pub live_before : (f : ℕ) → IsLive (named n) f → IsLive n.mesh f
-  live_before f l = (live_is_marked n.mesh f).0 (subst (In f) names.live ((live_is_marked (named n) f).1 l))
 
 module _ (pts : List Vector) (n : NamedMesh) (o : IsNamedMesh pts n) where
   abbrev at : ℕ → Vector

@@ -1,12 +1,12 @@
 -- Claims that polygons are those of a set, and what is wrong with wrong ones. This project's own.
-use Rattle.std.specs.Prelude.{ℕ, pos, ◌≡◌, ◌<◌, ◌+◌, ◌<ℤ◌, ◌⊎◌, ◌↔◌, List, [], length, slice_index_or}
+use Rattle.std.specs.Prelude.{ℕ, pos, ◌≡◌, ◌<◌, ◌<ℤ◌, ◌⊎◌, ◌↔◌, List, [], length, slice_index_or}
 use Rattle.qh_model.specs.headline.Vector.{Vector}
 use Rattle.qh_model.specs.headline.Predicates.{place, vol, AreInLine}
 use Rattle.qh_model.specs.headline.Sets.{Members}
 use Rattle.qh_model.specs.headline.Dimension.{IsDimension}
 use Rattle.qh_model.specs.headline.SupportingPlane.{IsSupportingTriple}
-use Rattle.qh_model.specs.headline.Polygons.{ComesBefore, ArePolygons}
-use Rattle.qh_model.specs.contract.ClosedPolygons.{step_count}
+use Rattle.qh_model.specs.headline.Polygons.{ArePolygons}
+use Rattle.qh_steps.specs.contract.{OpenSteps.IsOpen, Order.IsOutOfOrder}
 use Rattle.qh_check.specs.declared.extent.Extent.{Extent}
 use Rattle.qh_check.specs.declared.extent.Extent.TheVariants.{Whole}
 use Rattle.qh_check.specs.declared.verdict.FaceFault.{FaceFault}
@@ -26,14 +26,6 @@ IsFaceFault extent at A q NoPlane = (i j k : ℕ) → BeginsWith q i j k → A i
 IsFaceFault extent at A q (Above l) = (i j k : ℕ) × BeginsWith q i j k × A l × (pos 0 <ℤ vol (at i) (at j) (at k) (at l))
 IsFaceFault extent at A q OtherFace =
     (i j k : ℕ) × BeginsWith q i j k × IsSupportingTriple at A i j k × ¬ (IsOfPlane extent at A i j k q)
-
--- the polygon at a position does not come before the next
-abbrev pub IsOutOfOrder : List (List ℕ) → ℕ → Type 0
-IsOutOfOrder qs n = (n + 1 < length qs) × ¬ (ComesBefore (slice_index_or qs n []) (slice_index_or qs (n + 1) []))
-
--- the step from u to v and the step back are not taken equally often
-abbrev pub IsOpen : List (List ℕ) → ℕ → ℕ → Type 0
-IsOpen qs u v = ¬ (step_count qs u v ≡ step_count qs v u)
 
 -- what each verdict says of the polygons
 abbrev pub IsReason : (ℕ → Vector) → (ℕ → Type 0) → List (List ℕ) → Verdict → Type 0

@@ -8,7 +8,8 @@ use Rattle.qh_model.specs.contract.ClosedPolygons.{AreClosed, step_count}
 use Rattle.qh_check.specs.declared.extent.Extent.TheVariants.{Piece}
 use Rattle.qh_check.specs.declared.flaw.SurfaceVerdict.{SurfaceVerdict}
 use Rattle.qh_check.specs.declared.flaw.SurfaceVerdict.TheVariants.{Right, OtherPolygons, NoPiece, Open, Twice}
-use Rattle.qh_check.specs.contract.Claims.{ArePolygonsOf, IsFaceFault, IsOpen}
+use Rattle.qh_steps.specs.contract.OpenSteps.{IsOpen}
+use Rattle.qh_check.specs.contract.Claims.{ArePolygonsOf, IsFaceFault}
 use Rattle.qh_check.specs.contract.Pieces.{IsPiece}
 
 -- pieces of faces, one at least; each step from corner to corner is taken as often as the step back, and only once:

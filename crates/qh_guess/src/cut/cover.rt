@@ -5,9 +5,9 @@ use crate::cut::facets::Facets;
 use crate::cut::rays::Rays;
 use crate::cut::recent::Recent;
 use crate::outlines::Outline;
+use qh_division::Run;
 use qh_mesh::FacetNo;
 use qh_model::Point;
-use qh_seam::Run;
 use std::alloc::{AllocError, Global};
 
 /// Finds for each point of the others a facet that shows where it lies: one that is removed and below it,

@@ -5,9 +5,9 @@ use crate::cut::facets::Facets;
 use crate::cut::rays::Rays;
 use crate::outlines::{FACING_TOGETHER, Outline, piece};
 use crate::vector::Vector;
+use qh_division::{Divided, Part, Run};
 use qh_mesh::FacetNo;
 use qh_model::{Id, Memory, Point};
-use qh_seam::{Divided, Part, Run};
 use std::alloc::{AllocError, Global};
 
 /// A guess of what stays of a part.

@@ -4,7 +4,7 @@ use Rattle.std.specs.Prelude.{ℕ, ◌≡◌, ◌<◌, ◌⊎◌, ◌↔◌, Lis
 use Rattle.std.specs.List.{flat_map}
 use Rattle.qh_model.specs.headline.{Vector.Vector, Predicates.place, Sets.In}
 use Rattle.qh_places.specs.declared.places.Places.{Places}
-use Rattle.qh_seam.specs.declared.parts.Part.{Part}
+use Rattle.qh_division.specs.declared.parts.Part.{Part}
 
 -- the places of a part
 abbrev pub places_of : Part → Places

@@ -5,6 +5,7 @@ ghost use Rattle.qh_surface.specs.contract.NamedMeshes.{IsNamedMesh};
 
 use super::{ALL, Halves, halves_of};
 use qh_block::{PartedFaces, UnsortedFaces};
+use qh_division::{Divided, Guess, Run, kept_ids};
 use qh_fixtures::faces::{CUBE_FACES, are_round, polygons_of};
 use qh_fixtures::ids::ids_of;
 use qh_fixtures::points::cube;
@@ -12,7 +13,7 @@ use qh_join::{Kept, corners_of, join_faces};
 use qh_mesh::FacetNo;
 use qh_model::{Body, Id, Memory, Point};
 use qh_pred::{point_at, vol};
-use qh_seam::{Divided, Guess, Run, kept_ids, staying_faces};
+use qh_seam::staying_faces;
 use qh_surface::NamedMesh;
 use std::alloc::{AllocError, Global};
 use std::test::Fail;

@@ -6,7 +6,8 @@ use Rattle.qh_model.specs.headline.Predicates.{place}
 use Rattle.qh_model.specs.contract.StoredSurface.{surface_of}
 use Rattle.qh_mesh.specs.contract.Replacement.{IsLive}
 use Rattle.qh_surface.specs.contract.NamedMeshes.{named}
-use Rattle.qh_block.proofs.finished.{Corners.corners_in, NamedWalks.named_live, NamedWalks.walk_named, NewFaces.new_face}
+use Rattle.qh_surface.proofs.NamedFacets.{named_live}
+use Rattle.qh_block.proofs.finished.{Corners.corners_in, NamedWalks.walk_named, NewFaces.new_face}
 use Rattle.qh_model.proofs.surfaces.FacetPlanes.{level_itself}
 use Rattle.qh_block.proofs.finished.LoneTriangles.{lone_triangle}
 use Rattle.qh_block.proofs.faces.new_face.Goals as goal

@@ -4,7 +4,8 @@ use Rattle.std.proofs.lemmas.List.{length-map}
 use Rattle.qh_model.specs.contract.StoredSurface.{named_facet}
 use Rattle.qh_mesh.specs.contract.Names.{name_in}
 use Rattle.qh_surface.specs.contract.{NamedMeshes.named, Walks.mark_at}
-use Rattle.qh_block.proofs.finished.{Gathering.next_within, NamedWalks.names}
+use Rattle.qh_surface.proofs.NamedFacets.{names}
+use Rattle.qh_block.proofs.finished.Gathering.{next_within}
 use Rattle.qh_block.proofs.finished.Parting.{parting_starts, parted_place, to_own, to_others, parted_each, parted_close}
 use Rattle.qh_block.proofs.faces.parted_faces.Goals as goal
 

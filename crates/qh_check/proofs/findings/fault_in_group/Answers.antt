@@ -1,6 +1,6 @@
 -- One more polygon of the group is a face, or has a fault.
 use Rattle.qh_check.specs.steps.Findings.{IsFaceAmong}
-use Rattle.qh_check.proofs.Listed.{all_next, all_ends}
+use Rattle.qh_places.proofs.Listed.{all_next, all_ends}
 use Rattle.qh_check.proofs.findings.fault_in_group.Goals as goal
 
 pub loop-index-preserved : goal.loop-index-preserved

@@ -2,7 +2,7 @@
 use Rattle.std.proofs.Common.{inl, inr, arith}
 use Rattle.qh_model.proofs.Members.{All-In, All-of}
 use Rattle.qh_check.specs.steps.Findings.{IsFaceAmong}
-use Rattle.qh_check.proofs.Listed.{in_either, in_none}
+use Rattle.qh_places.proofs.ListMembers.{in_either, in_none}
 use Rattle.qh_check.proofs.findings.first_fault.Goals as goal
 
 pub loop-rest-init : goal.loop-rest-init

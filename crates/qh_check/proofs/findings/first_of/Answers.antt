@@ -3,7 +3,7 @@ use Rattle.std.proofs.Common.{◌≡◌, subst, sym, ◌∙◌}
 use Rattle.std.specs.Prelude.{Ok, None}
 use Rattle.qh_model.specs.headline.Sets.{In}
 use Rattle.qh_model.proofs.Members.{In-get_or}
-use Rattle.qh_check.proofs.Listed.{all_ends, all_goes}
+use Rattle.qh_places.proofs.Listed.{all_ends, all_goes}
 use Rattle.qh_check.proofs.findings.first_of.Goals as goal
 
 pub loop-answer-preserved : goal.loop-answer-preserved

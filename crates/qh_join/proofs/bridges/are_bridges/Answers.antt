@@ -3,7 +3,7 @@ use Rattle.std.proofs.Common.{◌<◌, length, refl, subst, arith, true}
 use Rattle.std.proofs.lemmas.Result.{IfOk-weaker}
 use Rattle.std.specs.Prelude.{Ok, IfOk, IsTrue}
 use Rattle.std.specs.List.{All}
-use Rattle.qh_check.proofs.Chunks.{chunk_all}
+use Rattle.qh_places.proofs.Chunks.{chunk_all}
 use Rattle.qh_join.specs.steps.Bridges.{IsBridge}
 use Rattle.qh_join.proofs.bridges.are_bridges.Goals as goal
 

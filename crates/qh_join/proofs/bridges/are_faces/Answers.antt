@@ -2,7 +2,7 @@
 use Rattle.std.proofs.Common.{arith}
 use Rattle.qh_model.proofs.Members.{All-In, All-of}
 use Rattle.qh_join.specs.steps.Bridges.{IsBridge}
-use Rattle.qh_seam.proofs.Runs.{left_at_start, left_behind, all_done}
+use Rattle.qh_division.proofs.Runs.{left_at_start, left_behind, all_done}
 use Rattle.qh_join.proofs.bridges.are_faces.Goals as goal
 
 pub loop-rest-init : goal.loop-rest-init

@@ -1,7 +1,7 @@
 -- The polygons that are not left are faces.
 use Rattle.std.proofs.Common.{length}
 use Rattle.qh_join.specs.steps.Bridges.{IsBridge}
-use Rattle.qh_seam.proofs.Runs.{AreLeft}
+use Rattle.qh_division.proofs.Runs.{AreLeft}
 use Rattle.qh_join.proofs.bridges.are_faces.Given as goal
 
 abbrev pub invariant-loop-rest : goal.invariant-loop-rest

@@ -3,7 +3,7 @@ use Rattle.std.proofs.Common.{◌≡◌, ◌∙◌, Bool, true, false, subst, sy
 use Rattle.std.specs.Cmp.Lexicographic.{same_text}
 use Rattle.qh_model.specs.headline.{Predicates.place, Predicates.AreInLine, Sets.Members}
 use Rattle.qh_model.specs.headline.Polygons.{IsFacePolygon}
-use Rattle.qh_check.proofs.ClaimedFaces.{triple, face}
+use Rattle.qh_places.proofs.LevelFaces.{triple, face}
 use Rattle.qh_join.proofs.BridgeLevels.{level_indices}
 use Rattle.qh_join.proofs.bridges.is_face_at.Goals as goal
 

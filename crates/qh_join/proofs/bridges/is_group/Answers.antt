@@ -1,5 +1,5 @@
 -- One more polygon is a face.
-use Rattle.qh_check.proofs.Listed.{all_ends, all_goes}
+use Rattle.qh_places.proofs.Listed.{all_ends, all_goes}
 use Rattle.qh_join.specs.steps.Bridges.{IsBridge}
 use Rattle.qh_join.proofs.bridges.is_group.Goals as goal
 

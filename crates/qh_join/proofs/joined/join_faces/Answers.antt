@@ -5,8 +5,8 @@ use Rattle.qh_model.specs.headline.{Predicates.place, Sets.Members}
 use Rattle.qh_model.specs.contract.IdSets.{HasDistinctPoints}
 use Rattle.qh_model.proofs.Members.{All-In, in_permutation}
 use Rattle.qh_model.proofs.lists.Joined.{of_append}
-use Rattle.qh_block.proofs.finished.StepCounts.{closed_permuted}
-use Rattle.qh_check.proofs.StepBorders.{closed_by_border}
+use Rattle.qh_steps.proofs.StepCounts.{closed_permuted}
+use Rattle.qh_steps.proofs.StepBorders.{closed_by_border}
 use Rattle.qh_join.specs.steps.Bridges.{IsBridge}
 use Rattle.qh_join.proofs.joined.join_faces.Goals as goal
 

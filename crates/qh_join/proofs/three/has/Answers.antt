@@ -1,6 +1,6 @@
 -- The test of members tells.
 use Rattle.std.proofs.Common.{◌∙◌, sym}
-use Rattle.qh_seam.proofs.Lists.{any_in}
+use Rattle.qh_places.proofs.ListMembers.{any_in}
 use Rattle.qh_join.proofs.three.has.Goals as goal
 
 pub returns : goal.returns

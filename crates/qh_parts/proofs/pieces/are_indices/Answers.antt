@@ -2,7 +2,7 @@
 use Rattle.std.proofs.Common.{◌<◌, below_more, length, subst, arith, ◌∙◌}
 use Rattle.std.proofs.lemmas.Grind.{get_or_default_zero}
 use Rattle.qh_model.proofs.Members.{All-of}
-use Rattle.qh_seam.proofs.Lists.{each_listed}
+use Rattle.qh_places.proofs.Listed.{each_listed}
 use Rattle.qh_parts.proofs.pieces.are_indices.Goals as goal
 
 pub loop-id-preserved : goal.loop-id-preserved

@@ -4,8 +4,8 @@ use Rattle.std.proofs.lemmas.Bool.{cases_lt}
 use Rattle.qh_model.specs.headline.{Predicates.place, Sets.In}
 use Rattle.qh_model.specs.contract.StoredSurface.{surface_of}
 use Rattle.qh_surface.specs.contract.{NamedMeshes.named, Walks.mark_at}
-use Rattle.qh_seam.specs.declared.parts.Part.{Part}
-use Rattle.qh_seam.specs.contract.Parts.{own_in}
+use Rattle.qh_division.specs.declared.parts.Part.{Part}
+use Rattle.qh_division.specs.contract.Parts.{own_in}
 use Rattle.qh_seam.specs.steps.{Apart.IsApart, Witnesses.IsRingOver}
 use Rattle.qh_seam.proofs.Answers.{apart_of}
 use Rattle.qh_seam.proofs.StayingParts.{shared_indices, apart_at, staying_part}

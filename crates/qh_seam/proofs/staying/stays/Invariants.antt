@@ -1,8 +1,8 @@
 -- The other parts so far were asked.
 use Rattle.std.proofs.Common.{◌≡◌, ℕ, ◌<◌, ◌⊎◌, get_or}
 use Rattle.qh_surface.specs.contract.Walks.{mark_at}
-use Rattle.qh_seam.specs.declared.parts.Part.{Part}
-use Rattle.qh_seam.specs.contract.Parts.{own_in}
+use Rattle.qh_division.specs.declared.parts.Part.{Part}
+use Rattle.qh_division.specs.contract.Parts.{own_in}
 use Rattle.qh_seam.specs.steps.Apart.{IsApart}
 use Rattle.qh_seam.proofs.staying.stays.Given as goal
 

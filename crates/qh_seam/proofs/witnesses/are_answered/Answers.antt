@@ -1,6 +1,6 @@
 -- The points of a run are answered.
 use Rattle.std.proofs.Common.{arith}
-use Rattle.qh_seam.proofs.Runs.{left_at_start, left_behind, all_done}
+use Rattle.qh_division.proofs.Runs.{left_at_start, left_behind, all_done}
 use Rattle.qh_seam.proofs.witnesses.are_answered.Goals as goal
 
 pub loop-run-init : goal.loop-run-init

@@ -3,7 +3,7 @@ use Rattle.qh_model.specs.headline.{Predicates.place}
 use Rattle.qh_model.specs.contract.StoredSurface.{surface_of}
 use Rattle.qh_surface.specs.contract.{NamedMeshes.named, Walks.mark_at}
 use Rattle.qh_seam.specs.steps.Witnesses.{IsAnswered}
-use Rattle.qh_seam.proofs.Runs.{AreLeft}
+use Rattle.qh_division.proofs.Runs.{AreLeft}
 use Rattle.qh_seam.proofs.witnesses.are_answered.Given as goal
 
 abbrev pub invariant-loop-run : goal.invariant-loop-run

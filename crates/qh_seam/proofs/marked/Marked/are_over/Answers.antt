@@ -2,7 +2,8 @@
 use Rattle.std.proofs.Common.{subst, arith}
 use Rattle.std.specs.Prelude.{pos, ◌<ℤ◌}
 use Rattle.qh_model.specs.headline.Predicates.{place}
-use Rattle.qh_seam.proofs.{Runs.left_at_start, Runs.front_inside, Runs.left_behind, Runs.all_done, StayingParts.named_there}
+use Rattle.qh_division.proofs.{Runs.left_at_start, Runs.front_inside, Runs.left_behind, Runs.all_done}
+use Rattle.qh_seam.proofs.{StayingParts.named_there}
 use Rattle.qh_seam.proofs.marked.Marked.are_over.Goals as goal
 
 pub loop-rest-init : goal.loop-rest-init

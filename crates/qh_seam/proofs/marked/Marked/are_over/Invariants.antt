@@ -5,7 +5,7 @@ use Rattle.qh_model.specs.contract.StoredSurface.{surface_of}
 use Rattle.qh_surface.specs.contract.NamedMeshes.{named}
 use Rattle.qh_places.specs.contract.Places.{ArePlaces}
 use Rattle.qh_seam.specs.steps.Witnesses.{AreUnder}
-use Rattle.qh_seam.proofs.Runs.{AreLeft}
+use Rattle.qh_division.proofs.Runs.{AreLeft}
 use Rattle.qh_seam.proofs.marked.Marked.are_over.Given as goal
 
 abbrev pub invariant-loop-rest : goal.invariant-loop-rest

@@ -5,7 +5,8 @@ use Rattle.qh_model.specs.headline.{Predicates.place}
 use Rattle.qh_model.specs.contract.StoredSurface.{surface_of}
 use Rattle.qh_surface.specs.contract.NamedMeshes.{named}
 use Rattle.qh_seam.specs.steps.Witnesses.{HasPlane}
-use Rattle.qh_seam.proofs.{Lists.each_listed, RingFacets.plane_among_more, RingFacets.plane_at_end, StayingParts.named_there}
+use Rattle.qh_places.proofs.Listed.{each_listed}
+use Rattle.qh_seam.proofs.{RingFacets.plane_among_more, RingFacets.plane_at_end, StayingParts.named_there}
 use Rattle.qh_seam.proofs.marked.Marked.planes_of.Goals as goal
 
 pub triangle-requires : goal.triangle-requires

@@ -3,7 +3,7 @@ use Rattle.std.proofs.Common.{◌∙◌, ap, map}
 use Rattle.qh_model.proofs.surfaces.Stored.{live_is_marked}
 use Rattle.qh_surface.specs.contract.Walks.{mark_at}
 use Rattle.qh_seam.specs.steps.RingKeys.{facet_in}
-use Rattle.qh_seam.proofs.Asked.{next_live, asking_ends}
+use Rattle.qh_division.proofs.Asked.{next_live, asking_ends}
 use Rattle.qh_seam.proofs.RingFacets.{ring_starts, ring_goes}
 use Rattle.qh_seam.proofs.RingsBefore.{ring_before}
 use Rattle.qh_seam.proofs.marked.Marked.ring_keys.Goals as goal

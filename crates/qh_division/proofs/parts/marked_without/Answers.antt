@@ -1,0 +1,36 @@
+-- One more id is left, or has no mark, or is one of the others.
+use Rattle.std.proofs.Common.{◌≡◌, ◌<◌, inl, inr, length, arith, ◌∙◌, ap, ◌⊎◌, Bool, true, false}
+use Rattle.qh_model.specs.headline.Sets.{In}
+use Rattle.std.proofs.lemmas.Grind.{get_or_default_zero}
+use Rattle.qh_surface.specs.contract.Walks.{mark_at}
+use Rattle.qh_places.proofs.Listed.{each_listed}
+use Rattle.qh_division.proofs.{LeftIds.one_more, LeftIds.none_left}
+use Rattle.qh_division.proofs.parts.marked_without.Goals.{then-is_own+in_ok-push, else-is_own}
+use Rattle.qh_division.proofs.parts.marked_without.Goals as goal
+
+pub loop-id-init : goal.loop-id-init
+loop-id-init c = none_left _ c.args.ids.now c.args.others.now _ c.new-left.ensures.items
+
+pub loop-id-preserved : goal.loop-id-preserved
+loop-id-preserved c =
+    let within : c.loop-id.id-index < length c.args.ids.now = omega arith in
+    one_more _ c.args.ids.now c.args.others.now _ _ _ c.id-item.result c.loop-id.invariant within
+    (c.id-item.is ∙ get_or_default_zero c.args.ids.now c.loop-id.id-index c.id-item.result within)
+    (elim c.if-is_own.branch [
+      | then-is_own+in_ok-push w ↦ inr (ap (λ v. v.items) w.left-is ∙ w.in_ok-push.ensures.items)
+      | else-is_own w ↦ inl (
+        λ p. elim (c.is_own.ensures p) [
+          | inl own ↦ absurd (clash own w.if-is_own.false)
+          | inr o ↦ o
+        ],
+        ap (λ v. v.items) w.left-is,
+      )
+    ])
+  where
+    clash : {b : Bool} → b ≡ true → b ≡ false → ⊥
+    clash p q = cc
+
+pub returns-clause-all : goal.returns-clause-all
+returns-clause-all c = λ l i.
+    each_listed (λ j. mark_at c.args.marks.now j ≡ true → In j c.loop-id.left.items ⊎ In j c.args.others.now) c.args.ids.now
+    c.loop-id.id-index (omega arith) c.loop-id.invariant.each l i

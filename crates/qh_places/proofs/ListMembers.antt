@@ -1,0 +1,58 @@
+-- Members of a list: a test that finds them, and those before and behind a cut.
+use Rattle.std.proofs.Common.{◌≡◌, ℕ, zero, suc, ◌≤◌, ◌⊎◌, inl, inr, List, [], ◌∷◌, length, take, drop, subst, arith}
+use Rattle.std.proofs.Common.{refl, sym, Bool, true, false, eqb, eqb-true}
+use Rattle.std.specs.Prelude.{◌||◌}
+use Rattle.std.specs.Cmp.Lexicographic.{pointwise}
+use Rattle.std.specs.List.{list_any}
+use Rattle.qh_model.specs.headline.Sets.{In}
+use Rattle.qh_model.proofs.closed_surfaces.SignedVolume.{eqb-refl}
+
+-- a test finds a member
+pub any_in : (x : ℕ) (xs : List ℕ) → list_any (λ y. eqb y x) xs ≡ true → In x xs
+any_in x [] e = cc
+any_in x (y ∷ ys) e = by_test (eqb y x) refl e (any_in x ys)
+  where
+    by_test : (b : Bool) → eqb y x ≡ b → (b || list_any (λ z. eqb z x) ys) ≡ true
+        → (list_any (λ z. eqb z x) ys ≡ true → In x ys) → In x (y ∷ ys)
+    by_test true same h later = inl (sym (eqb-true y x same))
+    by_test false other h later = inr (later h)
+
+-- and finds each
+pub in_any : (x : ℕ) (xs : List ℕ) → In x xs → list_any (λ y. eqb y x) xs ≡ true
+in_any x [] m = absurd m
+in_any x (y ∷ ys) (inl e) = subst (λ z. (eqb z x || list_any (λ w. eqb w x) ys) ≡ true) e (rw (eqb-refl x) refl)
+in_any x (y ∷ ys) (inr m) = later (eqb y x) (in_any x ys m)
+  where
+    later : (b : Bool) → list_any (λ w. eqb w x) ys ≡ true → (b || list_any (λ w. eqb w x) ys) ≡ true
+    later true e = refl
+    later false e = e
+
+-- a member stands before the cut or behind it
+pub in_either : {X : Type 0} (n : ℕ) (xs : List X) (x : X) → In x xs → In x (take n xs) ⊎ In x (drop n xs)
+in_either zero xs x m = inr m
+in_either (suc n) [] x m = absurd m
+in_either (suc n) (y ∷ xs) x (inl e) = inl (inl e)
+in_either (suc n) (y ∷ xs) x (inr m) = elim (in_either n xs x m) [ inl a ↦ inl (inr a) | inr b ↦ inr b ]
+
+-- what stands before the cut stands in the list
+pub in_front : {X : Type 0} (n : ℕ) (xs : List X) (x : X) → In x (take n xs) → In x xs
+in_front zero xs x m = absurd m
+in_front (suc n) [] x m = absurd m
+in_front (suc n) (y ∷ xs) x (inl e) = inl e
+in_front (suc n) (y ∷ xs) x (inr m) = inr (in_front n xs x m)
+
+-- so does what stands behind it
+pub in_back : {X : Type 0} (n : ℕ) (xs : List X) (x : X) → In x (drop n xs) → In x xs
+in_back zero xs x m = m
+in_back (suc n) [] x m = absurd m
+in_back (suc n) (y ∷ xs) x m = inr (in_back n xs x m)
+
+-- a list without length has no member
+pub in_none : (xs : List ℕ) (x : ℕ) → length xs ≡ 0 → In x xs → ⊥
+in_none [] x e m = absurd m
+in_none (y ∷ ys) x e m = absurd (omega (arith, e))
+
+-- a list is the same as itself
+pub same_itself : (xs : List ℕ) → pointwise eqb xs xs ≡ true
+same_itself [] = refl
+same_itself (x ∷ xs) = rw (eqb-refl x) (same_itself xs)

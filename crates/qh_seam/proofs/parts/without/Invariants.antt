@@ -1,6 +1,0 @@
--- The ids so far that are not in the other list.
-use Rattle.qh_seam.proofs.LeftIds.{AreLeftOf}
-use Rattle.qh_seam.proofs.parts.without.Given as goal
-
-abbrev pub invariant-loop-id : goal.invariant-loop-id
-invariant-loop-id l = AreLeftOf (λ i. Unit {0}) l.ids l.others l.left.items l.id-index

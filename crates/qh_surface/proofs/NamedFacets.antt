@@ -1,0 +1,21 @@
+-- The same facets are live in a mesh over positions and over ids.
+use Rattle.std.proofs.Common.{ℕ, sym, subst}
+use Rattle.qh_model.specs.headline.Sets.{In}
+use Rattle.qh_model.specs.contract.StoredSurface.{surface_of}
+use Rattle.qh_model.proofs.surfaces.{Named.IsNamed, Named.stored_named, Stored.live_is_marked}
+use Rattle.qh_mesh.specs.contract.{Names.name_in, Replacement.IsLive}
+use Rattle.qh_surface.specs.declared.named_mesh.NamedMesh.{NamedMesh}
+use Rattle.qh_surface.specs.contract.NamedMeshes.{named}
+
+module _ (n : NamedMesh) where
+  -- the mesh over ids is that over positions with the names of these
+  pub names : IsNamed (surface_of n.mesh) (surface_of (named n)) (name_in n.ids.items)
+  names = stored_named (name_in n.ids.items) n.mesh
+
+  -- a facet that is live over positions is live over ids
+  pub named_live : (f : ℕ) → IsLive n.mesh f → IsLive (named n) f
+  named_live f l = (live_is_marked (named n) f).0 (subst (In f) (sym names.live) ((live_is_marked n.mesh f).1 l))
+
+  -- and one that is live over ids was so before
+  pub live_before : (f : ℕ) → IsLive (named n) f → IsLive n.mesh f
+  live_before f l = (live_is_marked n.mesh f).0 (subst (In f) names.live ((live_is_marked (named n) f).1 l))
