@@ -26,7 +26,7 @@ PHASES = ["read", "distinct", "filter", "surface", "parts", "faces", "text", "sy
 OWNERS = [
     (r"^(qh_write|itoa)::", "text"),
     (r"^(qh_plane|rayon)::", "distinct"),
-    (r"^qh_interior::|^qh_run::filtered::", "filter"),
+    (r"^qh_(interior|regions)::|^qh_run::filtered::", "filter"),
     # qh_join asks qh_steps for the borders of faces.
     (r"^qh_(parts|division|join|seam|guess|gap|curve|places|check|steps)::|^qh_serve::threaded::", "parts"),
     (r"^qh_block::(faces|face_order|face_keys|unsorted_faces|hulls|plane_walk|solid_edges|bodies|flat_sets|segment)::", "faces"),

@@ -27,7 +27,8 @@ class Programs(unittest.TestCase):
         folder = tempfile.TemporaryDirectory()
         self.addCleanup(folder.cleanup)
         self.top = Path(folder.name)
-        for file in ["program/src/main.rt", "program/must-fail/a.edit", "program/out/earlier", "below/src/lib.rt", "beside/src/lib.rt"]:
+        sources = ["program/src/main.rt", "program/src/tests.rt", "program/src/tests/a.rt", "below/src/lib.rt", "beside/src/lib.rt"]
+        for file in [*sources, "program/must-fail/a.edit", "program/out/earlier"]:
             (self.top / "crates" / file).parent.mkdir(parents=True, exist_ok=True)
             (self.top / "crates" / file).touch()
         (self.top / "crates.txt").write_text("# NAME: NEEDS\nbelow:\nprogram: below std\nbeside: below\n")
@@ -47,7 +48,7 @@ class Programs(unittest.TestCase):
         self.assertTrue((self.top / "crates/program/out/earlier").exists())
         self.assertFalse((self.top / "build/programs").exists())
 
-    def test_other_crates_wrong_bodies_and_what_was_built_are_not_copied(self):
+    def test_other_crates_wrong_bodies_tests_and_what_was_built_are_not_copied(self):
         self.made("program")
         wanted = ["below:", "program: below std", "crates/below/src/lib.rt", "crates/program/src/main.rt"]
         self.assertEqual((self.top / "seen").read_text().split("\n"), [*wanted, ""])

@@ -1,23 +1,16 @@
 -- A set by the positions of its ids, in a list of their points: its extreme ids are those at the extreme positions.
-use Rattle.std.proofs.Common.{◌≡◌, ℕ, ◌+◌, ◌<◌, List, length, map, arith, sym, subst, ◌∙◌}
+use Rattle.std.proofs.Common.{◌≡◌, ℕ, ◌<◌, List, length, map, arith, sym, subst, ◌∙◌}
 use Rattle.std.proofs.lemmas.List.{length-map, get_or-map, get_or_default}
 use Rattle.std.proofs.lemmas.List.FromFn.{get_or-range_with_len, length-range_with_len}
 use Rattle.std.specs.List.{range_with_len}
-use Rattle.std.specs.List.Sorted.{IsStrictlyIncreasing}
 use Rattle.qh_model.specs.headline.{Vector.Vector, Vector.origin, Predicates.place, Sets.In, Sets.Members, Text.vertex_number}
 use Rattle.qh_model.specs.headline.Hull.{AreExtremes}
 use Rattle.qh_model.specs.contract.IdSets.{AreIndices, IsIdSet}
 use Rattle.qh_model.proofs.{Members.In-get_or, Members.rising_once}
-use Rattle.qh_model.proofs.lists.{Ranges.range_below, Ranges.range_has, Rising.rising_between}
+use Rattle.qh_model.proofs.lists.{Ranges.range_below, Ranges.range_has, Rising.range_rises, Rising.rising_between}
 use Rattle.qh_model.proofs.renamed.{Lists.rising_map, Polygons.members_renamed, Positions.at_number, Positions.number_at}
 use Rattle.qh_model.proofs.renamed.Renaming.{IsRenaming, renaming_apart, extremes_renamed}
 use Rattle.qh_mesh.specs.contract.Names.{name_in}
-
--- the numbers below n rise
-range_rises : (n : ℕ) → IsStrictlyIncreasing (range_with_len 0 n)
-range_rises n k h =
-    let e = length-range_with_len 0 n in
-    rw (get_or-range_with_len 0 n k 0 (omega arith), get_or-range_with_len 0 n (k + 1) 0 (omega arith)) (omega arith)
 
 module _ (pts : List Vector) (ids : List ℕ) where
   -- the points in the order of the ids

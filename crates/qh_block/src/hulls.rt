@@ -11,9 +11,10 @@ use crate::bodies::{flat_body, polygon_of};
 use crate::flat_sets::{polygon_hull, segment_hull};
 use crate::gathered::{ids_at, positions_below};
 use crate::solids::{solid_body, solid_extremes, solid_mesh};
-use qh_interior::{IdSet, cull_alone};
+use qh_interior::cull_alone;
 use qh_model::{Body, Id, Memory, Point};
 use qh_polygon::{Shape, rank};
+use qh_regions::IdSet;
 use qh_surface::{Simplex, points_of};
 use std::alloc::Global;
 

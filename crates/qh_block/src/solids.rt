@@ -20,9 +20,9 @@ ghost use Rattle.qh_surface.specs.contract.NamedMeshes.{named, IsNamedMesh};
 use crate::face_order::sort_faces;
 use crate::faces::faces;
 use crate::solid_edges::edge_count;
-use qh_interior::IdSet;
 use qh_model::{Body, Id, Memory, Point, Polygon};
 use qh_polygon::{IdMarks, past_greatest, rising_ids};
+use qh_regions::IdSet;
 use qh_surface::{NamedMesh, Simplex, surface_from};
 use std::alloc::{AllocError, Global};
 

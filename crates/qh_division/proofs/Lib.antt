@@ -1,7 +1,6 @@
 pub mod Asked
 pub mod Runs
 pub mod ListedCorners
-pub mod Chunked
 pub mod PartCorners
 pub mod LeftIds
 pub mod OnceListed

@@ -1,10 +1,7 @@
 -- Parts of a set that have all its extreme ids, gathered block after block.
-use Rattle.std.proofs.Common.{ℕ, ◌≡◌, ◌∙◌, ◌+◌, ◌<◌, ◌⊎◌, inl, inr, List, ◌++◌, length, get_or, take, drop, arith, subst, sym, ap}
+use Rattle.std.proofs.Common.{ℕ, ◌≡◌, ◌∙◌, ◌⊎◌, inl, inr, List, ◌++◌, take, drop, subst, sym, ap}
 use Rattle.std.specs.Prelude.{◌↔◌}
-use Rattle.std.proofs.lemmas.Grind.{common_steps}
-use Rattle.std.proofs.lemmas.List.{get_or_append_left, take-append-drop}
-use Rattle.std.proofs.Math.Seq.{get_or-append_right}
-use Rattle.std.specs.List.Sorted.{IsStrictlyIncreasing}
+use Rattle.std.proofs.lemmas.List.{take-append-drop}
 use Rattle.qh_model.specs.headline.Vector.{Vector}
 use Rattle.qh_model.specs.headline.Predicates.{place}
 use Rattle.qh_model.specs.headline.Sets.{In, Members}
@@ -13,29 +10,11 @@ use Rattle.qh_model.specs.headline.Hull.{AreExtremes}
 use Rattle.qh_model.specs.contract.IdSets.{AreIndices, IsIdSet}
 use Rattle.qh_model.proofs.hulls.ExtremeParts.{part_indices}
 use Rattle.qh_model.proofs.extremes.ExtremeIds.{combination_within}
-use Rattle.qh_model.proofs.lists.Joined.{in_append, of_append}
+use Rattle.qh_model.proofs.lists.{Joined.in_append, Joined.of_append, Rising.rising_back, Rising.rising_front}
 use Rattle.qh_model.specs.laws.HullLaws.{HasExtremes}
 use Rattle.qh_hull.specs.steps.Parts.{HasExtremesBefore}
 
 -- ---- block after block
--- the front of a rising list rises
-rising_front : (xs ys : List ℕ) → IsStrictlyIncreasing (xs ++ ys) → IsStrictlyIncreasing xs
-rising_front xs ys h k l =
-    grind (
-      arith,
-      common_steps,
-      h k (grind (arith, common_steps, l)),
-      get_or_append_left xs ys 0 k,
-      get_or_append_left xs ys 0 (k + 1),
-      l,
-    )
-
--- so does what is behind it
-rising_back : (xs ys : List ℕ) → IsStrictlyIncreasing (xs ++ ys) → IsStrictlyIncreasing ys
-rising_back xs ys h k l =
-    let next : get_or (xs ++ ys) (length xs + k) 0 < get_or (xs ++ ys) (length xs + k + 1) 0 = h (length xs + k) (grind (arith, common_steps, l)) in
-    grind (arith, common_steps, next, get_or-append_right xs ys (length xs + k) 0, get_or-append_right xs ys (length xs + k + 1) 0, l)
-
 -- the front of a set of ids is one
 pub set_front : (pts : List Vector) (xs ys : List ℕ) → IsIdSet pts (xs ++ ys) → IsIdSet pts xs
 set_front pts xs ys s =

@@ -1,4 +1,2 @@
 -- What private functions speak of: nothing to believe.
-pub mod CoarsePlanes
-pub mod CornerBoxes
 pub mod InnerPoints

@@ -7,15 +7,11 @@ ghost use Rattle.qh_model.specs.headline.Predicates.{place};
 ghost use Rattle.qh_model.specs.headline.Sets.{In, Members};
 ghost use Rattle.qh_interior.specs.steps.InnerPoints.{IsOuterPart};
 
-use crate::columns::Columns;
-use crate::corner_box::CornerBox;
-use crate::id_set::IdSet;
-use crate::regions::Region;
 use crate::rules::{BOX_FROM, BOX_SAMPLE, Round, SECOND_ROUND, filter_pays, round_of_all};
 use crate::sample::{inner_columns, one_of};
-use crate::sieves::{Alone, InThreads, Sieve, ids_outside};
 use qh_model::{Id, Memory, Point};
 use qh_pred::point_at;
+use qh_regions::{Alone, CornerBox, IdSet, InThreads, Region, Sieve, ids_outside};
 use std::alloc::Global;
 use std::thread::Threads;
 

@@ -71,12 +71,6 @@ pub const BOX_FROM: usize = 256;
 /// About the size of the sample, spread over the set, that decides whether the corner box has most of its points.
 pub const BOX_SAMPLE: usize = 128;
 
-/// The least number of ids that threads filter together.
-pub const SHARED_FROM: usize = 16_384;
-
-/// The least number of columns whose cells threads make together.
-pub const SHARED_COLUMNS: usize = 256;
-
 /// Returns true if the hull of the interior filter's sample has few enough facets.
 ///
 /// A hull of n points has at most 2 n - 4 facets. More than half of this number say that most of the sample

@@ -5,14 +5,11 @@ ghost use Rattle.qh_model.specs.headline.Sets.{Members};
 ghost use Rattle.qh_interior.specs.steps.InnerPoints.{HasPlanes, AreInner};
 ghost use Rattle.qh_surface.specs.contract.Corners.{AreCornersBelow};
 
-use crate::coarse_planes::CoarsePlane;
-use crate::columns::Columns;
-use crate::id_set::IdSet;
 use crate::rules::sample_pays;
-use crate::sieves::Sieve;
 use qh_mesh::Mesh;
 use qh_model::{Id, Memory, Point};
 use qh_polygon::{Shape, rank};
+use qh_regions::{CoarsePlane, Columns, IdSet, Sieve};
 use qh_surface::{Simplex, plane_of, surface_from};
 use std::alloc::{AllocError, Global};
 

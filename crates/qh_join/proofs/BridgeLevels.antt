@@ -1,5 +1,6 @@
 -- What is kept of a set, as the places of its parts hold it.
 use Rattle.std.proofs.Common.{ℕ, ◌<◌, List, ◌++◌, All, length}
+use Rattle.std.proofs.lemmas.List.Elements.{All-append}
 use Rattle.std.specs.Prelude.{◌↔◌}
 use Rattle.std.specs.List.{flat_map}
 use Rattle.qh_model.specs.headline.{Vector.Vector, Sets.In}
@@ -8,7 +9,6 @@ use Rattle.qh_model.proofs.{Members.All-In, Members.All-of, lists.Joined.in_appe
 use Rattle.qh_pred.specs.contract.Planes.{PlaneValue}
 use Rattle.qh_places.specs.contract.Places.{AreLevel}
 use Rattle.qh_places.specs.declared.places.Places.{Places}
-use Rattle.qh_division.proofs.Chunked.{all_both}
 use Rattle.qh_join.specs.contract.Kept.{held_in, ArePlaced, AreHeld}
 
 module _ (corners : List Places) (shared : List ℕ) where
@@ -20,7 +20,7 @@ module _ (corners : List Places) (shared : List ℕ) where
   module _ (pts : List Vector) (placed : All (ArePlaced pts) corners) (ok : AreIndices pts shared) where
     -- all that is kept are indices
     pub kept_indices : AreIndices pts (flat_map held_in corners ++ shared)
-    kept_indices = all_both (λ i. i < length pts) (flat_map held_in corners) shared (All-of (λ i. i < length pts) _ own) ok
+    kept_indices = All-append (λ i. i < length pts) (flat_map held_in corners) shared (All-of (λ i. i < length pts) _ own) ok
       where
         own : (l : ℕ) → In l (flat_map held_in corners) → l < length pts
         own l i = let (p, m, h) = of_flat_map held_in corners l i in (All-In (ArePlaced pts) corners p placed m).indices l h

@@ -1,11 +1,10 @@
 -- Rising lists of the ids of which a decided claim holds: distinct ids and extreme ids.
-use Rattle.std.proofs.Common.{◌≡◌, ◌≢◌, ℕ, ◌+◌, ◌<◌, inl, inr, List, [], ◌∷◌, length, sym, subst, arith, ⊎_elim}
-use Rattle.std.proofs.lemmas.List.FromFn.{get_or-range_with_len, length-range_with_len}
+use Rattle.std.proofs.Common.{◌≡◌, ◌≢◌, ℕ, ◌<◌, inl, inr, List, [], ◌∷◌, length, sym, subst, arith, ⊎_elim}
 use Rattle.std.specs.{List.range_with_len, List.Sorted.IsStrictlyIncreasing, Prelude.◌↔◌}
 use Rattle.qh_model.proofs.Decisions.{Decided, contrary, each_or_not, same_vector}
 use Rattle.qh_model.proofs.{Members.rising_first, Members.rising_tail, combinations.Alternatives.all_lower}
 use Rattle.qh_model.proofs.extremes.ExtremeIds.{Listed, listed_itself, listed_part, apart, alternative_in}
-use Rattle.qh_model.proofs.lists.{Ranges.range_below, Ranges.range_has, Rising.rising_append}
+use Rattle.qh_model.proofs.lists.{Ranges.range_below, Ranges.range_has, Rising.range_rises, Rising.rising_append}
 use Rattle.qh_model.specs.headline.{Combination.Combination, DistinctIds.IsDistinctId, DistinctIds.AreDistinctIds, Extreme.Others, Hull.AreExtremes}
 use Rattle.qh_model.specs.{headline.Predicates.place, headline.Sets.In, headline.Sets.Members, headline.Vector.Vector}
 
@@ -45,12 +44,6 @@ passing P d (x ∷ xs) r = by_decision (d x) (passing P d xs (rising_tail x xs r
         back : (i : ℕ) → In i (x ∷ xs) × P i → In i s.list
         back i (inl e, q) = absurd (n (subst P e q))
         back i (inr m, q) = (s.members i).1 (m, q)
-
--- the first n numbers rise
-range_rises : (n : ℕ) → IsStrictlyIncreasing (range_with_len 0 n)
-range_rises n k h =
-    let e = length-range_with_len 0 n in
-    rw (get_or-range_with_len 0 n k 0 (omega arith), get_or-range_with_len 0 n (k + 1) 0 (omega arith)) (omega arith)
 
 -- each list of points has a list of its distinct ids
 pub distinct_ids_of : (pts : List Vector) → (ids : List ℕ) × AreDistinctIds pts ids

@@ -1,6 +1,6 @@
 -- Members of lists: by index, by the words of std, in lists of rising numbers, and under facts of each member.
-use Rattle.std.proofs.Common.{ℕ, zero, suc, ◌<◌, List, [], ◌∷◌, length, add-one, arith, refl, sym, subst, inl, inr, All, get_or, ◌≡◌, IsPermutation}
-use Rattle.std.proofs.lemmas.List.{Elements.All-head, Elements.All-tail, Elements.All-from_recursion, Sorted.Contains-permutation}
+use Rattle.std.proofs.Common.{ℕ, zero, suc, ◌<◌, List, [], ◌∷◌, ◌++◌, length, add-one, arith, refl, sym, subst, inl, inr, All, get_or, ◌≡◌, IsPermutation}
+use Rattle.std.proofs.lemmas.List.{Elements.All-append, Elements.All-head, Elements.All-tail, Elements.All-from_recursion, Sorted.Contains-permutation}
 use Rattle.std.specs.List.{AllByRecursion as Every, Contains, Sorted.IsStrictlyIncreasing}
 use Rattle.qh_model.specs.headline.Sets.{In, Once}
 
@@ -70,6 +70,18 @@ every_of P (x ∷ xs) f = (f x (inl refl), every_of P xs (λ y i. f y (inr i)))
 -- and in the word of std
 pub All-of : {X : Type 0} (P : X → Type 0) (xs : List X) → ((x : X) → In x xs → P x) → All P xs
 All-of P xs f = All-from_recursion P xs (every_of P xs f)
+
+-- what holds of one, of a list of it
+pub All-one : {X : Type 0} (P : X → Type 0) (x : X) → P x → All P (x ∷ [])
+All-one P x h = All-from_recursion P (x ∷ []) (h, tt)
+
+-- of an empty list all
+pub all_none : {X : Type 0} (P : X → Type 0) (xs : List X) → xs ≡ [] → All P xs
+all_none P xs e = subst (All P) (sym e) (All-from_recursion P [] tt)
+
+-- of one more at the end
+pub all_and : {X : Type 0} (P : X → Type 0) (xs : List X) (x : X) → All P xs → P x → All P (xs ++ x ∷ [])
+all_and P xs x h p = All-append P xs (x ∷ []) h (All-one P x p)
 
 -- what holds of a list by recursion holds of a member
 pub every_at : {X : Type 0} (P : X → Type 0) (xs : List X) (x : X) → Every P xs → In x xs → P x

@@ -8,13 +8,13 @@ use Rattle.qh_model.proofs.algebra.Ring.{Expr, ring}
 use Rattle.qh_model.proofs.algebra.Ring.Expr.{var, add, sub as less, mul}
 use Rattle.qh_model.proofs.algebra.VectorIdentities.{VE, vec, subE, dotE, put}
 use Rattle.qh_pred.specs.contract.Planes.{PlaneValue, height}
+use Rattle.qh_pred.specs.contract.Ranges.{IsBetween}
+use Rattle.qh_pred.proofs.Ranges.{greatest}
 use Rattle.qh_places.specs.declared.bundles.Bundle.{Bundle}
 use Rattle.qh_places.specs.declared.slabs.Block.{Block}
-use Rattle.qh_places.specs.contract.Bundles.{IsBetween}
 use Rattle.qh_places.specs.steps.Boxes.{IsWithin}
 use Rattle.qh_places.specs.contract.Bundles.{taken, IsInSpans, IsOfBundle}
 use Rattle.qh_places.specs.steps.Slabs.{vector_of, less_times, IsInBlock}
-use Rattle.qh_places.proofs.PointBoxes.{greatest}
 
 -- a number of a span less k, times a way from one to another
 pub rest_top : (n w low high from to k l h f t g : ℤ) → IsBetween low n high → IsBetween from w to

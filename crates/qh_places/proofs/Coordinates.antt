@@ -3,7 +3,7 @@ use Rattle.std.proofs.Common.{◌≡◌, ◌∙◌, ◌<◌, ◌^◌, sym, subst
 use Rattle.std.proofs.lemmas.Int.{to_z-of_z}
 use Rattle.std.specs.Prelude.{ℤ, pos, ◌<ℤ◌, ◌≤ℤ◌}
 use Rattle.qh_model.specs.headline.Limits.{IsCoordinate}
-use Rattle.qh_places.specs.steps.Boxes.{IsFarEnd}
+use Rattle.qh_pred.specs.contract.Ranges.{IsFarEnd}
 use lib.Signed.{mag}
 use mir.Syntax.{Width, w32, w128}
 use mir.Val.{hbits, to_z, of_z}

@@ -1,22 +1,9 @@
--- What holds of each of a list: of one, of one more, so far, and of all.
-use Rattle.std.proofs.Common.{◌≡◌, ℕ, ◌+◌, ◌<◌, ◌≤◌, arith, sym, subst, inl, inr, List, [], ◌∷◌, ◌++◌, length, get_or, slice_index, take, All}
-use Rattle.std.proofs.lemmas.List.{get_or_default, get_or-take, length-take, take_more, Elements.All-append}
+-- What holds of each of a list so far, of one more, and of all.
+use Rattle.std.proofs.Common.{◌≡◌, ℕ, ◌+◌, ◌<◌, ◌≤◌, arith, sym, subst, List, length, get_or, slice_index, take, All}
+use Rattle.std.proofs.lemmas.List.{get_or_default, get_or-take, length-take, take_more}
 use Rattle.qh_model.specs.headline.Sets.{In}
-use Rattle.qh_model.proofs.Members.{All-of, in_at}
+use Rattle.qh_model.proofs.Members.{all_and, in_at}
 
--- of one
-pub All-one : {X : Type 0} (P : X → Type 0) (x : X) → P x → All P (x ∷ [])
-All-one {X} P x h = All-of P (x ∷ []) one
-  where
-    one : (y : X) → In y (x ∷ []) → P y
-    one y (inl e) = subst P (sym e) h
-    one y (inr n) = absurd n
-
--- of one more at the end
-pub all_and : {X : Type 0} (P : X → Type 0) (xs : List X) (x : X) → All P xs → P x → All P (xs ++ x ∷ [])
-all_and P xs x h p = All-append P xs (x ∷ []) h (All-one P x p)
-
--- ---- so far
 -- of one more of a list
 pub all_goes : {X : Type 0} (P : X → Type 0) (xs : List X) (k : ℕ) (x : X) → All P (take k xs) → k < length xs
     → x ≡ get_or xs k x → P x → All P (take (k + 1) xs)

@@ -1,28 +1,21 @@
 -- Boxes round points, and boxes below planes: a scalar product over a box is greatest at a corner.
 use Rattle.std.proofs.Common.{◌≡◌, ℕ, ◌+◌, ◌<◌, ◌≤◌, arith, subst, ◌∙◌, inl, inr, List, length, get_or}
 use Rattle.std.proofs.lemmas.List.{get_or_default}
-use Rattle.std.proofs.lemmas.Int.{ints, by_lt_z}
+use Rattle.std.proofs.lemmas.Int.{ints}
 use Rattle.std.proofs.lemmas.Bool.{cases_lt}
-use Rattle.std.specs.Prelude.{ℤ, pos, ◌*ℤ◌, neg_ℤ, ◌<ℤ◌, ◌≤ℤ◌}
+use Rattle.std.specs.Prelude.{ℤ, pos, ◌<ℤ◌, ◌≤ℤ◌}
 use Rattle.qh_model.specs.headline.Vector.{Vector, origin}
-use Rattle.qh_model.proofs.algebra.{Order.mul-le, Integers.neg_mul}
 use Rattle.qh_pred.specs.contract.Planes.{PlaneValue, height}
+use Rattle.qh_pred.specs.contract.Ranges.{IsFarEnd}
+use Rattle.qh_pred.proofs.Ranges.{greatest}
 use Rattle.qh_places.specs.declared.boxes.PointBox.{PointBox}
-use Rattle.qh_places.specs.contract.Bundles.{IsBetween}
-use Rattle.qh_places.specs.steps.Boxes.{IsWithin, IsFarEnd, IsBoxOf}
+use Rattle.qh_places.specs.steps.Boxes.{IsWithin, IsBoxOf}
 
 pub le_trans : (a b c : ℤ) → a ≤ℤ b → b ≤ℤ c → a ≤ℤ c
 le_trans a b c h k = omega (arith, ints)
 
 -- ---- planes
--- with a factor above 0 the greatest number gives the greatest product, with one not above 0 the least
-pub greatest : (a l h e n : ℤ) → IsFarEnd a l h e → IsBetween l n h → (a *ℤ n) ≤ℤ (a *ℤ e)
-greatest a l h e n far in_range = by_lt_z (pos 0) a
-    (λ up. let q = far.0 up in mul-le a n e (omega (arith, ints)) (omega (arith, ints)))
-    (λ down. let q = far.1 down in let more = mul-le (neg_ℤ a) e n (omega (arith, ints)) (omega (arith, ints)) in
-    omega (arith, ints, neg_mul a e, neg_mul a n, more))
-
--- so a box is below a plane where its corner that lies furthest along the normal is
+-- a box is below a plane where its corner that lies furthest along the normal is
 pub below_by_corner : (b : PointBox) (plane : PlaneValue) (n q : Vector) → n ≡ plane.normal
     → IsFarEnd n.x b.low.x b.high.x q.x → IsFarEnd n.y b.low.y b.high.y q.y → IsFarEnd n.z b.low.z b.high.z q.z
     → height plane q <ℤ pos 0 → (p : Vector) → IsWithin b p → height plane p <ℤ pos 0

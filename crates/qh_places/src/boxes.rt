@@ -2,7 +2,8 @@
 ghost use Rattle.std.specs.Prelude.{◌≡◌, ◌⊎◌, ◌<◌, ◌≤ℤ◌, ◌<ℤ◌, pos, length, IsTrue};
 ghost use Rattle.qh_model.specs.headline.Vector.{Vector};
 ghost use Rattle.qh_pred.specs.contract.Planes.{height};
-ghost use Rattle.qh_places.specs.steps.Boxes.{IsWithin, IsFarEnd, IsBoxOf};
+ghost use Rattle.qh_pred.specs.contract.Ranges.{IsFarEnd};
+ghost use Rattle.qh_places.specs.steps.Boxes.{IsWithin, IsBoxOf};
 
 use qh_model::Point;
 use qh_pred::{Normal, Plane};

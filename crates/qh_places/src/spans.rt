@@ -1,7 +1,6 @@
 //! Spans of numbers, and bounds of products with them.
 ghost use Rattle.std.specs.Prelude.{◌≡◌, ◌≤◌, ◌^◌, ◌*ℤ◌, ◌-ℤ◌, ◌≤ℤ◌, ℤ, pos, IsTrue, unsigned_abs};
-ghost use Rattle.qh_places.specs.contract.Bundles.{IsBetween};
-ghost use Rattle.qh_places.specs.steps.Boxes.{IsFarEnd};
+ghost use Rattle.qh_pred.specs.contract.Ranges.{IsBetween, IsFarEnd};
 
 /// The most times that a direction is taken: 2^48.
 pub(crate) const TIMES_LIMIT: u64 = 281474976710656;

@@ -1,4 +1,5 @@
 -- What else the contracts of public functions cite.
 pub mod Bounds
 pub mod Planes
+pub mod Ranges
 pub mod Turns

@@ -1,7 +1,8 @@
 -- Rising lists of numbers by position, their parts, and one after the other.
 use Rattle.std.proofs.Common.{ℕ, ◌≡◌, ◌+◌, ◌-◌, ◌≤◌, ◌<◌, List, ◌++◌, length, get_or, take, drop, arith}
 use Rattle.std.proofs.{Math.Seq.get_or-append_right, lemmas.Grind.common_steps, lemmas.List.get_or_append_left}
-use Rattle.std.specs.List.Sorted.{IsStrictlyIncreasing}
+use Rattle.std.proofs.lemmas.List.FromFn.{get_or-range_with_len, length-range_with_len}
+use Rattle.std.specs.List.{range_with_len, Sorted.IsStrictlyIncreasing}
 use Rattle.qh_model.specs.headline.Sets.{In}
 use Rattle.qh_model.proofs.{Cuts.bounds_order, Members.In-get_or}
 
@@ -24,6 +25,23 @@ rising_part xs f n h k l =
     let b = part_at xs f n (k + 1) l in
     let next : get_or xs (f + k) 0 < get_or xs (f + k + 1) 0 = h (f + k) (grind (arith, common_steps, l)) in
     grind (arith, a, b, next)
+
+-- the front of a rising list rises
+pub rising_front : (xs ys : List ℕ) → IsStrictlyIncreasing (xs ++ ys) → IsStrictlyIncreasing xs
+rising_front xs ys h k l =
+    grind (arith, common_steps, h k (grind (arith, common_steps, l)), get_or_append_left xs ys 0 k, get_or_append_left xs ys 0 (k + 1), l)
+
+-- so does the back
+pub rising_back : (xs ys : List ℕ) → IsStrictlyIncreasing (xs ++ ys) → IsStrictlyIncreasing ys
+rising_back xs ys h k l =
+    let next : get_or (xs ++ ys) (length xs + k) 0 < get_or (xs ++ ys) (length xs + k + 1) 0 = h (length xs + k) (grind (arith, common_steps, l)) in
+    grind (arith, common_steps, next, get_or-append_right xs ys (length xs + k) 0, get_or-append_right xs ys (length xs + k + 1) 0, l)
+
+-- the numbers below a count rise
+pub range_rises : (n : ℕ) → IsStrictlyIncreasing (range_with_len 0 n)
+range_rises n k h =
+    let e = length-range_with_len 0 n in
+    rw (get_or-range_with_len 0 n k 0 (omega arith), get_or-range_with_len 0 n (k + 1) 0 (omega arith)) (omega arith)
 
 -- two rising lists, the second above the first, are one rising list
 pub rising_append : (xs ys : List ℕ) → IsStrictlyIncreasing xs → IsStrictlyIncreasing ys

@@ -3,11 +3,8 @@
 use Rattle.std.specs.Prelude.{ℤ, pos, ◌+ℤ◌, ◌*ℤ◌, ◌≤ℤ◌, ◌<ℤ◌}
 use Rattle.qh_model.specs.headline.Vector.{Vector}
 use Rattle.qh_pred.specs.contract.Planes.{PlaneValue, height}
+use Rattle.qh_pred.specs.contract.Ranges.{IsBetween}
 use Rattle.qh_places.specs.declared.bundles.Bundle.{Bundle}
-
--- a number in a range
-abbrev pub IsBetween : ℤ → ℤ → ℤ → Type 0
-IsBetween low n high = (low ≤ℤ n) × (n ≤ℤ high)
 
 -- the components are within the spans of a bundle
 pub record IsInSpans (b : Bundle) (n : Vector) : Type 0 where

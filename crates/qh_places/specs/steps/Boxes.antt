@@ -1,18 +1,14 @@
 -- Boxes round points.
-use Rattle.std.specs.Prelude.{ℕ, ◌≡◌, ◌<◌, ◌≤◌, List, length, ℤ, pos, ◌≤ℤ◌, ◌<ℤ◌, slice_index_or}
+use Rattle.std.specs.Prelude.{ℕ, ◌<◌, ◌≤◌, List, length, slice_index_or}
 use Rattle.qh_model.specs.headline.Vector.{Vector, origin}
+use Rattle.qh_pred.specs.contract.Ranges.{IsBetween}
 use Rattle.qh_places.specs.declared.boxes.PointBox.{PointBox}
-use Rattle.qh_places.specs.contract.Bundles.{IsBetween}
 
 -- a point from one corner of a box to the other
 pub record IsWithin (b : PointBox) (p : Vector) : Type 0 where
   pub x : IsBetween b.low.x p.x b.high.x
   pub y : IsBetween b.low.y p.y b.high.y
   pub z : IsBetween b.low.z p.z b.high.z
-
--- e is the end of a range at which a product with a is greatest
-abbrev pub IsFarEnd : ℤ → ℤ → ℤ → ℤ → Type 0
-IsFarEnd a low high e = (pos 0 <ℤ a → e ≡ high) × (a ≤ℤ pos 0 → e ≡ low)
 
 -- the points from one position to another lie in the box
 abbrev pub IsBoxOf : List Vector → ℕ → ℕ → PointBox → Type 0

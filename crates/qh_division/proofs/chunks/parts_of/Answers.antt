@@ -1,7 +1,7 @@
 -- One more part.
 use Rattle.std.proofs.Common.{◌<◌, length}
 use Rattle.qh_division.specs.contract.Parts.{IsPartOf}
-use Rattle.qh_division.proofs.Chunked.{all_and, all_none}
+use Rattle.qh_model.proofs.Members.{all_and, all_none}
 use Rattle.qh_places.proofs.{ListMembers.in_front, ListMembers.in_back}
 use Rattle.qh_division.proofs.Runs.{all_of_part}
 use Rattle.qh_division.proofs.chunks.parts_of.Goals as goal

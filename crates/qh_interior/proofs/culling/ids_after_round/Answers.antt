@@ -4,7 +4,8 @@ use Rattle.qh_model.specs.contract.IdSets.{AreIndices}
 use Rattle.qh_model.specs.headline.Sets.{In}
 use Rattle.qh_model.proofs.Members.{In-get_or, in_at}
 use Rattle.qh_model.proofs.hulls.ExtremeParts.{part_indices}
-use Rattle.qh_interior.specs.steps.InnerPoints.{AreInner, HoldsPoint}
+use Rattle.qh_interior.specs.steps.InnerPoints.{AreInner}
+use Rattle.qh_regions.specs.contract.Cells.{HoldsPoint}
 use Rattle.qh_interior.proofs.InnerPoints.{kept_part}
 use Rattle.qh_interior.proofs.culling.ids_after_round.Goals as goal
 

@@ -1,6 +1,6 @@
 -- What the corner box holds is not extreme in the set.
-use Rattle.qh_interior.specs.steps.CornerBoxes.{IsHeldBy}
-use Rattle.qh_interior.proofs.CornerBoxes.{box_has_no_extreme}
+use Rattle.qh_regions.specs.contract.CornerBoxes.{IsHeldBy}
+use Rattle.qh_regions.proofs.CornerBoxes.{box_has_no_extreme}
 use Rattle.qh_interior.proofs.InnerPoints.{kept_part}
 use Rattle.qh_interior.proofs.culling.ids_outside_box.Goals as goal
 

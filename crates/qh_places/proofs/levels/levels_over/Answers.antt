@@ -1,6 +1,6 @@
 -- One more level is over the points.
 use Rattle.qh_places.specs.steps.Levels.{IsLevel}
-use Rattle.qh_places.proofs.Listed.{all_and}
+use Rattle.qh_model.proofs.Members.{all_and}
 use Rattle.qh_places.proofs.levels.levels_over.Goals as goal
 
 pub loop-shift-preserved : goal.loop-shift-preserved

@@ -1,7 +1,7 @@
 -- The product at the far end is the greatest.
 use Rattle.std.proofs.Common.{subst, sym}
 use Rattle.std.specs.Prelude.{◌*ℤ◌, ◌≤ℤ◌}
-use Rattle.qh_places.proofs.PointBoxes.{greatest}
+use Rattle.qh_pred.proofs.Ranges.{greatest}
 use Rattle.qh_places.proofs.spans.far_product.Goals as goal
 use Rattle.std.proofs.lemmas.Int.{to_z-of_z}
 use mir.Syntax.{w64, w128}

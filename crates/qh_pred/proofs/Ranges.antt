@@ -1,0 +1,21 @@
+-- Products over a range of numbers: the greatest is at an end of it.
+use Rattle.std.proofs.Common.{arith}
+use Rattle.std.proofs.lemmas.Int.{ints, by_lt_z}
+use Rattle.std.specs.Prelude.{ℤ, pos, ◌*ℤ◌, neg_ℤ, ◌≤ℤ◌, ◌<ℤ◌}
+use Rattle.qh_model.proofs.algebra.{Order.mul-le, Integers.neg_mul}
+use Rattle.qh_pred.specs.contract.Ranges.{IsBetween, IsFarEnd}
+
+-- beyond the end of a range to which a factor points products are no less than in the range: with a factor above 0
+-- beyond the greatest number, with one not above 0 beyond the least
+pub beyond : (a l h n e : ℤ) → (pos 0 <ℤ a → h ≤ℤ e) → (a ≤ℤ pos 0 → e ≤ℤ l) → IsBetween l n h → (a *ℤ n) ≤ℤ (a *ℤ e)
+beyond a l h n e above below in_range =
+    let least = in_range.0 in let most = in_range.1 in
+    by_lt_z (pos 0) a
+    (λ up. let q = above up in mul-le a n e (omega (arith, ints)) (omega (arith, ints)))
+    (λ down. let q = below down in let more = mul-le (neg_ℤ a) e n (omega (arith, ints)) (omega (arith, ints)) in
+    omega (arith, ints, neg_mul a e, neg_mul a n, more))
+
+-- so the product with the far end of a range is the greatest
+pub greatest : (a l h e n : ℤ) → IsFarEnd a l h e → IsBetween l n h → (a *ℤ n) ≤ℤ (a *ℤ e)
+greatest a l h e n far in_range =
+    beyond a l h n e (λ up. let q = far.0 up in omega (arith, ints)) (λ down. let q = far.1 down in omega (arith, ints)) in_range

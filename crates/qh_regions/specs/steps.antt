@@ -1,0 +1,3 @@
+-- What private functions speak of: nothing to believe.
+pub mod CoarsePlanes
+pub mod CornerBoxes
