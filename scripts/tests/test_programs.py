@@ -3,6 +3,7 @@ import os
 import subprocess
 import sys
 import tempfile
+import time
 import unittest
 from pathlib import Path
 
@@ -17,6 +18,10 @@ if [ -e crates/program/src/wrong ]; then
     echo '1 passed, 1 failed'
     exit 1
 fi
+if [ -e crates/program/src/long ]; then
+    echo $$ > ../../number
+    exec sleep 60
+fi
 mkdir -p crates/program/out
 echo made > crates/program/out/program
 """
@@ -27,8 +32,7 @@ class Programs(unittest.TestCase):
         folder = tempfile.TemporaryDirectory()
         self.addCleanup(folder.cleanup)
         self.top = Path(folder.name)
-        sources = ["program/src/main.rt", "program/src/tests.rt", "program/src/tests/a.rt", "below/src/lib.rt", "beside/src/lib.rt"]
-        for file in [*sources, "program/must-fail/a.edit", "program/out/earlier"]:
+        for file in ["program/src/main.rt", "program/must-fail/a.edit", "program/out/earlier", "below/src/lib.rt", "beside/src/lib.rt"]:
             (self.top / "crates" / file).parent.mkdir(parents=True, exist_ok=True)
             (self.top / "crates" / file).touch()
         (self.top / "crates.txt").write_text("# NAME: NEEDS\nbelow:\nprogram: below std\nbeside: below\n")
@@ -48,7 +52,7 @@ class Programs(unittest.TestCase):
         self.assertTrue((self.top / "crates/program/out/earlier").exists())
         self.assertFalse((self.top / "build/programs").exists())
 
-    def test_other_crates_wrong_bodies_tests_and_what_was_built_are_not_copied(self):
+    def test_other_crates_wrong_bodies_and_what_was_built_are_not_copied(self):
         self.made("program")
         wanted = ["below:", "program: below std", "crates/below/src/lib.rt", "crates/program/src/main.rt"]
         self.assertEqual((self.top / "seen").read_text().split("\n"), [*wanted, ""])
@@ -60,6 +64,17 @@ class Programs(unittest.TestCase):
         self.assertIn(" s  program NOT PROVED\n", done.stdout)
         self.assertEqual(done.stderr, "what is wrong\n1 passed, 1 failed\n")
         self.assertFalse((self.top / "crates/program/out/program").exists() or (self.top / "build/programs").exists())
+
+    def test_a_run_that_is_terminated_ends_the_gate_and_leaves_no_copy(self):
+        (self.top / "crates/program/src/long").touch()
+        environment = {**os.environ, "PATH": f"{self.top}:{os.environ['PATH']}"}
+        run = subprocess.Popen([sys.executable, PROGRAMS, "program"], cwd=self.top, env=environment, stdout=subprocess.DEVNULL)
+        while not (self.top / "number").exists() or not (self.top / "number").read_text():
+            time.sleep(0.01)
+        run.terminate()
+        self.assertEqual(run.wait(), 143)
+        self.assertFalse(Path("/proc", (self.top / "number").read_text().strip()).exists())
+        self.assertFalse((self.top / "build/programs").exists())
 
     def test_what_is_no_program_is_refused_before_anything_is_proved(self):
         self.assertEqual(self.made("nothing").stderr, "nothing is no crate of crates.txt\n")

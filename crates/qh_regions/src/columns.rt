@@ -20,7 +20,9 @@ use std::alloc::{AllocError, Global};
 #[derive(Drop)]
 pub struct Columns {
     grid: Grid,
+    /// The planes, which the cells name by their places here.
     pub planes: Vec<CoarsePlane>,
+    /// The cells, three for each column, in the order of the columns.
     pub cells: Vec<Cell>,
 }
 
@@ -141,8 +143,12 @@ pub fn cells_of_quarters(alloc: Global, plan: Plan, numbers: &[u32]) -> Result<V
 }
 
 impl Columns {
-    /// Returns the columns over the points of ids, 2 to a power along each axis, with their cells between
-    /// planes, which a sieve makes.
+    /// Returns the columns over the points of ids, 2 to the power `side_bits` along each axis, with their cells between
+    /// planes, which a sieve makes. A point that they hold is strictly below each of the planes.
+    ///
+    /// # Errors
+    ///
+    /// `Memory` where an allocation failed, or where there are more planes than numbers of 32 bits.
     pub fn between<S: Sieve>(
         sieve: &S,
         alloc: Global,
@@ -178,7 +184,8 @@ impl Columns {
         }
     }
 
-    /// Returns true if a point is in a cell, strictly below all planes that are near.
+    /// Returns true if the one cell of a point's column that may hold it does: the point is in its box and strictly below
+    /// all planes that are near.
     pub fn hold(&self, p: Point) -> bool
         ensures { IsTrue result → HoldsPoint self.now p }
     {

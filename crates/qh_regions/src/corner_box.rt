@@ -118,7 +118,9 @@ pub struct CornerBox {
 }
 
 impl CornerBox {
-    /// Returns the box of a set.
+    /// Returns the box of a set of at least one id, which holds the point of no extreme id of the set.
+    ///
+    /// Where the points that lie furthest along the diagonals leave none between them, the box has no point.
     pub fn of(set: IdSet) -> CornerBox
         requires { 0 < length set.ids.now }
         ensures { HasOutward set.entry.pts.now set.entry.ids.now result.bounds }

@@ -30,17 +30,29 @@ pub trait Sieve {
     ghost ready: { Self → Type 0 };
 
     /// Returns the cells of all columns, quarter by quarter.
+    ///
+    /// # Errors
+    ///
+    /// `Memory` where an allocation failed, or where there are more planes than numbers of 32 bits.
     fn cells(&self, alloc: Global, plan: Plan) -> Result<Vec<Cell>, Memory>
         requires { ready self.now }
         ensures { IfOk result (λ v. All (IsCellOf plan.entry.planes.now) v.items) };
 
-    /// Returns the ids that the columns don't hold, in their order.
+    /// Returns the ids whose points the columns don't hold, in their order.
+    ///
+    /// # Errors
+    ///
+    /// `AllocError` where an allocation failed.
     fn outside(&self, alloc: Global, set: IdSet, columns: &Columns) -> Result<Vec<Id>, AllocError>
         requires { ready self.now }
         ensures { IfOk result (λ v. KeepsExtremes set.entry.pts.now (HoldsPoint columns.now) set.entry.ids.now v.items) };
 }
 
 /// Returns the ids whose points a region doesn't have, in their order, by the calling thread.
+///
+/// # Errors
+///
+/// `AllocError` where an allocation failed.
 pub fn ids_outside<R: Region>(alloc: Global, set: IdSet, region: &R) -> Result<Vec<Id>, AllocError>
     ensures { IfOk result (λ v. KeepsExtremes set.entry.pts.now (R.held region.now) set.entry.ids.now v.items) }
 {
@@ -176,7 +188,9 @@ impl Sieve for Alone {
 /// A runtime and the greatest number of its threads.
 #[derive(Clone, Copy, Debug)]
 pub struct InThreads<'a, R> {
+    /// The runtime that starts threads.
     pub rt: &'a R,
+    /// The most threads that work at a time. With fewer than two, the calling thread does all.
     pub threads: usize,
 }
 
