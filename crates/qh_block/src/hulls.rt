@@ -15,7 +15,7 @@ use qh_interior::cull_alone;
 use qh_model::{Body, Id, Memory, Point};
 use qh_polygon::{Shape, rank};
 use qh_regions::IdSet;
-use qh_surface::{Simplex, points_of};
+use qh_starts::{Simplex, points_of};
 use std::alloc::Global;
 
 /// Returns the extreme ids of a set, rising, by a run over all of its ids where they stand.

@@ -23,7 +23,8 @@ use crate::solid_edges::edge_count;
 use qh_model::{Body, Id, Memory, Point, Polygon};
 use qh_polygon::{IdMarks, past_greatest, rising_ids};
 use qh_regions::IdSet;
-use qh_surface::{NamedMesh, Simplex, surface_from};
+use qh_starts::Simplex;
+use qh_surface::{NamedMesh, surface_from};
 use std::alloc::{AllocError, Global};
 
 /// Returns the finished mesh of a set whose first ids off a point, a line and a plane are those of `first`.

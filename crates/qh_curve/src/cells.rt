@@ -4,7 +4,7 @@
 //! Source: Skilling 2004 (Hilbert's order from places, by exchanges and turns of their bits).
 use qh_keys::morton_number;
 use qh_model::Point;
-use qh_surface::Axes;
+use qh_starts::Axes;
 use std::alloc::{AllocError, Global};
 
 /// The bits of a place along an axis. Three of them fit a cell's number.

@@ -3,7 +3,7 @@ ghost use Rattle.qh_model.specs.contract.IdSets.{AreIndices};
 
 use qh_model::{Id, Memory, Point};
 use qh_polygon::{Shape, rank};
-use qh_surface::{Simplex, ends_of, wide_simplex};
+use qh_starts::{Simplex, ends_of, wide_simplex};
 use std::alloc::Global;
 
 /// Returns the ids that are to belong to every part of a set: first four that are far apart and do not lie in one

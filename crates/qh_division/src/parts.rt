@@ -7,7 +7,7 @@ ghost use Rattle.qh_model.specs.contract.StoredSurface.{surface_of};
 ghost use Rattle.qh_model.specs.laws.CompletenessLaws.{IsLiveCorner};
 ghost use Rattle.qh_surface.specs.contract.Corners.{AreCornersBelow};
 ghost use Rattle.qh_surface.specs.contract.NamedMeshes.{named};
-ghost use Rattle.qh_surface.specs.contract.Simplexes.{IsSimplexOf};
+ghost use Rattle.qh_starts.specs.contract.Simplexes.{IsSimplexOf};
 ghost use Rattle.qh_surface.specs.contract.Walks.{mark_at};
 ghost use Rattle.std.specs.List.Sorted.{IsStrictlyIncreasing};
 ghost use Rattle.qh_division.specs.contract.Parts.{IsPartOf};
@@ -17,7 +17,8 @@ use qh_model::{Id, Memory, Point};
 use qh_places::{Outward, Places};
 use qh_polygon::rising_ids;
 use qh_pred::{point_at, vol};
-use qh_surface::{NamedMesh, Simplex, surface_along};
+use qh_starts::Simplex;
+use qh_surface::{NamedMesh, surface_along};
 use std::alloc::{AllocError, Global};
 
 /// A part of a set: its ids, rising, their finished mesh, and the corners of the mesh that are no shared ids,

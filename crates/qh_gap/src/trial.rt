@@ -11,7 +11,7 @@ use qh_curve::Cell;
 use qh_keys::Packed;
 use qh_model::{Id, Memory, Point, Polygon};
 use qh_polygon::rising_ids;
-use qh_surface::{Axes, ends_of};
+use qh_starts::{Axes, ends_of};
 use std::alloc::{AllocError, Global};
 
 /// The most ids of a sample.

@@ -10,7 +10,8 @@ use qh_mesh::Mesh;
 use qh_model::{Id, Memory, Point};
 use qh_polygon::{Shape, rank};
 use qh_regions::{CoarsePlane, Columns, IdSet, Sieve};
-use qh_surface::{Simplex, plane_of, surface_from};
+use qh_starts::Simplex;
+use qh_surface::{plane_of, surface_from};
 use std::alloc::{AllocError, Global};
 
 /// Returns every `step`-th id, from the first on.

@@ -8,8 +8,9 @@ ghost use Rattle.qh_mesh.specs.steps.Horizons.{AreNoted, IsBalanced, side_at};
 ghost use Rattle.qh_mesh.specs.steps.Cones.{Joined, Written};
 ghost use Rattle.qh_mesh.specs.steps.Places.{IsPool};
 
-use crate::facets::{EdgeNo, Facet, FacetNo, FacetSide};
+use crate::facets::{EdgeNo, Facet, FacetSide};
 use crate::slots::{End, Slot, Table, is_noted, mate};
+use qh_model::FacetNo;
 
 /// Puts another half-edge across a half-edge.
 fn set_twin(facets: &mut [Facet], e: EdgeNo, twin: u32)
@@ -26,7 +27,7 @@ fn edge_at(made: &[FacetNo], j: usize, side: usize) -> u32
     requires fits { All (λ f. 3 * f + 2 < 2 ^ 32) made.now }
     ensures { result ≡ edge_of (slice_index made.now j) (nth_side side) }
 {
-    made[j].edge(side).number()
+    EdgeNo::of(made[j], side).number()
 }
 
 /// Gives each half-edge across the horizon its twin in the cone. Returns true if the table names each side

@@ -1,54 +1,12 @@
-//! The numbers of facets and of their sides, and how a facet is kept.
+//! The numbers of the sides of facets, and how a facet is kept.
 ghost use Rattle.std.specs.Prelude.{◌≡◌, ◌+◌, ◌*◌, ◌<◌, ◌^◌, map, [], ◌∷◌};
 ghost use Rattle.qh_model.specs.contract.StoredSurface.{named_facet, no_facet};
 ghost use Rattle.qh_mesh.specs.contract.Edges.{edge_of, facet_of, nth_side, side_of_edge};
 ghost use Rattle.qh_mesh.specs.contract.Names.{name_in};
 ghost use Rattle.qh_mesh.specs.steps.Kept.{facet_from, outer_of, removed, side_of, with_twin};
 
-use qh_model::Id;
+use qh_model::{FacetNo, Id};
 use std::marker::Model;
-
-/// The number of a facet: its place in the mesh, from 0.
-///
-/// A contract sees it as a number.
-#[derive(Clone, Copy, Debug, PartialEq, Eq, Drop)]
-pub struct FacetNo(usize);
-
-impl Model for FacetNo {
-    ghost use Rattle.std.specs.Prelude.{ℕ};
-
-    ghost Value = { ℕ };
-
-    ghost view = { λ f. f.0 };
-
-    ghost inverse = { λ n. record { 0 = n } };
-}
-
-impl FacetNo {
-    /// Returns the facet with this number.
-    pub fn new(number: usize) -> FacetNo
-        ensures { result ≡ number }
-    {
-        FacetNo(number)
-    }
-
-    /// Returns its number, as an index into a list.
-    pub fn index(self) -> usize
-        ensures { result ≡ self }
-    {
-        self.0
-    }
-
-    /// Returns its side 0, 1 or 2.
-    #[tactic(auto, using(crate::proofs::EdgeSides::side_left_over))]
-    pub(crate) fn edge(self, side: usize) -> EdgeNo
-        requires side { side < 3 }
-        requires fits { 3 * self + 2 < 2 ^ 32 }
-        ensures { result ≡ edge_of self (nth_side side) }
-    {
-        EdgeNo(3 * self.0 + side)
-    }
-}
 
 /// The number of a side of a facet, a half-edge: that of the facet times three, and 0, 1 or 2. It goes
 /// from that corner of the facet to the next.
@@ -68,6 +26,16 @@ impl Model for EdgeNo {
 }
 
 impl EdgeNo {
+    /// Returns the side 0, 1 or 2 of a facet.
+    #[tactic(auto, using(crate::proofs::EdgeSides::side_left_over))]
+    pub(crate) fn of(facet: FacetNo, side: usize) -> EdgeNo
+        requires side { side < 3 }
+        requires fits { 3 * facet + 2 < 2 ^ 32 }
+        ensures { result ≡ edge_of facet (nth_side side) }
+    {
+        EdgeNo(3 * facet.index() + side)
+    }
+
     /// Returns its number, as a mesh keeps it.
     pub(crate) fn number(self) -> u32
         requires { self < 2 ^ 32 }
@@ -80,7 +48,7 @@ impl EdgeNo {
     pub(crate) fn facet(self) -> FacetNo
         ensures { result ≡ facet_of self }
     {
-        FacetNo(self.0 / 3)
+        FacetNo::new(self.0 / 3)
     }
 
     /// Returns which side of its facet it is: 0, 1 or 2.

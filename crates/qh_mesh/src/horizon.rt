@@ -4,7 +4,8 @@ ghost use Rattle.qh_model.specs.contract.StoredSurface.{facet_at};
 ghost use Rattle.qh_mesh.specs.contract.Edges.{facet_of};
 ghost use Rattle.qh_mesh.specs.steps.Horizons.{is_open, open_sides, HasSidesInside};
 
-use crate::facets::{Facet, FacetNo, FacetSide};
+use crate::facets::{Facet, FacetSide};
+use qh_model::FacetNo;
 
 /// Adds a side to the horizon if a live facet lies across it. It is noted in any case, since which sides
 /// are open can't be foreseen: a count costs less than a wrong guess.

@@ -21,6 +21,7 @@ mod room;
 mod simplex;
 mod slots;
 
-pub use facets::{EdgeNo, FacetNo};
+pub use facets::EdgeNo;
 pub use live::Live;
 pub use mesh::Mesh;
+pub use qh_model::FacetNo;

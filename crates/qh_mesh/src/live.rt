@@ -5,8 +5,8 @@ ghost use Rattle.qh_mesh.specs.contract.LiveNumbers.{live_after};
 ghost use Rattle.qh_model.specs.contract.StoredSurface.{surface_of};
 ghost use Rattle.qh_mesh.specs.contract.Replacement.{IsLive};
 
-use crate::facets::FacetNo;
 use crate::mesh::Mesh;
+use qh_model::FacetNo;
 use std::marker::Model;
 
 /// The numbers of the live facets that are left, rising. From [`Mesh::live`].

@@ -14,12 +14,12 @@ ghost use Rattle.qh_mesh.specs.contract.SoundMesh.{simplex_facets, IsSoundMesh, 
 ghost use Rattle.qh_model.specs.contract.Rewired.{IsRewired};
 ghost use Rattle.qh_model.specs.contract.Surface.{rest};
 
-use crate::facets::{EdgeNo, Facet, FacetNo, name_all};
+use crate::facets::{EdgeNo, Facet, name_all};
 use crate::live::Live;
 use crate::rebuild::rebuild;
 use crate::room::{Scratch, make_room};
 use crate::simplex::{four, sees};
-use qh_model::{Id, Memory, Point};
+use qh_model::{FacetNo, Id, Memory, Point};
 use std::alloc::Global;
 use std::marker::Model;
 use std::mem;
@@ -143,7 +143,7 @@ impl Mesh {
         ensures facet { facet_of result ≡ f }
     {
         let _ = &self.facets;
-        f.edge(side)
+        EdgeNo::of(f, side)
     }
 
     /// Returns the facet of an edge.

@@ -5,8 +5,9 @@ ghost use Rattle.qh_model.specs.contract.StoredSurface.{facet_at};
 ghost use Rattle.qh_mesh.specs.contract.Replacement.{IsLive};
 ghost use Rattle.qh_mesh.specs.steps.Places.{Removed, IsPool};
 
-use crate::facets::{Facet, FacetNo, FacetSide};
+use crate::facets::{Facet, FacetSide};
 use crate::slots::{Slot, note};
+use qh_model::FacetNo;
 
 /// Removes the listed facets and frees their places.
 pub fn remove(facets: &mut [Facet], free: &mut Vec<FacetNo>, visible: &[FacetNo])

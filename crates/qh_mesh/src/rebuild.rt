@@ -7,11 +7,12 @@ ghost use Rattle.qh_mesh.specs.steps.Rooms.{HasRoom, IsBlank};
 ghost use Rattle.qh_mesh.specs.steps.Surfaces.{IsSurface};
 
 use crate::cone::{join_outer, write_cone};
-use crate::facets::{Facet, FacetNo, FacetSide};
+use crate::facets::{Facet, FacetSide};
 use crate::horizon::gather;
 use crate::places::{allocate_all, remove};
 use crate::room::Scratch;
 use crate::slots::{Slot, Table};
+use qh_model::FacetNo;
 
 /// Takes the visible facets away and notes their horizon.
 #[tactic(auto, using(crate::proofs::HorizonSides::sides_inside, crate::proofs::HorizonSides::gathered))]

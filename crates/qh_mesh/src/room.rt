@@ -3,8 +3,9 @@ ghost use Rattle.std.specs.Prelude.{◌≡◌, ◌↔◌, IsTrue, ◌+◌, ◌*�
 ghost use Rattle.qh_model.specs.declared.limits.TheConstants.{POINT_LIMIT};
 ghost use Rattle.qh_mesh.specs.steps.Rooms.{HasRoom, IsBlank};
 
-use crate::facets::{Facet, FacetNo, FacetSide};
+use crate::facets::{Facet, FacetSide};
 use crate::slots::Slot;
+use qh_model::FacetNo;
 use std::alloc::{AllocError, Global};
 
 /// More places than this have half-edges whose numbers don't fit 32 bits.

@@ -1,4 +1,4 @@
-//! What the whole of qconvex speaks of: points, ids, limits, and the definitions of a point file
+//! What the whole of qconvex speaks of: points, ids, facet numbers, limits, and the definitions of a point file
 //! and of an OFF file, of the predicates, of extreme points and of a hull.
 //!
 //! The definitions stand in `specs/`, one idea a file. Contracts of every crate cite them, and the
@@ -6,6 +6,7 @@
 #![tactic(auto)]
 
 mod cut;
+mod facet_no;
 mod fan;
 mod form;
 mod hull;
@@ -19,6 +20,7 @@ mod read_fault;
 mod sides;
 
 pub use cut::{Cut, CutError};
+pub use facet_no::FacetNo;
 pub use fan::Fan;
 pub use form::Form;
 pub use hull::{Body, Hull};

@@ -6,7 +6,7 @@ ghost use Rattle.qh_model.specs.contract.IdSets.{AreIndices};
 use crate::stretched::stretched;
 use qh_model::{Id, Memory, Point};
 use qh_pred::point_at;
-use qh_surface::{ends_of, morton_order};
+use qh_starts::{ends_of, morton_order};
 use std::alloc::{AllocError, Global};
 
 /// Returns the points of ids.

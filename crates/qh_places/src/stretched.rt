@@ -5,7 +5,7 @@ ghost use Rattle.qh_model.specs.headline.Limits.{IsCoordinate};
 ghost use Rattle.qh_model.specs.contract.IdSets.{AreIndices};
 
 use qh_model::{Id, Point};
-use qh_surface::Axes;
+use qh_starts::Axes;
 use std::alloc::{AllocError, Global};
 
 /// The bits of a stretched coordinate.
@@ -27,7 +27,7 @@ fn stretched_point(axes: &Axes, point: Point) -> Point {
     Point::new(coordinate_of(x), coordinate_of(y), coordinate_of(z))
 }
 
-/// Points, stretched along the axes by the ends of a set ([`ends_of`](qh_surface::ends_of)).
+/// Points, stretched along the axes by the ends of a set ([`ends_of`](qh_starts::ends_of)).
 pub(crate) fn stretched(
     alloc: Global,
     pts: &[Point],

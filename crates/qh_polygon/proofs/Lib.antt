@@ -6,5 +6,6 @@ pub mod KeptIds
 pub mod PlaneDirections
 pub mod LinesAndPlanes
 pub mod ShapeDimension
+pub mod ShapeIds
 pub mod polygons
 pub mod InnerPlaces

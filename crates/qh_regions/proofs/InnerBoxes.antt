@@ -6,7 +6,7 @@ use Rattle.qh_model.specs.headline.Vector.{Vector}
 use Rattle.qh_pred.specs.contract.Planes.{PlaneValue, height}
 use Rattle.qh_pred.proofs.Ranges.{greatest}
 use Rattle.qh_regions.specs.declared.bounds.Bounds.{Bounds}
-use Rattle.qh_pred.specs.contract.Ranges.{IsBetween, IsFarEnd}
+use Rattle.qh_pred.specs.contract.Ranges.{IsFarEnd}
 use Rattle.qh_regions.specs.contract.Cells.{IsWithin}
 
 -- two tests together

@@ -1,4 +1,3 @@
-pub mod outside_sets
 pub mod runs
 pub mod WalkSteps
 pub mod FoundFacets

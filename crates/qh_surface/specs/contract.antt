@@ -1,5 +1,4 @@
 -- What public clauses cite: nothing to believe for the hull.
 pub mod Corners
 pub mod NamedMeshes
-pub mod Simplexes
 pub mod Walks

@@ -1,8 +1,6 @@
 -- What private functions speak of: nothing to believe.
 pub mod Cones
-pub mod OutsideSets
 pub mod Planes
-pub mod PositionChains
 pub mod Positions
 pub mod RunStates
 pub mod Runs

@@ -15,7 +15,7 @@ use Rattle.qh_model.proofs.combinations.Alternatives.{combination_or_separator}
 use Rattle.qh_model.proofs.extremes.{Directions.square-positive, ExtremeIds.combination_within, ExtremeIds.greatest_is_extreme}
 use Rattle.qh_polygon.proofs.LinesAndPlanes.{same_point}
 use Rattle.qh_polygon.specs.contract.Shapes.{IsInLine, Each, AreFirstTwo}
-use Rattle.qh_surface.proofs.runs.FirstSimplexes.{first_two_in}
+use Rattle.qh_polygon.proofs.ShapeIds.{first_two_in}
 use Rattle.qh_block.specs.steps.Segments.{IsFirstAlong}
 
 -- ---- scalar products along a line

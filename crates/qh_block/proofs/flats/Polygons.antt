@@ -14,7 +14,7 @@ use Rattle.qh_polygon.specs.contract.Shapes.{IsInLine, IsInPlane, Each, IsFirstN
 use Rattle.qh_block.specs.contract.ApartPolygons.{HasThree}
 use Rattle.qh_block.specs.steps.FlatBodies.{IsFlatBody}
 use Rattle.qh_block.specs.contract.ApartPolygons.HasThree.{three}
-use Rattle.qh_surface.proofs.runs.FirstSimplexes.{first_two_in}
+use Rattle.qh_polygon.proofs.ShapeIds.{first_two_in}
 use Rattle.qh_block.proofs.flats.{Bodies.flat_is_body, Edges.edges_round}
 
 -- corners that are not in line differ

@@ -8,11 +8,10 @@ use Rattle.qh_model.specs.headline.{Vector.Vector, Predicates.place, Predicates.
 use Rattle.qh_model.specs.contract.{Weighted.weighted, FinishedSurface.middle_at, StoredSurface.StoredFacet, StoredSurface.facet_at}
 use Rattle.qh_model.proofs.Members.{All-In, In-get_or}
 use Rattle.qh_model.proofs.algebra.VectorIdentities.{vol-flip_last}
-use Rattle.qh_polygon.specs.contract.Shapes.{IsInLine, IsInPlane, IsFirstNot, AreFirstTwo, dimension_of}
-use Rattle.qh_surface.specs.contract.Simplexes.{IsSimplexOf}
-use Rattle.qh_surface.specs.steps.OutsideSets.{set_of}
-use Rattle.qh_polygon.specs.declared.shape.Shape.{Shape}
-use Rattle.qh_polygon.specs.declared.shape.Shape.TheVariants.{Point, Segment, Flat, Solid}
+use Rattle.qh_polygon.proofs.ShapeIds.{first_two_in}
+use Rattle.qh_polygon.specs.contract.Shapes.{IsInLine, IsInPlane, IsFirstNot, AreFirstTwo}
+use Rattle.qh_starts.specs.contract.Simplexes.{IsSimplexOf}
+use Rattle.qh_outside.specs.contract.OutsideSets.{set_of}
 use Rattle.qh_mesh.specs.contract.{Replacement.IsLive, SoundMesh.IsSoundMesh, SoundMesh.IsClosedMesh, SoundMesh.simplex_facets}
 use Rattle.qh_model.proofs.surfaces.Simplex.{middle-turned}
 use Rattle.qh_model.proofs.lists.Ranges.{range_has}
@@ -117,12 +116,6 @@ first_remade s i j k l h p o none idle = record {
     nothing f q m = subst (λ (xs : List (List ℕ)). In q (slice_index_or xs f [])) none m
 
 -- ---- the shape
--- the first two ids are members
-pub first_two_in : (ids : List ℕ) (i j : ℕ) → AreFirstTwo ids i j → In i ids × In j ids
-first_two_in ids i j t =
-    let some : 0 < length ids = (let h = t.two in omega (arith, h)) in
-    (subst (λ v. In v ids) t.first (In-get_or ids 0 0 some), subst (λ v. In v ids) t.second (In-get_or ids 1 0 t.two))
-
 -- the first ids that are not in a line and not in a plane are a simplex
 pub simplex_is : (pts : List Vector) (ids : List ℕ) (i j k l : ℕ) → AreFirstTwo ids i j → IsFirstNot (IsInLine pts i j) ids k
     → IsFirstNot (IsInPlane pts i j k) ids l → IsSimplexOf pts ids (record { i = i; j = j; k = k; l = l })
@@ -133,10 +126,3 @@ simplex_is pts ids i j k l two line plane = record {
   has_l = subst (λ (x : ℕ). In x ids) plane.is (In-get_or ids plane.at 0 plane.within);
   volume = plane.not;
 }
-
--- a shape of dimension 3 is a solid one
-pub solid_only : (shape : Shape) → dimension_of shape ≡ 3 → ((i j k l : ℕ) → shape ≡ Solid i j k l → ⊥) → ⊥
-solid_only (Point i) e n = absurd (omega arith)
-solid_only (Segment i j) e n = absurd (omega arith)
-solid_only (Flat i j k) e n = absurd (omega arith)
-solid_only (Solid i j k l) e n = n i j k l refl

@@ -12,38 +12,19 @@ ghost use Rattle.qh_mesh.specs.contract.Replacement.{IsLive};
 ghost use Rattle.qh_mesh.specs.contract.SoundMesh.{IsClosedMesh};
 ghost use Rattle.qh_model.specs.contract.IdSets.{AreIndices};
 ghost use Rattle.qh_surface.specs.contract.NamedMeshes.{named, IsNamedMesh};
-ghost use Rattle.qh_surface.specs.contract.Simplexes.{IsSimplexOf};
+ghost use Rattle.qh_starts.specs.contract.Simplexes.{IsSimplexOf};
 ghost use Rattle.qh_surface.specs.steps.Positions.{IsPositionOf, ArePositionsOf};
 
 use crate::named_mesh::NamedMesh;
-use crate::quickhull::ends::ends_of;
-use crate::quickhull::initial_simplex::{Simplex, wide_simplex};
-use crate::quickhull::morton::morton_order;
 use crate::quickhull::run::Run;
 use qh_mesh::Mesh;
 use qh_model::{Id, Memory, Point};
 use qh_polygon::{Shape, rank};
-use qh_pred::point_at;
+use qh_starts::{Simplex, ends_of, morton_order, points_of, wide_simplex};
 use std::alloc::Global;
 
 /// The least number of ids that a run takes in Morton order, which keeps near points together.
 const LARGE: usize = 16384;
-
-/// Returns the points of ids, in their order.
-///
-/// # Errors
-///
-/// `Memory` if an allocation failed.
-pub fn points_of(alloc: Global, pts: &[Point], ids: &[Id]) -> Result<Vec<Point>, Memory>
-    requires { AreIndices pts.now ids.now }
-    ensures { IfOk result (λ v. v.items ≡ map (place pts.now) ids.now) }
-{
-    let mut points = Vec::with_capacity(alloc, ids.len())?;
-    for id in ids {
-        points.push_reserved(point_at(pts, *id));
-    }
-    Ok(points)
-}
 
 /// Returns the position of an id in a list that has it.
 ///

@@ -2,7 +2,7 @@
 use Rattle.std.proofs.Common.{inl}
 use Rattle.std.proofs.lemmas.Result.{IfOk-weaker}
 use Rattle.qh_model.proofs.extremes.Dimensions.{one_dimension}
-use Rattle.qh_surface.proofs.runs.FirstSimplexes.{solid_only}
+use Rattle.qh_polygon.proofs.ShapeIds.{solid_only}
 use Rattle.qh_check.proofs.Verdicts.{compared}
 use Rattle.qh_check.proofs.claims.check_by.Goals as goal
 

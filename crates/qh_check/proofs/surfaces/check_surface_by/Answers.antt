@@ -1,7 +1,7 @@
 -- A solid set has its own way.
 use Rattle.std.proofs.lemmas.Result.{IfOk-weaker}
 use Rattle.qh_model.proofs.extremes.Dimensions.{one_dimension}
-use Rattle.qh_surface.proofs.runs.FirstSimplexes.{solid_only}
+use Rattle.qh_polygon.proofs.ShapeIds.{solid_only}
 use Rattle.qh_check.proofs.surfaces.check_surface_by.Goals as goal
 
 pub returns-in-Solid : goal.returns-in-Solid

@@ -1,0 +1,20 @@
+-- The first ids of a set, and a shape of its dimension.
+use Rattle.std.proofs.Common.{◌≡◌, ◌<◌, ℕ, List, arith, length, refl, subst}
+use Rattle.qh_model.proofs.Members.{In-get_or}
+use Rattle.qh_model.specs.headline.Sets.{In}
+use Rattle.qh_polygon.specs.contract.Shapes.{AreFirstTwo, dimension_of}
+use Rattle.qh_polygon.specs.declared.shape.Shape.{Shape}
+use Rattle.qh_polygon.specs.declared.shape.Shape.TheVariants.{Point, Segment, Flat, Solid}
+
+-- the first two ids are members
+pub first_two_in : (ids : List ℕ) (i j : ℕ) → AreFirstTwo ids i j → In i ids × In j ids
+first_two_in ids i j t =
+    let some : 0 < length ids = (let h = t.two in omega (arith, h)) in
+    (subst (λ v. In v ids) t.first (In-get_or ids 0 0 some), subst (λ v. In v ids) t.second (In-get_or ids 1 0 t.two))
+
+-- a shape of dimension 3 is a solid one
+pub solid_only : (shape : Shape) → dimension_of shape ≡ 3 → ((i j k l : ℕ) → shape ≡ Solid i j k l → ⊥) → ⊥
+solid_only (Point i) e n = absurd (omega arith)
+solid_only (Segment i j) e n = absurd (omega arith)
+solid_only (Flat i j k) e n = absurd (omega arith)
+solid_only (Solid i j k l) e n = n i j k l refl

@@ -1,0 +1,2 @@
+-- What the contracts of public functions cite.
+pub mod Simplexes
