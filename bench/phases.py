@@ -29,8 +29,8 @@ OWNERS = [
     (r"^qh_(interior|regions)::|^qh_run::filtered::", "filter"),
     # qh_join asks qh_steps for the borders of faces.
     (r"^qh_(parts|division|join|seam|guess|gap|curve|places|check|steps)::|^qh_serve::threaded::", "parts"),
-    (r"^qh_block::(faces|face_order|face_keys|unsorted_faces|hulls|plane_walk|solid_edges|bodies|flat_sets|segment)::", "faces"),
-    (r"^qh_block::solids::(corners|listed|past|mark|tally|body)|^qh_polygon::|^qh_surface::named_mesh::", "faces"),
+    (r"^qh_bodies::|^qh_block::(faces|hulls|plane_walk|bodies|flat_sets|segment)::", "faces"),
+    (r"^qh_polygon::|^qh_surface::named_mesh::", "faces"),
     (r"^(qh_block|qh_surface|qh_outside|qh_starts|qh_mesh|qh_pred)::", "surface"),
     # The tree and its workers make lists of extreme ids by surfaces of blocks. Morton order is the start of a surface.
     (r"^(qh_hull|qh_run|qh_board|qh_keys|atomic_table)::|^qh_serve::answers::hull", "surface"),

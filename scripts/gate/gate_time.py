@@ -60,7 +60,8 @@ class Watch:
 
     def __init__(self, root):
         self.root, self.parts, self.seconds, self.ended = root, {}, {}, threading.Event()
-        self.thread = threading.Thread(target=self.look_on)
+        # An interrupt before the wait for the gate must not leave the thread looking on.
+        self.thread = threading.Thread(target=self.look_on, daemon=True)
         self.thread.start()
 
     def look(self):

@@ -63,8 +63,8 @@ class Phases(unittest.TestCase):
 
     def test_functions_of_one_crate_may_have_several_phases(self):
         for name, wanted in [
-            ("qh_block::faces::new_face", "faces"), ("qh_block::unsorted_faces::UnsortedFaces::push", "faces"),
-            ("qh_block::solids::solid_mesh", "surface"), ("qh_block::solids::tally_of", "faces"),
+            ("qh_block::faces::new_face", "faces"), ("qh_bodies::unsorted_faces::UnsortedFaces::push", "faces"),
+            ("qh_block::solids::solid_mesh", "surface"), ("qh_bodies::tallies::tally_of", "faces"),
             ("qh_run::filtered::without_interior", "filter"), ("qh_run::unions::union", "surface"),
             ("qh_serve::threaded::Threaded::finish", "parts"), ("qh_serve::serving::serve", "read"),
             ("qh_regions::sieves::x", "filter"), ("qh_seam::rings::x", "parts"), ("memcpy", "else"),

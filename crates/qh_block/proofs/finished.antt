@@ -1,4 +1,4 @@
--- Finished meshes: walks in the planes of facets, the faces that they gather, the order of faces, and edges.
+-- Finished meshes: walks in the planes of facets, and the faces that they gather.
 pub mod Corners
 pub mod NamedWalks
 pub mod NewFaces
@@ -6,9 +6,5 @@ pub mod LoneTriangles
 pub mod FaceLists
 pub mod Gathering
 pub mod Parting
-pub mod FaceKeys
-pub mod MergedFaces
-pub mod FaceOrder
-pub mod EdgeCounts
 pub mod ClosedFaces
 pub mod SolidBodies

@@ -1,5 +1,2 @@
 -- What the contracts of public functions cite.
-pub mod ApartPolygons
 pub mod MarkedFaces
-pub mod SolidEdges
-pub mod Tallies

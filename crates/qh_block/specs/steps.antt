@@ -1,5 +1,4 @@
 -- What private functions speak of: nothing to believe.
-pub mod FaceKeys
 pub mod Faces
 pub mod FlatBodies
 pub mod IdSets

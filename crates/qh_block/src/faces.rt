@@ -24,7 +24,7 @@ ghost use Rattle.qh_block.specs.contract.MarkedFaces.{AreFacesOfMarked};
 ghost use Rattle.qh_block.specs.steps.Faces.{corners_of, from_least, IsListedCorner, IsNewPlane, IsNewFace, AreFacetFaces};
 
 use crate::plane_walk::IsLevel;
-use crate::unsorted_faces::UnsortedFaces;
+use qh_bodies::UnsortedFaces;
 use qh_mesh::FacetNo;
 use qh_model::{Id, Memory, Point, Polygon};
 use qh_polygon::polygon;

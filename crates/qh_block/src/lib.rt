@@ -7,8 +7,8 @@
 //!
 //! Of a large set `qh_interior` drops most of what is inside first. `qh_surface` makes the surface. A walk
 //! finds the triangles of one plane (`plane_walk`), of which `faces` makes the polygon.
-//! `face_order` and `solid_edges` order the faces, most of them by the numbers of `face_keys`, and count their edges,
-//! and `solids` puts them together. `unsorted_faces` keeps faces of parts of a set until all are there. `gathered` puts the points of a set next to each other.
+//! `qh_bodies` orders the faces and counts their edges, and `solids` puts them together. `gathered` puts the points of a
+//! set next to each other.
 //! `blocking` has the rules of how a set is divided, for this crate and those above.
 //! `segment` finds the ends of a line, `normals` the side from which a polygon is seen, and `bodies`
 //! puts the hulls of flat sets together.
@@ -16,8 +16,6 @@
 
 mod blocking;
 mod bodies;
-mod face_keys;
-mod face_order;
 mod faces;
 mod flat_sets;
 mod gathered;
@@ -25,14 +23,10 @@ mod hulls;
 mod normals;
 mod plane_walk;
 mod segment;
-mod solid_edges;
 mod solids;
-mod unsorted_faces;
 
 pub use blocking::{BLOCK_ALONE, LEAST_LEFT, TELLING, WHOLE_ALONE, are_few, block_size, tree_pays};
 pub use faces::{PartedFaces, parted_faces};
 pub use hulls::{extremes, extremes_unculled, hull};
 pub use qh_interior::cull_interior;
 pub use qh_surface::surface;
-pub use solids::{Tally, body_of_faces, tally_of};
-pub use unsorted_faces::UnsortedFaces;

@@ -9,7 +9,7 @@ ghost use Rattle.qh_join.specs.steps.JoinedFaces.{IsBodyOfFaces};
 
 use crate::bridges::are_bridges;
 use crate::kept::Kept;
-use qh_block::{UnsortedFaces, body_of_faces, tally_of};
+use qh_bodies::{UnsortedFaces, body_of_faces, tally_of};
 use qh_model::{Body, Memory, Polygon};
 use qh_steps::{have_one_border, out_of_order};
 use std::alloc::{AllocError, Global};

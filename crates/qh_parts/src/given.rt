@@ -5,7 +5,7 @@ ghost use Rattle.qh_model.specs.headline.Sets.{In};
 ghost use Rattle.qh_division.specs.contract.Parts.{IsPartOf};
 ghost use Rattle.qh_parts.specs.steps.Given.{IsContribution, IsGiven};
 
-use qh_block::UnsortedFaces;
+use qh_bodies::UnsortedFaces;
 use qh_division::{Divided, Guess};
 use qh_gap::{Border, border_of};
 use qh_guess::{Outline, marks_of, outline_of};

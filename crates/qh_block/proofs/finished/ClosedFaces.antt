@@ -5,10 +5,10 @@ use Rattle.qh_model.specs.headline.{Vector.Vector, Predicates.place, Sets.Member
 use Rattle.qh_model.specs.contract.{ClosedPolygons.AreClosed, IdSets.IsIdSet}
 use Rattle.qh_model.specs.contract.{FinishedSurface.IsFinished, StoredSurface.StoredFacet, StoredSurface.surface_of}
 use Rattle.qh_model.proofs.{Members.in_permutation, lists.Ordered.Ordered}
-use Rattle.qh_block.specs.steps.FaceKeys.{merged}
+use Rattle.qh_bodies.specs.steps.FaceKeys.{merged}
 use Rattle.qh_block.specs.steps.Faces.{AreFacetFaces}
-use Rattle.qh_block.proofs.finished.FaceOrder.{apart_permuted, ordered_rise}
-use Rattle.qh_block.proofs.finished.MergedFaces.{UpTo, merged_ordered, merged_permutation}
+use Rattle.qh_bodies.proofs.FaceOrder.{apart_permuted, ordered_rise}
+use Rattle.qh_bodies.proofs.MergedFaces.{UpTo, merged_ordered, merged_permutation}
 use Rattle.qh_block.proofs.finished.SolidBodies.{closed}
 use Rattle.qh_steps.proofs.StepCounts.{closed_permuted}
 

@@ -21,9 +21,9 @@ use Rattle.qh_model.proofs.surfaces.FacetPlanes.{level_facets_span, level_itself
 use Rattle.qh_model.proofs.surfaces.{Finished.facet_area, Finished.facets_support, Stored.live_is_marked}
 use Rattle.qh_mesh.specs.contract.Replacement.{IsLive}
 use Rattle.qh_surface.specs.contract.Walks.{mark_at}
-use Rattle.qh_block.specs.contract.ApartPolygons.{HasThree, begin_alike}
+use Rattle.qh_bodies.specs.contract.ApartPolygons.{HasThree, begin_alike}
 use Rattle.qh_block.specs.steps.Faces.{IsFacetPolygon, IsNewPlane, IsNewFace, AreMarkedFaces}
-use Rattle.qh_block.specs.contract.ApartPolygons.HasThree.{three}
+use Rattle.qh_bodies.specs.contract.ApartPolygons.HasThree.{three}
 use Rattle.qh_block.proofs.flats.Polygons.{three_members}
 
 module _ (at : ℕ → Vector) (ids : List ℕ) (fs : List StoredFacet) (d : HasDistinctPoints at (Members ids))

@@ -4,8 +4,8 @@ use Rattle.std.proofs.lemmas.Grind.{common_steps}
 use Rattle.std.specs.List.{list_any}
 use Rattle.std.specs.Prelude.{◌==◌, ◌&&◌}
 use Rattle.qh_model.specs.headline.{Fan.count_pairs, Fan.edge_count, Fan.pairs_along, Polygons.IsEdgeCount, Sets.In, Sets.Once}
-use Rattle.qh_block.specs.contract.ApartPolygons.{HasThree}
-use Rattle.qh_block.specs.contract.ApartPolygons.HasThree.{three}
+use Rattle.qh_bodies.specs.contract.ApartPolygons.{HasThree}
+use Rattle.qh_bodies.specs.contract.ApartPolygons.HasThree.{three}
 use Rattle.qh_model.proofs.polygons.EdgeCounts.{edges_are_counted}
 
 -- a pair with an id that is not on the way is not one of the way's

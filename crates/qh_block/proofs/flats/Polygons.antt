@@ -11,9 +11,9 @@ use Rattle.qh_model.proofs.extremes.{Dimensions.triangle_of, Directions.cross-fl
 use Rattle.qh_model.proofs.extremes.ExtremeIds.{listed_itself, combination_of_extremes, combination_within}
 use Rattle.qh_polygon.specs.contract.PlanarSets.{IsPlanarSet}
 use Rattle.qh_polygon.specs.contract.Shapes.{IsInLine, IsInPlane, Each, IsFirstNot, AreFirstTwo}
-use Rattle.qh_block.specs.contract.ApartPolygons.{HasThree}
+use Rattle.qh_bodies.specs.contract.ApartPolygons.{HasThree}
 use Rattle.qh_block.specs.steps.FlatBodies.{IsFlatBody}
-use Rattle.qh_block.specs.contract.ApartPolygons.HasThree.{three}
+use Rattle.qh_bodies.specs.contract.ApartPolygons.HasThree.{three}
 use Rattle.qh_polygon.proofs.ShapeIds.{first_two_in}
 use Rattle.qh_block.proofs.flats.{Bodies.flat_is_body, Edges.edges_round}
 

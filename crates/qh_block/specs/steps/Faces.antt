@@ -9,7 +9,7 @@ use Rattle.qh_model.specs.contract.StoredSurface.{StoredFacet, facet_at, surface
 use Rattle.qh_model.specs.headline.Polygons.{IsFacePolygon}
 use Rattle.qh_mesh.specs.contract.Replacement.{IsLive}
 use Rattle.qh_surface.specs.contract.Walks.{mark_at}
-use Rattle.qh_block.specs.contract.ApartPolygons.{AreApart}
+use Rattle.qh_bodies.specs.contract.ApartPolygons.{AreApart}
 
 -- the corners of a facet, and of the listed facets, as listed
 abbrev pub three_of : List StoredFacet → ℕ → List ℕ

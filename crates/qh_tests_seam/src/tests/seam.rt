@@ -4,7 +4,8 @@ ghost use Rattle.qh_mesh.specs.contract.Replacement.{IsLive};
 ghost use Rattle.qh_surface.specs.contract.NamedMeshes.{IsNamedMesh};
 
 use super::{ALL, Halves, halves_of};
-use qh_block::{PartedFaces, UnsortedFaces};
+use qh_block::PartedFaces;
+use qh_bodies::UnsortedFaces;
 use qh_division::{Divided, Guess, Run, kept_ids};
 use qh_fixtures::faces::{CUBE_FACES, are_round, polygons_of};
 use qh_fixtures::ids::ids_of;

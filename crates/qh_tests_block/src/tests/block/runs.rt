@@ -1,6 +1,6 @@
 //! Faces in a run: the triangles that have keys rise, and so do the other polygons, by their first three ids. The order
 //! shows in the text of `Debug` alone.
-use qh_block::UnsortedFaces;
+use qh_bodies::UnsortedFaces;
 use qh_fixtures::faces::polygons_of;
 use qh_model::Memory;
 use std::alloc::{AllocError, Global};

@@ -1,8 +1,0 @@
--- The ids of the polygons so far are below the bound.
-use Rattle.std.proofs.Common.{◌<◌, take}
-use Rattle.std.specs.List.{All}
-use Rattle.qh_block.specs.contract.Tallies.{all_members}
-use Rattle.qh_block.proofs.solids.past_corners.Given as goal
-
-abbrev pub invariant-loop-polygon : goal.invariant-loop-polygon
-invariant-loop-polygon l = All (λ i. i < l.past) (all_members (take l.polygon-index l.polygons))

@@ -1,0 +1,5 @@
+pub mod ClosedBodies
+pub mod EdgeCounts
+pub mod FaceKeys
+pub mod FaceOrder
+pub mod MergedFaces

@@ -1,0 +1,2 @@
+pub mod contract
+pub mod steps

@@ -1,0 +1,17 @@
+-- What is told of the polygons of a hull beside them.
+use Rattle.std.specs.Prelude.{◌≡◌, ◌↔◌, ℕ, List}
+use Rattle.std.specs.List.{flat_map}
+use Rattle.std.specs.List.Sorted.{IsStrictlyIncreasing}
+use Rattle.qh_model.specs.headline.Sets.{In}
+use Rattle.qh_bodies.specs.declared.tallies.Tally.{Tally}
+use Rattle.qh_bodies.specs.contract.SolidEdges.{all_edges_up}
+
+-- the members of all polygons, one after the other
+abbrev pub all_members : List (List ℕ) → List ℕ
+all_members qs = flat_map (λ q. q) qs
+
+-- their members, rising, each once, and how often the ways round them go to a higher id
+pub record IsTally (qs : List (List ℕ)) (tally : Tally) : Type 0 where
+  pub rising : IsStrictlyIncreasing tally.extremes.items
+  pub members : (i : ℕ) → In i tally.extremes.items ↔ In i (all_members qs)
+  pub edges : tally.edges ≡ all_edges_up qs

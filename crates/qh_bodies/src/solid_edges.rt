@@ -1,0 +1,43 @@
+//! The number of edges of polygons.
+ghost use Rattle.std.specs.Prelude.{◌≡◌, ◌≤◌, IfOk, List, ℕ, length};
+ghost use Rattle.qh_bodies.specs.contract.SolidEdges.{ups, all_edges_up};
+
+use qh_model::{Id, Memory, Polygon};
+
+/// Returns how often the way round a polygon goes to a higher id.
+fn edges_up(ids: &[Id]) -> usize
+    ensures count { result ≡ length (ups ids.now) }
+    ensures limit { result ≤ length ids.now }
+{
+    let [first, rest @ ..] = ids else {
+        return 0;
+    };
+    let mut from = *first;
+    let mut count = 0;
+    for id in rest {
+        if from < *id {
+            count += 1;
+        }
+        from = *id;
+    }
+    if from < *first {
+        count += 1;
+    }
+    count
+}
+
+/// Returns how often the ways round polygons go to a higher id: for the faces of a solid the number
+/// of their edges, since two faces go along each edge, in opposite ways.
+pub fn edge_count(polygons: &[Polygon]) -> Result<u64, Memory>
+    ensures { IfOk result (λ n. n ≡ all_edges_up polygons.now) }
+{
+    let mut count: u64 = 0;
+    for polygon in polygons {
+        // A sum past the range would need more ids than fit into memory.
+        let Some(sum) = count.checked_add(edges_up(polygon.ids()) as u64) else {
+            return Err(Memory);
+        };
+        count = sum;
+    }
+    Ok(count)
+}
