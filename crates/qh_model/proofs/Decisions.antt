@@ -1,10 +1,9 @@
 -- Decided claims: of pairs, of the members of a list, of ids, numbers and vectors.
-use Rattle.std.proofs.Common.{◌≡◌, ℕ, ◌⊎◌, inl, inr, List, [], ◌∷◌, refl, sym, subst, ap, arith}
-use Rattle.std.proofs.lemmas.Int.{ints, by_lt_z}
-use Rattle.std.specs.Prelude.{ℤ, pos, ◌-ℤ◌, ◌≤ℤ◌}
+use Rattle.std.proofs.Common.{◌≡◌, ℕ, ◌⊎◌, inl, inr, ⊎_elim, List, [], ◌∷◌, refl, sym, subst, ap, Bool, true, false}
+use Rattle.std.proofs.lemmas.Int.{by_lt_z}
+use Rattle.std.specs.Prelude.{ℤ, ◌≤ℤ◌}
 use native.Mathlib.Decide.{ℕ_discrete}
-use Rattle.qh_model.proofs.algebra.Order.{zero_or_not}
-use Rattle.qh_model.proofs.algebra.Ring.{equal_from_zero}
+use lib.IntN.{ℤ_discrete}
 use Rattle.qh_model.proofs.algebra.Signs.{not_less}
 use Rattle.qh_model.proofs.algebra.VectorIdentities.{vector_path}
 use Rattle.qh_model.specs.headline.Vector.{Vector}
@@ -13,6 +12,21 @@ use Rattle.qh_model.specs.headline.Sets.{In}
 -- a claim holds or not
 abbrev pub Decided : Type 0 → Type 0
 Decided P = P ⊎ (¬ P)
+
+-- the answer as a test
+abbrev pub test : {P : Type 0} → Decided P → Bool
+test (inl p) = true
+test (inr n) = false
+
+-- what holds passes
+pub told : {P : Type 0} (d : Decided P) → P → test d ≡ true
+told (inl p) q = refl
+told (inr n) q = absurd (n q)
+
+-- and it alone
+pub holds : {P : Type 0} (d : Decided P) → test d ≡ true → P
+holds (inl p) e = p
+holds (inr n) e = cc
 
 -- two decided claims are decided together
 pub both : (P Q : Type 0) → Decided P → Decided Q → Decided (P × Q)
@@ -38,11 +52,7 @@ each_or_not {X} P d (y ∷ xs) = by_decision (d y) (each_or_not P d xs)
     by_decision : Decided (P y) → Decided ((x : X) → In x xs → P x) → Decided ((x : X) → In x (y ∷ xs) → P x)
     by_decision (inr n) r = inr (λ f. n (f y (inl refl)))
     by_decision (inl p) (inr n) = inr (λ f. n (λ x i. f x (inr i)))
-    by_decision (inl p) (inl r) = inl all
-      where
-        all : (x : X) → In x (y ∷ xs) → P x
-        all x (inl e) = subst P (sym e) p
-        all x (inr i) = r x i
+    by_decision (inl p) (inl r) = inl (λ x i. ⊎_elim (λ e. subst P (sym e) p) (λ j. r x j) i)
 
 -- a decided claim holds of some member of a list, or of no member
 pub some_or_none : {X : Type 0} (P : X → Type 0) → ((x : X) → Decided (P x)) → (xs : List X) → Decided ((x : X) × In x xs × P x)
@@ -52,19 +62,11 @@ some_or_none {X} P d (y ∷ xs) = by_decision (d y) (some_or_none P d xs)
     by_decision : Decided (P y) → Decided ((x : X) × In x xs × P x) → Decided ((x : X) × In x (y ∷ xs) × P x)
     by_decision (inl p) r = inl (y, inl refl, p)
     by_decision (inr n) (inl r) = inl (r.0, inr r.1, r.2)
-    by_decision (inr n) (inr m) = inr none
-      where
-        none : (x : X) × In x (y ∷ xs) × P x → ⊥
-        none (x, inl e, p) = n (subst P e p)
-        none (x, inr i, p) = m (x, i, p)
+    by_decision (inr n) (inr m) = inr (λ h. ⊎_elim (λ e. n (subst P e h.2)) (λ i. m (h.0, i, h.2)) h.1)
 
 -- two ids are equal or not
 pub same_id : (i j : ℕ) → Decided (i ≡ j)
-same_id i j = by_decision (ℕ_discrete i j)
-  where
-    by_decision : Dec (i ≡ j) → Decided (i ≡ j)
-    by_decision (yes e) = inl e
-    by_decision (no n) = inr n
+same_id i j = elim (ℕ_discrete i j) [ yes e ↦ inl e | no n ↦ inr n ]
 
 -- an id is a member of a list or not
 pub in_or_not : (i : ℕ) (xs : List ℕ) → Decided (In i xs)
@@ -73,10 +75,7 @@ in_or_not i xs =
 
 -- two numbers are equal or not
 pub same_number : (a b : ℤ) → Decided (a ≡ b)
-same_number a b = decided_as (a -ℤ b ≡ pos 0) (a ≡ b) (equal_from_zero a b) (none a b) (zero_or_not (a -ℤ b))
-  where
-    none : (a b : ℤ) → a ≡ b → a -ℤ b ≡ pos 0
-    none a b e = omega (arith, ints)
+same_number a b = elim (ℤ_discrete a b) [ yes e ↦ inl e | no n ↦ inr n ]
 
 -- two vectors are equal or not
 pub same_vector : (p q : Vector) → Decided (p ≡ q)

@@ -4,7 +4,7 @@ use Rattle.std.proofs.lemmas.List.Elements.{All-from_get_or}
 use Rattle.std.specs.List.Sorted.{IsStrictlyIncreasing}
 use Rattle.qh_model.specs.contract.IdSets.{HasDistinctPoints}
 use Rattle.qh_model.specs.headline.{DistinctIds.AreDistinctIds, Predicates.place, Sets.In, Sets.Members, Vector.Vector}
-use Rattle.qh_model.proofs.Members.{In-get_or}
+use Rattle.qh_model.proofs.Members.{In-get_or, in_at}
 
 -- they are indices of points
 pub ids_within : (pts : List Vector) (ids : List ℕ) → AreDistinctIds pts ids → All (λ i. i < length pts) ids
@@ -12,11 +12,7 @@ ids_within pts ids d = All-from_get_or (λ i. i < length pts) ids 0 (λ k h. ((d
 
 -- where there is a point there is one
 pub some_id : (pts : List Vector) (ids : List ℕ) → AreDistinctIds pts ids → 0 < length pts → 0 < length ids
-some_id pts ids d h = member ids ((d.members 0).1 (h, λ j l. absurd (omega (arith, l))))
-  where
-    member : (xs : List ℕ) → In 0 xs → 0 < length xs
-    member [] i = absurd i
-    member (x ∷ xs) i = omega arith
+some_id pts ids d h = let r = in_at ids 0 ((d.members 0).1 (h, λ j l. absurd (omega (arith, l)))) in omega (arith, r.1)
 
 -- the k-th of rising numbers is at least k
 rising_least : (xs : List ℕ) → IsStrictlyIncreasing xs → (k : ℕ) → k < length xs → k ≤ get_or xs k 0

@@ -1,6 +1,7 @@
 -- Members of lists: by index, by the words of std, in lists of rising numbers, and under facts of each member.
-use Rattle.std.proofs.Common.{ℕ, zero, suc, ◌<◌, List, [], ◌∷◌, ◌++◌, length, add-one, arith, refl, sym, subst, inl, inr, All, get_or, ◌≡◌, IsPermutation}
-use Rattle.std.proofs.lemmas.List.{Elements.All-append, Elements.All-head, Elements.All-tail, Elements.All-from_recursion, Sorted.Contains-permutation}
+use Rattle.std.proofs.Common.{◌∙◌, ℕ, zero, suc, ◌<◌, List, [], ◌∷◌, ◌++◌, length, add-one, arith, refl, sym, subst, inl, inr, All, get_or, ◌≡◌, IsPermutation}
+use Rattle.std.proofs.lemmas.List.{get_or_default, Elements.All-append, Elements.All-head, Elements.All-tail, Elements.All-from_recursion}
+use Rattle.std.proofs.lemmas.List.Sorted.{Contains-permutation}
 use Rattle.std.specs.List.{AllByRecursion as Every, Contains, Sorted.IsStrictlyIncreasing}
 use Rattle.qh_model.specs.headline.Sets.{In, Once}
 
@@ -16,26 +17,19 @@ In-get_or [] k d h = absurd (omega arith)
 In-get_or (x ∷ xs) zero d h = inl refl
 In-get_or (x ∷ xs) (suc k) d h = inr (In-get_or xs k d (omega arith))
 
--- a member stands at an index
-pub in_at : (xs : List ℕ) (x : ℕ) → In x xs → (k : ℕ) × (k < length xs) × (get_or xs k 0 ≡ x)
-in_at [] x m = absurd m
-in_at (y ∷ xs) x (inl e) = (0, omega arith, sym e)
-in_at (y ∷ xs) x (inr m) = let r = in_at xs x m in let h = r.1 in (suc r.0, omega arith, r.2)
-
 -- a member, in the word of std
 pub to_contains : {X : Type 0} (xs : List X) (x : X) → In x xs → Contains xs x
 to_contains [] x m = absurd m
 to_contains (y ∷ xs) x (inl e) = (0, omega arith, sym e)
 to_contains (y ∷ xs) x (inr m) = let r = to_contains xs x m in let h = r.1 in (suc r.0, omega arith, r.2)
 
+-- a member stands at an index
+pub in_at : (xs : List ℕ) (x : ℕ) → In x xs → (k : ℕ) × (k < length xs) × (get_or xs k 0 ≡ x)
+in_at xs x m = let r = to_contains xs x m in (r.0, r.1, get_or_default xs r.0 0 x r.1 ∙ r.2)
+
 -- and back
 pub of_contains : {X : Type 0} (xs : List X) (x : X) → Contains xs x → In x xs
-of_contains {X} xs x c = along_list xs c.0 c.1 c.2
-  where
-    along_list : (ys : List X) (k : ℕ) → k < length ys → get_or ys k x ≡ x → In x ys
-    along_list [] k h e = absurd (omega arith)
-    along_list (y ∷ ys) zero h e = inl (sym e)
-    along_list (y ∷ ys) (suc k) h e = inr (along_list ys k (omega arith) e)
+of_contains xs x c = subst (λ y. In y xs) c.2 (In-get_or xs c.0 x c.1)
 
 -- a member of a list is one of the list in another order
 pub in_permutation : {X : Type 0} (xs ys : List X) → IsPermutation xs ys → (x : X) → In x xs → In x ys
@@ -48,14 +42,9 @@ rising_tail x xs h k l = rw (add-one k) (rw (add-one (suc k)) at (h (suc k) (ome
 -- the first of a rising list is below the others
 pub rising_first : (x : ℕ) (xs : List ℕ) → IsStrictlyIncreasing (x ∷ xs) → (y : ℕ) → In y xs → x < y
 rising_first x [] h y i = absurd i
-rising_first x (z ∷ zs) h y i = with_rest (rising_first z zs (rising_tail x (z ∷ zs) h)) i
-  where
-    next : x < z
-    next = h 0 (omega arith)
-
-    with_rest : ((y : ℕ) → In y zs → z < y) → In y (z ∷ zs) → x < y
-    with_rest rest (inl e) = subst (λ (n : ℕ). x < n) (sym e) next
-    with_rest rest (inr i) = let above : z < y = rest y i in omega (arith, next, above)
+rising_first x (z ∷ zs) h y (inl e) = let next : x < z = h 0 (omega arith) in omega (arith, next, e)
+rising_first x (z ∷ zs) h y (inr i) =
+    let next : x < z = h 0 (omega arith) in let above : z < y = rising_first z zs (rising_tail x (z ∷ zs) h) y i in omega (arith, next, above)
 
 -- each member of a rising list stands in it once
 pub rising_once : (xs : List ℕ) → IsStrictlyIncreasing xs → Once xs
@@ -71,17 +60,13 @@ every_of P (x ∷ xs) f = (f x (inl refl), every_of P xs (λ y i. f y (inr i)))
 pub All-of : {X : Type 0} (P : X → Type 0) (xs : List X) → ((x : X) → In x xs → P x) → All P xs
 All-of P xs f = All-from_recursion P xs (every_of P xs f)
 
--- what holds of one, of a list of it
-pub All-one : {X : Type 0} (P : X → Type 0) (x : X) → P x → All P (x ∷ [])
-All-one P x h = All-from_recursion P (x ∷ []) (h, tt)
-
 -- of an empty list all
 pub all_none : {X : Type 0} (P : X → Type 0) (xs : List X) → xs ≡ [] → All P xs
 all_none P xs e = subst (All P) (sym e) (All-from_recursion P [] tt)
 
 -- of one more at the end
 pub all_and : {X : Type 0} (P : X → Type 0) (xs : List X) (x : X) → All P xs → P x → All P (xs ++ x ∷ [])
-all_and P xs x h p = All-append P xs (x ∷ []) h (All-one P x p)
+all_and P xs x h p = All-append P xs (x ∷ []) h (All-from_recursion P (x ∷ []) (p, tt))
 
 -- what holds of a list by recursion holds of a member
 pub every_at : {X : Type 0} (P : X → Type 0) (xs : List X) (x : X) → Every P xs → In x xs → P x

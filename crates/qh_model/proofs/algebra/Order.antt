@@ -1,10 +1,10 @@
 -- Signs of products. In a signature brackets are needed: `≤ℤ` binds tighter than `+ℤ` and `*ℤ`.
-use Rattle.std.proofs.Common.{◌≡◌, ℕ, zero, suc, ◌*◌, ◌≤◌, arith, ap, sym, ◌∙◌, refl, ◌⊎◌, inl, inr, ⊎_elim}
+use Rattle.std.proofs.Common.{◌≡◌, zero, suc, ◌*◌, ◌≤◌, arith, ap, sym, ◌∙◌, refl, ◌⊎◌, inl, inr, ⊎_elim}
 use Rattle.std.proofs.{Math.IntN.*ℤ-zero, Math.Nat.mul-le-mul, lemmas.Int.ints, lemmas.Int.by_lt_z}
 use Rattle.std.specs.Prelude.{ℤ, pos, negsuc, ◌+ℤ◌, ◌-ℤ◌, ◌*ℤ◌, neg_ℤ, ◌≤ℤ◌, ◌<ℤ◌}
 use lib.IntN.{ℤ_discrete}
 use borrow.Author.Differences.{product_is}
-use Rattle.qh_model.proofs.algebra.{Integers.mul_add, Integers.mul_neg, Signs.not_less}
+use Rattle.qh_model.proofs.algebra.{Integers.mul_add, Integers.mul_comm, Integers.mul_neg, Signs.not_less}
 
 -- two numbers not below 0
 pub mul-nonneg : (a b : ℤ) → pos 0 ≤ℤ a → pos 0 ≤ℤ b → pos 0 ≤ℤ (a *ℤ b)
@@ -36,11 +36,9 @@ pub mul-le : (a b c : ℤ) → pos 0 ≤ℤ a → b ≤ℤ c → (a *ℤ b) ≤�
 mul-le a b c h k =
     let d : pos 0 ≤ℤ (c -ℤ b) = omega (arith, ints) in
     let p : pos 0 ≤ℤ (a *ℤ (c -ℤ b)) = mul-nonneg a (c -ℤ b) h d in
-    let e : a *ℤ c ≡ a *ℤ b +ℤ a *ℤ (c -ℤ b) = sym (sym (mul_add a b (c -ℤ b)) ∙ ap (λ v. a *ℤ v) (sub_back b c)) in
-    omega (arith, ints)
-  where
-    sub_back : (b c : ℤ) → b +ℤ (c -ℤ b) ≡ c
-    sub_back b c = omega (arith, ints)
+    let s : b +ℤ (c -ℤ b) ≡ c = omega (arith, ints) in
+    let e : a *ℤ c ≡ a *ℤ b +ℤ a *ℤ (c -ℤ b) = sym (sym (mul_add a b (c -ℤ b)) ∙ ap (λ v. a *ℤ v) s) in
+    omega (arith, ints, p, e)
 
 -- a positive factor goes, the sign stays
 pub cancel-nonneg : (a b : ℤ) → pos 0 <ℤ a → pos 0 ≤ℤ (a *ℤ b) → pos 0 ≤ℤ b
@@ -58,13 +56,9 @@ cancel-pos a b h k = grind (arith, ints, mul-nonneg_nonpos)
 pub mul-pos_neg : (a b : ℤ) → pos 0 <ℤ a → b <ℤ pos 0 → (a *ℤ b) <ℤ pos 0
 mul-pos_neg a b h k = grind (arith, ints, cancel-nonneg)
 
--- what is 0 is neither above nor below
-le_both : (x : ℤ) → x ≡ pos 0 → (x ≤ℤ pos 0) × (pos 0 ≤ℤ x)
-le_both x e = (omega (arith, ints), omega (arith, ints))
-
 -- a positive factor of 0
 pub cancel-zero : (a b : ℤ) → pos 0 <ℤ a → a *ℤ b ≡ pos 0 → b ≡ pos 0
-cancel-zero a b h k = let t = le_both (a *ℤ b) k in omega (arith, ints, cancel-nonpos a b h t.0, cancel-nonneg a b h t.1)
+cancel-zero a b h k = omega (arith, ints, cancel-nonpos a b h (omega (arith, ints, k)), cancel-nonneg a b h (omega (arith, ints, k)))
 
 -- a product with 0
 pub product_zero : (l y : ℤ) → y ≡ pos 0 → l *ℤ y ≡ pos 0
@@ -74,10 +68,8 @@ product_zero l y e = ap (λ v. l *ℤ v) e ∙ *ℤ-zero l
 pub zero_product : (a b : ℤ) → a *ℤ b ≡ pos 0 → (a ≡ pos 0) ⊎ (b ≡ pos 0)
 zero_product (pos zero) b k = inl refl
 zero_product (pos (suc n)) b k = inr (cancel-zero (pos (suc n)) b (omega (arith, ints)) k)
-zero_product (negsuc n) b k = inr (cancel-zero (pos (suc n)) b (omega (arith, ints)) (turned n b k))
-  where
-    turned : (n : ℕ) (b : ℤ) → negsuc n *ℤ b ≡ pos 0 → pos (suc n) *ℤ b ≡ pos 0
-    turned n b k = omega (arith, ints, product_is (negsuc n) b, product_is (pos (suc n)) b)
+zero_product (negsuc n) b k =
+    inr (cancel-zero (pos (suc n)) b (omega (arith, ints)) (omega (arith, ints, k, product_is (negsuc n) b, product_is (pos (suc n)) b)))
 
 -- a negative factor of 0
 pub cancel-zero_neg : (a b : ℤ) → a <ℤ pos 0 → a *ℤ b ≡ pos 0 → b ≡ pos 0
@@ -85,10 +77,7 @@ cancel-zero_neg a b h k = ⊎_elim (λ e. absurd (omega (arith, ints, h, e))) (�
 
 -- a negative number and a positive one
 pub mul-neg_pos : (a b : ℤ) → a <ℤ pos 0 → pos 0 <ℤ b → (a *ℤ b) <ℤ pos 0
-mul-neg_pos a b h k = by_lt_z (a *ℤ b) (pos 0) (λ q. q) (λ q. absurd (not_less a (pos 0) h (cancel_right a b k q)))
-  where
-    cancel_right : (a b : ℤ) → pos 0 <ℤ b → pos 0 ≤ℤ (a *ℤ b) → pos 0 ≤ℤ a
-    cancel_right a b k q = grind (arith, ints)
+mul-neg_pos a b h k = rw (mul_comm a b) (mul-pos_neg b a k h)
 
 -- not above and not below is equal
 pub le_antisym : (a b : ℤ) → a ≤ℤ b → b ≤ℤ a → a ≡ b
@@ -100,11 +89,7 @@ le_less a b h k = by_lt_z a b (λ l. l) (λ l. absurd (k (le_antisym a b h l)))
 
 -- a number is 0 or not
 pub zero_or_not : (v : ℤ) → (v ≡ pos 0) ⊎ (¬ (v ≡ pos 0))
-zero_or_not v = by_decision (ℤ_discrete v (pos 0))
-  where
-    by_decision : Dec (v ≡ pos 0) → (v ≡ pos 0) ⊎ (¬ (v ≡ pos 0))
-    by_decision (yes e) = inl e
-    by_decision (no n) = inr n
+zero_or_not v = elim (ℤ_discrete v (pos 0)) [ yes e ↦ inl e | no n ↦ inr n ]
 
 -- the opposite of a negative number
 pub neg-positive : (x : ℤ) → x <ℤ pos 0 → pos 0 <ℤ neg_ℤ x
@@ -116,10 +101,7 @@ neg-nonneg x h = omega (arith, ints)
 
 -- two negative numbers
 pub mul-neg_neg : (a b : ℤ) → a <ℤ pos 0 → b <ℤ pos 0 → pos 0 <ℤ (a *ℤ b)
-mul-neg_neg a b h k = plain (a *ℤ b) (a *ℤ neg_ℤ b) (mul_neg a b) (mul-neg_pos a (neg_ℤ b) h (neg-positive b k))
-  where
-    plain : (x y : ℤ) → y ≡ neg_ℤ x → y <ℤ pos 0 → pos 0 <ℤ x
-    plain x y e h = omega (arith, ints)
+mul-neg_neg a b h k = omega (arith, ints, mul_neg a b, mul-neg_pos a (neg_ℤ b) h (neg-positive b k))
 
 -- a positive number is not below 0
 pub positive_le : (x : ℤ) → pos 0 <ℤ x → pos 0 ≤ℤ x

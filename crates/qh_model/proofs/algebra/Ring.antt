@@ -142,10 +142,6 @@ mul_m-value env (i ∷ m) n =
     ins_m-value env i (mul_m m n) ∙ ap (λ v. get_or env i (pos 0) *ℤ v) (mul_m-value env m n)
     ∙ sym (mul_assoc (get_or env i (pos 0)) (value_m env m) (value_m env n))
 
--- two terms of one monomial together
-same_term : (env : List ℤ) (c d : ℤ) (m n : Mono) (r : ℤ) → m ≡ n → (c +ℤ d) *ℤ value_m env m +ℤ r ≡ c *ℤ value_m env m +ℤ (d *ℤ value_m env n +ℤ r)
-same_term env c d m n r e = rw (← e) (rw (add_mul c d (value_m env m)) (+ℤ_assoc (c *ℤ value_m env m) (d *ℤ value_m env m) r))
-
 -- the test of coefficients is right
 is_zero-is : (c : ℤ) → is_zero c ≡ true → c ≡ pos 0
 is_zero-is (pos n) e = ap pos (eqb-true n 0 e)
@@ -164,7 +160,9 @@ ins_p-split : (env : List ℤ) (c : ℤ) (m : Mono) (t : ℤ × Mono) (p q : Pol
       | false ↦ elim b' [ true ↦ (c, m) ∷ t ∷ p | false ↦ t ∷ q ]
     ])
     ≡ c *ℤ value_m env m +ℤ (t.0 *ℤ value_m env t.1 +ℤ value_p env p)
-ins_p-split env c m t p q true b' e h = zero_term env (c +ℤ t.0) m p (is_zero (c +ℤ t.0)) refl ∙ same_term env c t.0 m t.1 (value_p env p) (eq_m-is m t.1 e)
+ins_p-split env c m t p q true b' e h =
+    zero_term env (c +ℤ t.0) m p (is_zero (c +ℤ t.0)) refl
+    ∙ rw (sym (eq_m-is m t.1 e), add_mul c t.0 (value_m env m)) (+ℤ_assoc (c *ℤ value_m env m) (t.0 *ℤ value_m env m) (value_p env p))
 ins_p-split env c m t p q false true e h = refl
 ins_p-split env c m t p q false false e h = omega (arith, ints)
 
@@ -184,10 +182,6 @@ add_p-value env (t ∷ p) q =
 four_swap : (c d m n : ℤ) → c *ℤ d *ℤ (m *ℤ n) ≡ c *ℤ m *ℤ (d *ℤ n)
 four_swap c d m n = mul_assoc c d (m *ℤ n) ∙ ap (λ v. c *ℤ v) (mul_swap d m n) ∙ sym (mul_assoc c m (d *ℤ n))
 
--- a step of the next
-mul_t-step : (x y q r v : ℤ) → v ≡ x *ℤ q +ℤ r → x *ℤ y +ℤ v ≡ x *ℤ (y +ℤ q) +ℤ r
-mul_t-step x y q r v e = rw (mul_add x y q) (omega (arith, ints))
-
 -- a term times a polynomial
 mul_t-value : (env : List ℤ) (c : ℤ) (m : Mono) (q r : Poly) → value_p env (mul_t c m q r) ≡ c *ℤ value_m env m *ℤ value_p env q +ℤ value_p env r
 mul_t-value env c m [] r = sym (ap (λ v. v +ℤ value_p env r) (*ℤ-zero (c *ℤ value_m env m)) ∙ +ℤ_idl (value_p env r))
@@ -195,7 +189,7 @@ mul_t-value env c m (t ∷ q) r =
     ins_p-value env (c *ℤ t.0) (mul_m m t.1) (mul_t c m q r)
     ∙ ap (λ v. c *ℤ t.0 *ℤ v +ℤ value_p env (mul_t c m q r)) (mul_m-value env m t.1)
     ∙ ap (λ v. v +ℤ value_p env (mul_t c m q r)) (four_swap c t.0 (value_m env m) (value_m env t.1))
-    ∙ mul_t-step (c *ℤ value_m env m) (t.0 *ℤ value_m env t.1) (value_p env q) (value_p env r) (value_p env (mul_t c m q r)) (mul_t-value env c m q r)
+    ∙ rw (mul_t-value env c m q r, mul_add (c *ℤ value_m env m) (t.0 *ℤ value_m env t.1) (value_p env q)) (omega (arith, ints))
 
 -- a product
 mul_p-value : (env : List ℤ) (p q : Poly) → value_p env (mul_p p q) ≡ value_p env p *ℤ value_p env q
@@ -214,10 +208,7 @@ neg_p-value env (t ∷ p) =
 
 -- the polynomial of an expression has its value
 norm-value : (env : List ℤ) (e : Expr) → value_p env (norm e) ≡ value env e
-norm-value env (var i) = var_value (get_or env i (pos 0))
-  where
-    var_value : (v : ℤ) → pos 1 *ℤ (v *ℤ pos 1) +ℤ pos 0 ≡ v
-    var_value v = +ℤ_idr (pos 1 *ℤ (v *ℤ pos 1)) ∙ one_mul (v *ℤ pos 1) ∙ mul_one v
+norm-value env (var i) = +ℤ_idr (pos 1 *ℤ (get_or env i (pos 0) *ℤ pos 1)) ∙ one_mul (get_or env i (pos 0) *ℤ pos 1) ∙ mul_one (get_or env i (pos 0))
 norm-value env (con c) = +ℤ_idr (c *ℤ pos 1) ∙ mul_one c
 norm-value env (add a b) = add_p-value env (norm a) (norm b) ∙ cc (norm-value env a, norm-value env b)
 norm-value env (sub a b) = add_p-value env (norm a) (neg_p (norm b)) ∙ cc (neg_p-value env (norm b), norm-value env a, norm-value env b)

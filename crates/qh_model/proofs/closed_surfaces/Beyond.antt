@@ -1,5 +1,5 @@
 -- Points at a larger scale, and a point a little beyond the middle of three of them.
-use Rattle.std.proofs.Common.{◌≡◌, refl, ap, ◌∙◌, [], ◌∷◌}
+use Rattle.std.proofs.Common.{◌≡◌, refl, ap, sym, ◌∙◌, [], ◌∷◌}
 use Rattle.std.specs.Prelude.{ℤ, pos, ◌+ℤ◌, ◌-ℤ◌, ◌*ℤ◌}
 use Rattle.qh_model.specs.headline.{Predicates.cross, Predicates.vol, Vector.Vector, Vector.minus, Vector.dot}
 use Rattle.qh_model.proofs.algebra.Ring.{Expr, ring, Expr.var, Expr.con, Expr.add, Expr.sub as less, Expr.mul}
@@ -53,12 +53,8 @@ pub vol-beyond : (c : ℤ) (a b d i j k n : Vector) → let m = pos 3 *ℤ c in
 vol-beyond c a b d i j k n =
     let m = pos 3 *ℤ c in let p = beyond c i j k n in
     vol-dot (scaled m a) (scaled m b) (scaled m d) p ∙ ap (λ v. dot v (minus p (scaled m a))) (cross-scaled m a b d)
-    ∙ dot-beyond c (cross a b d) a i j k n ∙ fold _ _ _ _ _ _ (vol-dot a b d i) (vol-dot a b d j) (vol-dot a b d k)
-  where
-    fold : (x y z x' y' z' : ℤ) → x ≡ x' → y ≡ y' → z ≡ z' → let m = pos 3 *ℤ c in
-        (m *ℤ m) *ℤ (c *ℤ (x' +ℤ y' +ℤ z') +ℤ dot (cross a b d) n)
-        ≡ (m *ℤ m) *ℤ (c *ℤ (x +ℤ y +ℤ z) +ℤ dot (cross a b d) n)
-    fold x y z x' y' z' e f g = cc (e, f, g)
+    ∙ dot-beyond c (cross a b d) a i j k n
+    ∙ λ t. (m *ℤ m) *ℤ (c *ℤ (sym (vol-dot a b d i) t +ℤ sym (vol-dot a b d j) t +ℤ sym (vol-dot a b d k) t) +ℤ dot (cross a b d) n)
 
 -- how far it is beyond a point l, along n
 pub dot-past : (c : ℤ) (n i j k l : Vector) → dot n (beyond c i j k n)

@@ -1,16 +1,17 @@
 -- Separator cancellation: no point is strictly below every triangle of a closed surface and strictly beyond all its
 -- corners along a direction. With the depth of each corner as a common multiple, the terms of each edge cancel.
-use Rattle.std.proofs.Common.{◌≡◌, ℕ, ◌+◌, ◌<◌, ◌≤◌, arith, ap, sym, ◌∙◌, refl, List, [], ◌∷◌, Bool, true, false, cond, eqb, inl, inr}
+use Rattle.std.proofs.Common.{◌≡◌, ℕ, ◌<◌, arith, sym, ◌∙◌, refl, List, [], ◌∷◌, Bool, true, false, cond, eqb, inl, inr}
 use Rattle.std.proofs.lemmas.{Bool.eqb-true, Int.ints}
 use Rattle.std.specs.{List.AllByRecursion as Each, Prelude.ℤ, Prelude.pos, Prelude.◌+ℤ◌, Prelude.◌*ℤ◌, Prelude.neg_ℤ, Prelude.◌≤ℤ◌, Prelude.◌<ℤ◌}
 use Rattle.qh_model.specs.contract.ClosedSurface.{Triple, edges, IsClosed}
-use Rattle.qh_model.specs.headline.{Predicates.vol, Sets.In, Vector.Vector, Vector.dot, Vector.minus}
+use Rattle.qh_model.specs.headline.{Predicates.vol, Vector.Vector, Vector.dot}
 use Rattle.qh_model.specs.laws.ClosedSurfaceLaws.{IsCornerOf, NoneBelowAndBeyond}
-use Rattle.qh_model.proofs.{Members.every_map, algebra.Integers.mul_swap, algebra.Order.mul-pos, algebra.Order.mul-neg_pos, algebra.Ring.ring}
+use Rattle.qh_model.proofs.{Members.every_map, Members.every_of, algebra.Integers.mul_swap, algebra.Order.mul-pos, algebra.Order.mul-neg_pos, algebra.Ring.ring}
+use Rattle.qh_model.proofs.algebra.Signs.{gap_positive}
 use Rattle.qh_model.proofs.algebra.Ring.Expr.{var, add, sub as less, mul, neg}
 use Rattle.qh_model.proofs.algebra.VectorIdentities.{vol-flip, vol-depths, depth, dot-minus, combine3}
 use Rattle.qh_model.proofs.closed_surfaces.SignedVolume.{back, eqb-refl, edges-cancel, vol_at}
-use Rattle.qh_model.proofs.closed_surfaces.Sums.{sum_z, count, drop_first, later}
+use Rattle.qh_model.proofs.closed_surfaces.Sums.{sum_z, count, drop_first, Tests, taken_out, one_there}
 
 -- with co x such that depth x * co x is the same m at each corner
 unfoldable pub shared : (at : ℕ → Vector) (w p : Vector) → (ℕ → ℤ) → ℕ → Triple → ℤ
@@ -64,12 +65,7 @@ shared-sum : (at : ℕ → Vector) (w p : Vector) (co : ℕ → ℤ) (m : ℤ) (
     → sum_z (shared at w p co r) ts ≡ sum_z (edge_part at p co m r) (edges ts)
 shared-sum at w p co m r [] h = refl
 shared-sum at w p co m r (t ∷ ts) h =
-    rw (shared-split at w p co m r t h.0 h.1.0 h.1.1.0, shared-sum at w p co m r ts h.1.1.1)
-    (regroup (edge_part at p co m r (t.i, t.j)) (edge_part at p co m r (t.j, t.k)) (edge_part at p co m r (t.k, t.i))
-    (sum_z (edge_part at p co m r) (edges ts)))
-  where
-    regroup : (a b c e : ℤ) → a +ℤ b +ℤ c +ℤ e ≡ a +ℤ (b +ℤ (c +ℤ e))
-    regroup a b c e = omega (arith, ints)
+    rw (shared-split at w p co m r t h.0 h.1.0 h.1.1.0, shared-sum at w p co m r ts h.1.1.1) (omega (arith, ints))
 
 -- so they add up to 0
 pub shared-zero : (at : ℕ → Vector) (w p : Vector) (co : ℕ → ℤ) (m : ℤ) (r : ℕ) (ts : List Triple) → IsClosed ts
@@ -90,10 +86,7 @@ sums-neg : (at : ℕ → Vector) (w p : Vector) (co : ℕ → ℤ) (r : ℕ) →
     → Corners (λ i. pos 0 <ℤ co i) ts → Each (λ t. vol_at at p t <ℤ pos 0) ts → sum_z (shared at w p co r) ts ≤ℤ pos 0
 sums-neg at w p co r hr [] h v = omega (arith, ints)
 sums-neg at w p co r hr (t ∷ ts) h v =
-    two (shared at w p co r t) (sum_z (shared at w p co r) ts) (shared-neg at w p co r t v.0 hr h.0 h.1.0 h.1.1.0) (sums-neg at w p co r hr ts h.1.1.1 v.1)
-  where
-    two : (a b : ℤ) → a <ℤ pos 0 → b ≤ℤ pos 0 → (a +ℤ b) ≤ℤ pos 0
-    two a b h k = omega (arith, ints)
+    omega (arith, ints, shared-neg at w p co r t v.0 hr h.0 h.1.0 h.1.1.0, sums-neg at w p co r hr ts h.1.1.1 v.1)
 
 -- ---- the product of the others
 abbrev prod_z : (ℕ → ℤ) → List ℕ → ℤ
@@ -114,39 +107,22 @@ each-drop_first P q (x ∷ xs) h = by_test (q x) (each-drop_first P q xs h.1)
     by_test true r = h.1
     by_test false r = (h.0, r)
 
--- a step of the next
-prod_step : (f : ℕ → ℤ) (x y : ℕ) (ys r : List ℕ) (b : Bool) → (b ≡ true → x ≡ y)
-    → (b ≡ false → prod_z f ys ≡ f x *ℤ prod_z f r) → f y *ℤ prod_z f ys ≡ f x *ℤ prod_z f (cond b ys (y ∷ r))
-prod_step f x y ys r true e h = ap (λ v. f v *ℤ prod_z f ys) (sym (e refl))
-prod_step f x y ys r false e h = rw (h refl) (mul_swap (f y) (f x) (prod_z f r))
+-- the test of numbers tests equality
+number_tests : Tests eqb
+number_tests = record { same = eqb-true; itself = eqb-refl }
 
 -- a product with one factor taken out
 prod-drop_first : (f : ℕ → ℤ) (x : ℕ) (ys : List ℕ) → 0 < count (eqb x) ys → prod_z f ys ≡ f x *ℤ prod_z f (drop_first (eqb x) ys)
-prod-drop_first f x [] h = absurd (omega arith)
-prod-drop_first f x (y ∷ ys) h =
-    prod_step f x y ys (drop_first (eqb x) ys) (eqb x y) (eqb-true x y) (λ e. prod-drop_first f x ys (later (eqb x y) (count (eqb x) ys) h e))
-
--- a longer list counts no less
-more_there : (x y : ℕ) (n : ℕ) → 0 < n → 0 < cond (eqb x y) 1 0 + n
-more_there x y n h = omega arith
-
--- its first stands in it
-one_there : (x n : ℕ) → 0 < cond (eqb x x) 1 0 + n
-one_there x n = rw (eqb-refl x) (omega arith)
+prod-drop_first f = taken_out eqb number_tests (λ x s. f x *ℤ s) (λ x y s. mul_swap (f x) (f y) s) (prod_z f) (λ x xs. refl)
 
 -- each member stands in it
 all_there : (xs : List ℕ) → Each (λ x. 0 < count (eqb x) xs) xs
 all_there [] = tt
 all_there (x ∷ xs) = (
-  one_there x (count (eqb x) xs),
+  one_there eqb number_tests x (count (eqb x) xs),
   every_map (λ y. 0 < count (eqb y) xs) (λ y. 0 < count (eqb y) (x ∷ xs)) xs
-      (λ y h. more_there y x (count (eqb y) xs) h) (all_there xs),
+      (λ y h. omega (arith, h)) (all_there xs),
 )
-
--- what holds of all holds of each
-each-all : (P : ℕ → Type 0) → ((x : ℕ) → P x) → (xs : List ℕ) → Each P xs
-each-all P h [] = tt
-each-all P h (x ∷ xs) = (h x, each-all P h xs)
 
 -- separator cancellation: no point is strictly below every triangle of a closed surface and strictly on one side of a plane from all its corners
 pub none_below_all : (at : ℕ → Vector) (w p : Vector) (t : Triple) (ts : List Triple) → IsClosed (t ∷ ts)
@@ -156,7 +132,7 @@ none_below_all at w p t ts c d v =
     let f : ℕ → ℤ = λ i. depth w p (at i) in
     let co : ℕ → ℤ = λ i. prod_z f (drop_first (eqb i) all) in
     let up : Corners (λ i. pos 0 <ℤ co i) (t ∷ ts) =
-    each-all (λ i. pos 0 <ℤ co i) (λ i. prod-pos f (drop_first (eqb i) all) (each-drop_first (λ x. pos 0 <ℤ f x) (eqb i) all d)) all in
+    every_of (λ i. pos 0 <ℤ co i) all (λ i m. prod-pos f (drop_first (eqb i) all) (each-drop_first (λ x. pos 0 <ℤ f x) (eqb i) all d)) in
     let same : Corners (λ i. f i *ℤ co i ≡ prod_z f all) (t ∷ ts) =
     every_map (λ i. 0 < count (eqb i) all) (λ i. f i *ℤ co i ≡ prod_z f all) all (λ i h. sym (prod-drop_first f i all h)) (all_there all) in
     let zero_sum = shared-zero at w p co (prod_z f all) t.i (t ∷ ts) c same in
@@ -170,25 +146,14 @@ corners-of P (t ∷ ts) f = (
   (f t.j (t, inl refl, inr (inl refl)), (f t.k (t, inl refl, inr (inr (inl refl))), corners-of P ts (λ i c. f i (c.0, inr c.1, c.2)))),
 )
 
--- what holds of members holds of each
-each-of : {X : Type 0} (P : X → Type 0) (xs : List X) → ((x : X) → In x xs → P x) → Each P xs
-each-of P [] f = tt
-each-of P (x ∷ xs) f = (f x (inl refl), each-of P xs (λ y i. f y (inr i)))
-
 -- what is lower along w has a positive depth
 deep : (w p x : Vector) → dot w x <ℤ dot w p → pos 0 <ℤ depth w p x
 unfolding depth
-deep w p x h = apart (dot w p) (dot w x) (dot w (minus p x)) (dot-minus w p x) h
-  where
-    apart : (a b d : ℤ) → d ≡ a +ℤ neg_ℤ b → b <ℤ a → pos 0 <ℤ d
-    apart a b d e h = omega (arith, ints)
+deep w p x h = rw (dot-minus w p x) (gap_positive (dot w x) (dot w p) h)
 
 -- the law
 pub none_below_and_beyond : NoneBelowAndBeyond
-none_below_and_beyond at [] c w p beyond below = absurd (some c.some)
-  where
-    some : 1 ≤ 0 → ⊥
-    some h = omega arith
+none_below_and_beyond at [] c w p beyond below = absurd (omega (arith, c.some))
 none_below_and_beyond at (t ∷ ts) c w p beyond below =
     none_below_all at w p t ts c.closed (corners-of (λ i. pos 0 <ℤ depth w p (at i)) (t ∷ ts) (λ i k. deep w p (at i) (beyond i k)))
-    (each-of (λ t. vol_at at p t <ℤ pos 0) (t ∷ ts) below)
+    (every_of (λ t. vol_at at p t <ℤ pos 0) (t ∷ ts) below)

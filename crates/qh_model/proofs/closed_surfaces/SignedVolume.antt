@@ -18,12 +18,9 @@ eqb-refl i = search rules
 -- the test of edges tests equality
 pub edge_tests : Tests is_edge
 edge_tests = record {
-  same = λ e f h. let b = and_parts (eqb e.0 f.0) (eqb e.1 f.1) h in pair_is e.0 e.1 f.0 f.1 (eqb-true e.0 f.0 b.0) (eqb-true e.1 f.1 b.1);
+  same = λ e f h k. let b = and_parts (eqb e.0 f.0) (eqb e.1 f.1) h in (eqb-true e.0 f.0 b.0 k, eqb-true e.1 f.1 b.1 k);
   itself = λ e. rw (eqb-refl e.0, eqb-refl e.1) refl;
 }
-  where
-    pair_is : (a b c d : ℕ) → a ≡ c → b ≡ d → ◌≡◌ {A = ℕ × ℕ} (a, b) (c, d)
-    pair_is a b c d p q = rw (p, q) refl
 
 -- turning one edge or the other
 pub is_edge-back : (e f : ℕ × ℕ) → is_edge e (back f) ≡ is_edge (back e) f
@@ -43,10 +40,7 @@ count-back e (f ∷ es) = rw (is_edge-back e f, count-back e es) refl
 -- a sum over the edges turned round
 sum-back : (g : (ℕ × ℕ) → ℤ) → ((e : ℕ × ℕ) → g (back e) ≡ neg_ℤ (g e)) → (es : List (ℕ × ℕ)) → sum_z g (map back es) ≡ neg_ℤ (sum_z g es)
 sum-back g h [] = refl
-sum-back g h (e ∷ es) = rw (h e, sum-back g h es) (neg_sum (g e) (sum_z g es))
-  where
-    neg_sum : (a b : ℤ) → neg_ℤ a +ℤ neg_ℤ b ≡ neg_ℤ (a +ℤ b)
-    neg_sum a b = omega (arith, ints)
+sum-back g h (e ∷ es) = rw (h e, sum-back g h es) (omega (arith, ints))
 
 -- what changes its sign with an edge's direction adds up to nothing
 pub edges-cancel : (g : (ℕ × ℕ) → ℤ) → ((e : ℕ × ℕ) → g (back e) ≡ neg_ℤ (g e)) → (ts : List Triple) → IsClosed ts → sum_z g (edges ts) ≡ pos 0
@@ -67,21 +61,12 @@ edge_vol at o p e = vol (at e.0) (at e.1) o p
 vols-boundary : (at : ℕ → Vector) (o p : Vector) (ts : List Triple) → sum_z (vol_at at p) ts ≡ sum_z (vol_at at o) ts +ℤ sum_z (edge_vol at o p) (edges ts)
 vols-boundary at o p [] = refl
 vols-boundary at o p (t ∷ ts) =
-    rw (vol-boundary (at t.i) (at t.j) (at t.k) o p, vols-boundary at o p ts)
-    (regroup (vol (at t.i) (at t.j) (at t.k) o) (vol (at t.i) (at t.j) o p) (vol (at t.j) (at t.k) o p)
-    (vol (at t.k) (at t.i) o p) (sum_z (vol_at at o) ts) (sum_z (edge_vol at o p) (edges ts)))
-  where
-    regroup : (v a b c s e : ℤ) → v +ℤ (a +ℤ b +ℤ c) +ℤ (s +ℤ e) ≡ v +ℤ s +ℤ (a +ℤ (b +ℤ (c +ℤ e)))
-    regroup v a b c s e = omega (arith, ints)
+    rw (vol-boundary (at t.i) (at t.j) (at t.k) o p, vols-boundary at o p ts) (omega (arith, ints))
 
 -- signed volume: the sum does not depend on the fourth point
 pub vols-same : (at : ℕ → Vector) (o p : Vector) (ts : List Triple) → IsClosed ts → sum_z (vol_at at p) ts ≡ sum_z (vol_at at o) ts
 vols-same at o p ts c =
-    vols-boundary at o p ts
-    ∙ drop_zero (sum_z (vol_at at o) ts) (sum_z (edge_vol at o p) (edges ts)) (edges-cancel (edge_vol at o p) (λ e. vol-flip (at e.1) (at e.0) o p) ts c)
-  where
-    drop_zero : (a b : ℤ) → b ≡ pos 0 → a +ℤ b ≡ a
-    drop_zero a b e = omega (arith, ints)
+    omega (arith, ints, vols-boundary at o p ts, edges-cancel (edge_vol at o p) (λ e. vol-flip (at e.1) (at e.0) o p) ts c)
 
 -- the definition's sum
 volume-is : (at : ℕ → Vector) (ts : List Triple) (p : Vector) → signed_volume at ts p ≡ sum_z (vol_at at p) ts

@@ -38,12 +38,9 @@ ceiling {X} g (x ∷ xs) = go (g x) refl (ceiling g xs)
     go : (z : ℤ) → g x ≡ z → (c : ℕ) × ((y : X) → In y xs → g y <ℤ pos c) → (c : ℕ) × ((y : X) → In y (x ∷ xs) → g y <ℤ pos c)
     go (pos n) e (c, h) = (suc n + c, each)
       where
-        more : (z : ℤ) → z <ℤ pos c → z <ℤ pos (suc n + c)
-        more z h = omega (arith, ints)
-
         each : (y : X) → In y (x ∷ xs) → g y <ℤ pos (suc n + c)
         each y (inl d) = omega (arith, ints, ap g d ∙ e)
-        each y (inr i) = more (g y) (h y i)
+        each y (inr i) = omega (arith, ints, h y i)
     go (negsuc n) e (c, h) = (c, each)
       where
         each : (y : X) → In y (x ∷ xs) → g y <ℤ pos c

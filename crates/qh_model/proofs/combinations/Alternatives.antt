@@ -1,5 +1,5 @@
 -- The theorem of alternatives for points of space.
-use Rattle.std.proofs.Common.{◌≡◌, ℕ, ◌+◌, ◌<◌, ◌≤◌, arith, sym, ap, ◌∙◌, ◌⊎◌, inl, inr, List, [], ◌∷◌}
+use Rattle.std.proofs.Common.{◌≡◌, ℕ, ◌+◌, ◌<◌, ◌≤◌, arith, sym, ap, ◌∙◌, inl, inr, ⊎_elim, List, [], ◌∷◌}
 use Rattle.std.proofs.{Math.Nat.mul-le-mul_left, lemmas.Int.ints}
 use Rattle.std.specs.Prelude.{ℤ, pos, ◌+ℤ◌, ◌-ℤ◌, ◌*ℤ◌, ◌<ℤ◌}
 use borrow.Author.Differences.{lt_out}
@@ -59,17 +59,13 @@ four xs (p ∷ q ∷ r ∷ s ∷ t ∷ ts) m c h = absurd (omega arith)
 abbrev toward : (ℕ → Vector) → Vector → ℕ → V 3
 toward at p i = ((at i).x -ℤ p.x, ((at i).y -ℤ p.y, ((at i).z -ℤ p.z, tt)))
 
--- a term over differences, and its part of p
-shifted_term : (m P g T WP G : ℤ) → T +ℤ WP ≡ G → (m *ℤ (g -ℤ P) +ℤ T) +ℤ (m *ℤ P +ℤ WP) ≡ m *ℤ g +ℤ G
-shifted_term m P g T WP G e = simp ring_rules (omega (arith, ints))
-
 -- the total of differences to P
 total_from : {A : Type 0} (d g : A → ℤ) (P : ℤ) → ((a : A) → d a ≡ g a -ℤ P) → (ts : List (ℕ × A)) → total d ts +ℤ pos (weight ts) *ℤ P ≡ total g ts
 total_from d g P e [] = omega (arith, ints)
 total_from d g P e (t ∷ ts) =
     ap (λ s. (pos t.0 *ℤ s +ℤ total d ts) +ℤ pos (t.0 + weight ts) *ℤ P) (e t.1)
     ∙ ap (λ s. (pos t.0 *ℤ (g t.1 -ℤ P) +ℤ total d ts) +ℤ s) (add_mul (pos t.0) (pos (weight ts)) P)
-    ∙ shifted_term (pos t.0) P (g t.1) (total d ts) (pos (weight ts) *ℤ P) (total g ts) (total_from d g P e ts)
+    ∙ (let rest = total_from d g P e ts in simp ring_rules (omega (arith, ints, rest)))
 
 -- balanced differences are a convex combination
 combination_of : (at : ℕ → Vector) (ids : List ℕ) (p : Vector) → Balanced ℕ 3 (toward at p) ids → Combination at (Members ids) p
@@ -110,28 +106,12 @@ separator_of at ids p s = record {
   past = λ a m. past_from s.w.0 s.w.1.0 s.w.1.1.0 (at a).x (at a).y (at a).z p.x p.y p.z (every_at (λ i. vdot 3 s.w (toward at p i) <ℤ pos 0) ids a s.below m);
 }
 
--- one or the other, for points
-either : (at : ℕ → Vector) (ids : List ℕ) (p : Vector) → Balanced ℕ 3 (toward at p) ids ⊎ Separated ℕ 3 (toward at p) ids
-    → Combination at (Members ids) p ⊎ Separator at (Members ids) p
-either at ids p (inl m) = inl (combination_of at ids p m)
-either at ids p (inr s) = inr (separator_of at ids p s)
-
 -- the law
 pub combination_or_separator : CombinationOrSeparator
-combination_or_separator at ids p = either at ids p (alternative 3 (toward at p) ids)
+combination_or_separator at ids p =
+    ⊎_elim (λ m. inl (combination_of at ids p m)) (λ s. inr (separator_of at ids p s)) (alternative 3 (toward at p) ids)
 
 -- ---- not both
--- a factor of a scalar product goes to the coordinates
-scaled_dot : (W u v w x y z : ℤ) → W *ℤ (u *ℤ x +ℤ v *ℤ y +ℤ w *ℤ z) ≡ u *ℤ (W *ℤ x) +ℤ v *ℤ (W *ℤ y) +ℤ w *ℤ (W *ℤ z)
-scaled_dot W u v w x y z = simp ring_rules
-
--- the scalar product of a weighted sum
-combined_dot : (k l m n u v w ax ay az bx by bz cx cy cz dx dy dz : ℤ) →
-    u *ℤ (k *ℤ ax +ℤ l *ℤ bx +ℤ m *ℤ cx +ℤ n *ℤ dx) +ℤ v *ℤ (k *ℤ ay +ℤ l *ℤ by +ℤ m *ℤ cy +ℤ n *ℤ dy) +ℤ w *ℤ (k *ℤ az +ℤ l *ℤ bz +ℤ m *ℤ cz +ℤ n *ℤ dz)
-    ≡ k *ℤ (u *ℤ ax +ℤ v *ℤ ay +ℤ w *ℤ az) +ℤ l *ℤ (u *ℤ bx +ℤ v *ℤ by +ℤ w *ℤ bz) +ℤ m
-    *ℤ (u *ℤ cx +ℤ v *ℤ cy +ℤ w *ℤ cz) +ℤ n *ℤ (u *ℤ dx +ℤ v *ℤ dy +ℤ w *ℤ dz)
-combined_dot k l m n u v w ax ay az bx by bz cx cy cz dx dy dz = simp ring_rules
-
 -- numbers below P do not balance to P
 lower_weights : (k l m n : ℕ) (P A B C D : ℤ) → pos (k + l + m + n) *ℤ P ≡ pos k *ℤ A +ℤ pos l *ℤ B +ℤ pos m *ℤ C +ℤ pos n *ℤ D → 0 < k + l + m + n → A <ℤ P
     → B <ℤ P → C <ℤ P → D <ℤ P → ⊥
@@ -142,12 +122,11 @@ lower_weights k l m n P A B C D e h a b c d =
 pub all_lower : (at : ℕ → Vector) (A : ℕ → Type 0) (p w : Vector) (m : Combination at A p)
     → dot w (at m.a) <ℤ dot w p → dot w (at m.b) <ℤ dot w p → dot w (at m.c) <ℤ dot w p → dot w (at m.d) <ℤ dot w p → ⊥
 all_lower at A p w m = lower_weights m.w1 m.w2 m.w3 m.w4 (dot w p) (dot w (at m.a)) (dot w (at m.b)) (dot w (at m.c)) (dot w (at m.d))
-    (scaled_dot W w.x w.y w.z p.x p.y p.z
+    ((simp ring_rules (omega (arith, ints)))
     ∙ ap (λ t. w.x *ℤ t +ℤ w.y *ℤ (W *ℤ p.y) +ℤ w.z *ℤ (W *ℤ p.z)) m.x
     ∙ ap (λ t. w.x *ℤ side (λ q. q.x) +ℤ w.y *ℤ t +ℤ w.z *ℤ (W *ℤ p.z)) m.y
     ∙ ap (λ t. w.x *ℤ side (λ q. q.x) +ℤ w.y *ℤ side (λ q. q.y) +ℤ w.z *ℤ t) m.z
-    ∙ combined_dot (pos m.w1) (pos m.w2) (pos m.w3) (pos m.w4) w.x w.y w.z (at m.a).x (at m.a).y (at m.a).z (at m.b).x
-    (at m.b).y (at m.b).z (at m.c).x (at m.c).y (at m.c).z (at m.d).x (at m.d).y (at m.d).z)
+    ∙ simp ring_rules (omega (arith, ints)))
     m.some_weight
   where
     W : ℤ

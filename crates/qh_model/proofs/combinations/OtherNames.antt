@@ -3,11 +3,6 @@ use Rattle.std.proofs.Common.{◌≡◌, ℕ, ap}
 use Rattle.std.specs.Prelude.{ℤ}
 use Rattle.qh_model.specs.headline.{Combination.Combination, Combination.IsBalanced, Vector.Vector}
 
--- along one coordinate, with other names of the same numbers
-balanced_as : (w1 w2 w3 w4 : ℕ) (p a b c d a' b' c' d' : ℤ) → a' ≡ a → b' ≡ b → c' ≡ c → d' ≡ d
-    → IsBalanced w1 w2 w3 w4 p a b c d → IsBalanced w1 w2 w3 w4 p a' b' c' d'
-balanced_as w1 w2 w3 w4 p a b c d a' b' c' d' e f g h m = cc
-
 -- f names the members, with the same points
 pub combination_by_names : (at at' : ℕ → Vector) (A B : ℕ → Type 0) (f : ℕ → ℕ) → ((j : ℕ) → A j → B (f j)) → ((j : ℕ) → A j → at' (f j) ≡ at j)
     → (p : Vector) → Combination at A p → Combination at' B p
@@ -32,6 +27,4 @@ combination_by_names at at' A B f named same p m = record {
   where
     along : (h : Vector → ℤ) (n : ℤ) → IsBalanced m.w1 m.w2 m.w3 m.w4 n (h (at m.a)) (h (at m.b)) (h (at m.c)) (h (at m.d))
         → IsBalanced m.w1 m.w2 m.w3 m.w4 n (h (at' (f m.a))) (h (at' (f m.b))) (h (at' (f m.c))) (h (at' (f m.d)))
-    along h n =
-        balanced_as m.w1 m.w2 m.w3 m.w4 n _ _ _ _ _ _ _ _
-        (ap h (same m.a m.has_a)) (ap h (same m.b m.has_b)) (ap h (same m.c m.has_c)) (ap h (same m.d m.has_d))
+    along h n e = cc (e, ap h (same m.a m.has_a), ap h (same m.b m.has_b), ap h (same m.c m.has_c), ap h (same m.d m.has_d))

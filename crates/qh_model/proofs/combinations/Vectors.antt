@@ -1,5 +1,5 @@
 -- Vectors of any dimension, and the projection along one of them.
-use Rattle.std.proofs.Common.{◌≡◌, ℕ, zero, suc, ◌+◌, ◌*◌, arith, refl, sym, ap, ◌∙◌, ◌⊎◌, inl, inr}
+use Rattle.std.proofs.Common.{◌≡◌, ℕ, zero, suc, ◌+◌, ◌*◌, arith, refl, sym, ap, ◌∙◌, ◌⊎◌, inl, inr, ⊎_elim}
 use Rattle.std.proofs.lemmas.Int.{ints}
 use Rattle.std.specs.Prelude.{ℤ, pos, negsuc, ◌+ℤ◌, ◌*ℤ◌, neg_ℤ, ◌<ℤ◌, ◌≤ℤ◌}
 use lib.IntN.{*ℤ_comm, zero-*ℤ, *ℤ-zero, +ℤ_idl, +ℤ_idr}
@@ -25,36 +25,24 @@ abbrev pub nil : (n : ℕ) → V n
 nil zero = tt
 nil (suc n) = (pos 0, nil n)
 
--- a step of the next
-lin_step : (a b u v x D E : ℤ) → (a *ℤ u +ℤ b *ℤ v) *ℤ x +ℤ (a *ℤ D +ℤ b *ℤ E) ≡ a *ℤ (u *ℤ x +ℤ D) +ℤ b *ℤ (v *ℤ x +ℤ E)
-lin_step a b u v x D E = simp ring_rules
-
 -- scalar products are linear
 pub dot_lin : (n : ℕ) (a b : ℤ) (u v x : V n) → dot n (lin n a u b v) x ≡ a *ℤ dot n u x +ℤ b *ℤ dot n v x
 dot_lin zero a b u v x = omega (arith, ints)
-dot_lin (suc n) a b u v x = ap (λ t. (a *ℤ u.0 +ℤ b *ℤ v.0) *ℤ x.0 +ℤ t) (dot_lin n a b u.1 v.1 x.1) ∙ lin_step a b u.0 v.0 x.0 (dot n u.1 x.1) (dot n v.1 x.1)
-
--- a step of the next
-comm_step : (u x D E : ℤ) → D ≡ E → u *ℤ x +ℤ D ≡ x *ℤ u +ℤ E
-comm_step u x D E e = rw (e, *ℤ_comm u x)
+dot_lin (suc n) a b u v x = ap (λ t. (a *ℤ u.0 +ℤ b *ℤ v.0) *ℤ x.0 +ℤ t) (dot_lin n a b u.1 v.1 x.1) ∙ simp ring_rules
 
 -- they commute
 pub dot_comm : (n : ℕ) (u x : V n) → dot n u x ≡ dot n x u
 dot_comm zero u x = refl
-dot_comm (suc n) u x = comm_step u.0 x.0 _ _ (dot_comm n u.1 x.1)
+dot_comm (suc n) u x = rw (dot_comm n u.1 x.1, *ℤ_comm u.0 x.0)
 
 -- they are linear on the right
 pub dot_lin_right : (n : ℕ) (a b : ℤ) (x u v : V n) → dot n x (lin n a u b v) ≡ a *ℤ dot n x u +ℤ b *ℤ dot n x v
 dot_lin_right n a b x u v = dot_comm n x (lin n a u b v) ∙ dot_lin n a b u v x ∙ rw (dot_comm n u x, dot_comm n v x)
 
--- a step of the next
-nil_step : (x D : ℤ) → D ≡ pos 0 → pos 0 *ℤ x +ℤ D ≡ pos 0
-nil_step x D e = rw (e, zero-*ℤ x)
-
 -- the zeros have none
 pub dot_nil : (n : ℕ) (x : V n) → dot n (nil n) x ≡ pos 0
 dot_nil zero x = refl
-dot_nil (suc n) x = nil_step x.0 _ (dot_nil n x.1)
+dot_nil (suc n) x = rw (dot_nil n x.1, zero-*ℤ x.0)
 
 -- a vector's square is not below 0
 pub dot_self : (n : ℕ) (x : V n) → pos 0 ≤ℤ dot n x x
@@ -73,36 +61,20 @@ pub record Cut (n : ℕ) (d : V (suc n)) : Type 0 where
   pub rest : V (suc n) → V n
   pub splits : (u x : V (suc n)) → pos (suc scale) *ℤ dot (suc n) u x ≡ dot (suc n) u d *ℤ dot (suc n) along x +ℤ dot n (rest u) (project x)
 
--- lifting, for a vector with head h
-lift_head : (h x D E : ℤ) → neg_ℤ E *ℤ x +ℤ (h *ℤ D +ℤ pos 0 *ℤ D) ≡ h *ℤ D +ℤ neg_ℤ x *ℤ E
-lift_head h x D E = simp ring_rules (omega (arith, ints))
-
--- what is lifted is at right angles to that vector
-kill_head : (h E : ℤ) → neg_ℤ E *ℤ h +ℤ (h *ℤ E +ℤ pos 0 *ℤ E) ≡ pos 0
-kill_head h E = simp ring_rules (omega (arith, ints))
-
--- whose square is positive
-grow_head : (k : ℕ) (h D : ℤ) → pos (suc k) ≡ h *ℤ h → pos 0 ≤ℤ D → pos 0 <ℤ (h *ℤ h +ℤ D)
-grow_head k h D e l = rw (← e) (omega (arith, ints))
-
--- and splits scalar products
-split_head : (h u x D E : ℤ) → (h *ℤ h) *ℤ (u *ℤ x +ℤ D) ≡ (u *ℤ h +ℤ E) *ℤ (h *ℤ x) +ℤ h *ℤ (h *ℤ D +ℤ neg_ℤ x *ℤ E)
-split_head h u x D E = simp ring_rules (omega (arith, ints))
-
 -- the cut along a vector whose head is not 0
 by_head : (n k : ℕ) (h : ℤ) (t : V n) → pos (suc k) ≡ h *ℤ h → Cut n (h, t)
 by_head n k h t e = record {
   project = λ x. lin n h x.1 (neg_ℤ x.0) t;
   lift = λ u. (neg_ℤ (dot n u t), lin n h u (pos 0) u);
   lifts = λ u x. ap (λ s. neg_ℤ (dot n u t) *ℤ x.0 +ℤ s) (dot_lin n h (pos 0) u u x.1)
-      ∙ lift_head h x.0 (dot n u x.1) (dot n u t) ∙ sym (dot_lin_right n h (neg_ℤ x.0) u x.1 t);
-  kills = λ u. ap (λ s. neg_ℤ (dot n u t) *ℤ h +ℤ s) (dot_lin n h (pos 0) u u t) ∙ kill_head h (dot n u t);
-  grows = grow_head k h (dot n t t) e (dot_self n t);
+      ∙ (simp ring_rules (omega (arith, ints))) ∙ sym (dot_lin_right n h (neg_ℤ x.0) u x.1 t);
+  kills = λ u. ap (λ s. neg_ℤ (dot n u t) *ℤ h +ℤ s) (dot_lin n h (pos 0) u u t) ∙ simp ring_rules (omega (arith, ints));
+  grows = rw (← e) (omega (arith, ints, dot_self n t));
   scale = k;
   along = (h, nil n);
   rest = λ u. lin n h u.1 (pos 0) u.1;
   splits = λ u x. ap (λ s. s *ℤ (u.0 *ℤ x.0 +ℤ dot n u.1 x.1)) e
-      ∙ split_head h u.0 x.0 (dot n u.1 x.1) (dot n u.1 t)
+      ∙ (simp ring_rules (omega (arith, ints)))
       ∙ ap (λ s. (u.0 *ℤ h +ℤ dot n u.1 t) *ℤ s +ℤ h *ℤ (h *ℤ dot n u.1 x.1 +ℤ neg_ℤ x.0 *ℤ dot n u.1 t))
       (sym (ap (λ s. h *ℤ x.0 +ℤ s) (dot_nil n x.1) ∙ +ℤ_idr (h *ℤ x.0)))
       ∙ ap (λ s. (u.0 *ℤ h +ℤ dot n u.1 t) *ℤ (h *ℤ x.0 +ℤ dot n (nil n) x.1) +ℤ s)
@@ -142,10 +114,6 @@ flat_tail n t f u = flat_head u.0 _ (f u.1)
 -- a vector is zero, or the space can be cut along it
 pub cut : (n : ℕ) (d : V (suc n)) → Flat (suc n) d ⊎ Cut n d
 cut zero (pos zero, t) = inl (flat_tail zero t (λ u. refl))
-cut (suc n) (pos zero, t) = by_cases n t (cut n t)
-  where
-    by_cases : (n : ℕ) (t : V (suc n)) → Flat (suc n) t ⊎ Cut n t → Flat (suc (suc n)) (pos 0, t) ⊎ Cut (suc n) (pos 0, t)
-    by_cases n t (inl f) = inl (flat_tail (suc n) t f)
-    by_cases n t (inr c) = inr (by_tail n t c)
+cut (suc n) (pos zero, t) = ⊎_elim (λ f. inl (flat_tail (suc n) t f)) (λ c. inr (by_tail n t c)) (cut n t)
 cut n (pos (suc k), t) = inr (by_head n (k * k + k + k) (pos (suc k)) t (omega (arith, ints)))
 cut n (negsuc k, t) = inr (by_head n (k * k + k + k) (negsuc k) t (omega (arith, ints)))

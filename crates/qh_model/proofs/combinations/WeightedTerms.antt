@@ -1,5 +1,5 @@
 -- Weighted members of a list, and the theorem of alternatives in any dimension.
-use Rattle.std.proofs.Common.{◌≡◌, ℕ, zero, suc, ◌+◌, ◌*◌, ◌<◌, ◌≤◌, arith, refl, sym, ap, ◌∙◌, ◌⊎◌, inl, inr, List, [], ◌∷◌}
+use Rattle.std.proofs.Common.{◌≡◌, ℕ, zero, suc, ◌+◌, ◌*◌, ◌<◌, ◌≤◌, arith, refl, sym, ap, ◌∙◌, ◌⊎◌, inl, inr, ⊎_elim, List, [], ◌∷◌}
 use Rattle.std.proofs.{Math.Nat.mul-le-mul_left, lemmas.Int.ints, lemmas.Int.by_lt_z}
 use Rattle.std.specs.List.{AllByRecursion as Every}
 use Rattle.std.specs.Prelude.{ℤ, pos, negsuc, ◌+ℤ◌, ◌*ℤ◌, neg_ℤ, nat_abs, ◌<ℤ◌, ◌≤ℤ◌}
@@ -71,30 +71,18 @@ pub total_linear : {A : Type 0} (α c : ℤ) (g q r : A → ℤ) → ((a : A) �
 total_linear α c g q r e [] = *ℤ-zero α ∙ sym (*ℤ-zero c) ∙ sym (+ℤ_idr (c *ℤ pos 0))
 total_linear α c g q r e (t ∷ ts) = linear_step α c (pos t.0) (g t.1) (q t.1) (r t.1) _ _ _ (e t.1) (total_linear α c g q r e ts)
 
--- a step of the next
-below_step : (m W : ℕ) (g G : ℤ) → g <ℤ pos 0 → (G +ℤ pos W) ≤ℤ pos 0 → (pos m *ℤ g +ℤ G +ℤ pos (m + W)) ≤ℤ pos 0
-below_step m W g G h k = omega (arith, ints, mul-le-mul_left m (lt_out g (pos 0) h))
-
 -- negative values have a total of at most minus the weight
 total_below : {A : Type 0} (g : A → ℤ) (xs : List A) (ts : List (ℕ × A)) → Every (λ a. g a <ℤ pos 0) xs → Among xs ts → (total g ts +ℤ pos (weight ts)) ≤ℤ pos 0
 total_below g xs [] h k = omega (arith, ints)
-total_below g xs (t ∷ ts) h k = below_step t.0 (weight ts) (g t.1) (total g ts) (every_at (λ a. g a <ℤ pos 0) xs t.1 h k.0) (total_below g xs ts h k.1)
-
--- a bound stays one
-bound_more : (N M : ℕ) (x : ℤ) → neg_ℤ x <ℤ pos N → neg_ℤ x <ℤ pos (M + N)
-bound_more N M x h = omega (arith, ints)
-
--- a bound of one number
-bound_here : (N : ℕ) (x : ℤ) → neg_ℤ x <ℤ pos (suc (nat_abs x) + N)
-bound_here N x = omega (arith, ints)
+total_below g xs (t ∷ ts) h k =
+    omega (arith, ints, mul-le-mul_left t.0 (lt_out (g t.1) (pos 0) (every_at (λ a. g a <ℤ pos 0) xs t.1 h k.0)), total_below g xs ts h k.1)
 
 -- a number beyond -g at every member
 pub bound : {A : Type 0} (g : A → ℤ) (xs : List A) → (N : ℕ) × Every (λ a. neg_ℤ (g a) <ℤ pos N) xs
 bound g [] = (1, tt)
-bound g (a ∷ xs) = grown (bound g xs)
-  where
-    grown : (N : ℕ) × Every (λ a. neg_ℤ (g a) <ℤ pos N) xs → (N : ℕ) × Every (λ a. neg_ℤ (g a) <ℤ pos N) (a ∷ xs)
-    grown b = (suc (nat_abs (g a)) + b.0, (bound_here b.0 (g a), every_map _ _ xs (λ c h. bound_more b.0 (suc (nat_abs (g a))) (g c) h) b.1))
+bound g (a ∷ xs) =
+    let b = bound g xs in
+    (suc (nat_abs (g a)) + b.0, (omega (arith, ints), every_map (λ c. neg_ℤ (g c) <ℤ pos b.0) _ xs (λ c h. omega (arith, ints, h)) b.1))
 
 -- ---- the theorem in dimension n: of the vectors f a, some n + 1 with weights add to zero, or some w is strictly below zero on each
 pub record Balanced (A : Type 0) (n : ℕ) (f : A → V n) (xs : List A) : Type 0 where
@@ -109,13 +97,9 @@ pub record Separated (A : Type 0) (n : ℕ) (f : A → V n) (xs : List A) : Type
   pub w : V n
   pub below : Every (λ a. dot n w (f a) <ℤ pos 0) xs
 
--- the total of one that is 0
-alone_total : (D : ℤ) → D ≡ pos 0 → pos 1 *ℤ D +ℤ pos 0 ≡ pos 0
-alone_total D e = rw e refl
-
 -- a vector that is 0 balances alone
 pub alone : {A : Type 0} (n : ℕ) (f : A → V n) (a : A) (xs : List A) → Flat n (f a) → Balanced A n f (a ∷ xs)
-alone n f a xs z = record { terms = (1, a) ∷ []; among = (inl refl, tt); few = omega arith; heavy = omega arith; sums = λ u. alone_total _ (z u) }
+alone n f a xs z = record { terms = (1, a) ∷ []; among = (inl refl, tt); few = omega arith; heavy = omega arith; sums = λ u. rw (z u) }
 
 -- a scaled separator outweighs g
 lifted_below : (N : ℕ) (W g : ℤ) → W <ℤ pos 0 → neg_ℤ g <ℤ pos N → (pos N *ℤ W +ℤ negsuc 0 *ℤ g) <ℤ pos 0
@@ -160,10 +144,6 @@ sign k (negsuc t) (negsuc d) (pos m) e h l = absurd (omega (arith, ints))
 two_cancel : (m : ℕ) (D : ℤ) → pos (suc m) *ℤ D +ℤ D *ℤ negsuc m ≡ pos 0
 two_cancel m D = omega (arith, ints)
 
--- a positive weight brings the total below 0
-weight_below : (W : ℕ) (T : ℤ) → 0 < W → (T +ℤ pos W) ≤ℤ pos 0 → T <ℤ pos 0
-weight_below W T h k = omega (arith, ints)
-
 -- a mix of the projected vectors, with the vector of the cut
 mixed : {A : Type 0} (n : ℕ) (f : A → V (suc n)) (a : A) (xs : List A) (s : Separated A (suc n) f xs) → pos 0 ≤ℤ dot (suc n) s.w (f a)
     → (c : Cut n (f a)) → Balanced A n (λ b. c.project (f b)) xs → Balanced A (suc n) f (a ∷ xs)
@@ -187,34 +167,25 @@ mixed {A} n f a xs s l c m = record {
 
     κ : (k : ℕ) × (K ≡ negsuc k)
     κ = sign c.scale (total (λ b. dot (suc n) s.w (f b)) m.terms) (dot (suc n) s.w (f a)) K (law s.w)
-        (weight_below (weight m.terms) _ m.heavy (total_below (λ b. dot (suc n) s.w (f b)) xs m.terms s.below m.among))
+        (omega (arith, ints, m.heavy, total_below (λ b. dot (suc n) s.w (f b)) xs m.terms s.below m.among))
         l
-
--- a balanced list, with one more
-with_more : {A : Type 0} (n : ℕ) (f : A → V n) (a : A) (xs : List A) → Balanced A n f xs → Balanced A n f (a ∷ xs)
-with_more n f a xs m = record { terms = m.terms; among = among_more a xs m.terms m.among; few = m.few; heavy = m.heavy; sums = m.sums }
 
 -- one or the other
 abbrev Claim : (A : Type 0) → ℕ → Type 0
 Claim A n = (f : A → V n) (xs : List A) → Balanced A n f xs ⊎ Separated A n f xs
 
--- one more vector, by the answer one dimension lower
-projected : {A : Type 0} (n : ℕ) (f : A → V (suc n)) (a : A) (xs : List A) (s : Separated A (suc n) f xs) → pos 0 ≤ℤ dot (suc n) s.w (f a)
-    → (c : Cut n (f a)) → Balanced A n (λ b. c.project (f b)) xs ⊎ Separated A n (λ b. c.project (f b)) xs
-    → Balanced A (suc n) f (a ∷ xs) ⊎ Separated A (suc n) f (a ∷ xs)
-projected n f a xs s l c (inl m) = inl (mixed n f a xs s l c m)
-projected n f a xs s l c (inr p) = inr (parted n f a xs c p)
-
--- it is 0, or the space is cut along it
+-- one more vector: it is 0, or the space is cut along it, and the answer is that one dimension lower
 flat_or_cut : {A : Type 0} (n : ℕ) → Claim A n → (f : A → V (suc n)) (a : A) (xs : List A) (s : Separated A (suc n) f xs) → pos 0 ≤ℤ dot (suc n) s.w (f a)
     → Flat (suc n) (f a) ⊎ Cut n (f a) → Balanced A (suc n) f (a ∷ xs) ⊎ Separated A (suc n) f (a ∷ xs)
 flat_or_cut n low f a xs s l (inl z) = inl (alone (suc n) f a xs z)
-flat_or_cut n low f a xs s l (inr c) = projected n f a xs s l c (low (λ b. c.project (f b)) xs)
+flat_or_cut n low f a xs s l (inr c) =
+    ⊎_elim (λ m. inl (mixed n f a xs s l c m)) (λ p. inr (parted n f a xs c p)) (low (λ b. c.project (f b)) xs)
 
 -- it is below 0 as well, or not
 one_more : {A : Type 0} (n : ℕ) → Claim A n → (f : A → V (suc n)) (a : A) (xs : List A) → Balanced A (suc n) f xs ⊎ Separated A (suc n) f xs
     → Balanced A (suc n) f (a ∷ xs) ⊎ Separated A (suc n) f (a ∷ xs)
-one_more n low f a xs (inl m) = inl (with_more (suc n) f a xs m)
+one_more n low f a xs (inl m) =
+    inl (record { terms = m.terms; among = among_more a xs m.terms m.among; few = m.few; heavy = m.heavy; sums = m.sums })
 one_more n low f a xs (inr s) =
     by_lt_z (dot (suc n) s.w (f a)) (pos 0) (λ h. inr (record { w = s.w; below = (h, s.below) })) (λ l. flat_or_cut n low f a xs s l (cut n (f a)))
 

@@ -1,13 +1,13 @@
 -- A set has one dimension, and what combines to a set has its tetrahedra, triangles and segments.
 use Rattle.std.proofs.{Common.◌≡◌, Common.◌≢◌, Common.ℕ, Common.arith, Common.ap, Common.sym, Common.subst, Common.◌∙◌, Common.inl, Common.inr, lemmas.Int.ints}
-use Rattle.std.specs.Prelude.{ℤ, pos, ◌+ℤ◌, ◌-ℤ◌, neg_ℤ}
+use Rattle.std.specs.Prelude.{pos, ◌-ℤ◌, neg_ℤ}
 use Rattle.qh_model.specs.{contract.IdSets.HasDistinctPoints, headline.Combination.Combination}
 use Rattle.qh_model.specs.headline.Dimension.{HasTetrahedron, HasTriangle, HasSegment, IsDimension}
 use Rattle.qh_model.specs.headline.{Predicates.cross, Predicates.vol, Predicates.left, Predicates.AreInLine, Sets.Members, Vector.Vector, Vector.origin}
 use Rattle.qh_model.specs.{headline.Vector.minus, headline.Vector.cross_product, headline.Vector.dot, laws.DimensionLaws.DimensionIsUnique}
 use Rattle.qh_model.proofs.algebra.Ring.{equal_from_zero}
 use Rattle.qh_model.proofs.algebra.VectorIdentities.{vol-linear, vol-first_last, vol-second_last, vol-third_last, left-dot, left-linear, left-turn, in_line-vol}
-use Rattle.qh_model.proofs.algebra.VectorIdentities.{in_line-left, in_line-twice, opposite, dot-opposite}
+use Rattle.qh_model.proofs.algebra.VectorIdentities.{in_line-left, in_line-twice, opposite, dot-opposite, dot_comm}
 use Rattle.qh_model.proofs.extremes.{AffineForms.Form, AffineForms.form_as, AffineForms.NonZero, AffineForms.non_zero_member, Axes.Differ, Axes.differ}
 
 -- each member of A is a convex combination of members of E
@@ -69,23 +69,21 @@ triangle_about at A E m h n d = third (non_zero_member at E (at h.k) (m h.k h.ha
 
 -- a set with a triangle has one of what combines to it
 pub triangle_of : (at : ℕ → Vector) (A E : ℕ → Type 0) → AreCombinations at A E → HasTriangle at A → HasTriangle at E
-triangle_of at A E m h = along (differ (cross (at h.i) (at h.j) (at h.k)) origin h.area)
-  where
-    commuted : (n p q : Vector) → dot n p ≡ dot p n
-    commuted n p q = omega (arith, ints)
-
-    along : Differ (cross (at h.i) (at h.j) (at h.k)) origin → HasTriangle at E
-    along d = triangle_about at A E m h d.axis
-        (λ e. d.differs (commuted d.axis (cross (at h.i) (at h.j) (at h.k)) origin
-        ∙ sym (left-dot d.axis (at h.i) (at h.j) (at h.k)) ∙ e ∙ sym (omega (arith, ints))))
+triangle_of at A E m h =
+    let d = differ (cross (at h.i) (at h.j) (at h.k)) origin h.area in
+    triangle_about at A E m h d.axis (λ e. d.differs (dot_comm d.axis (cross (at h.i) (at h.j) (at h.k))
+    ∙ sym (left-dot d.axis (at h.i) (at h.j) (at h.k)) ∙ e ∙ sym (omega (arith, ints))))
 
 -- ---- two points
 -- a set of two has two of what combines to it
 pub segment_of : (at : ℕ → Vector) (A E : ℕ → Type 0) → HasDistinctPoints at A → AreCombinations at A E → HasSegment A → HasSegment E
-segment_of at A E d m h = along (differ (at h.i) (at h.j) (λ e. h.differ (d h.i h.j h.has_i h.has_j e)))
+segment_of at A E d m h =
+    first k.axis (non_zero_member at E (at h.i) (m h.i h.has_i) (λ q. dot k.axis q -ℤ dot k.axis (at h.j))
+    (record { u = k.axis; c = neg_ℤ (dot k.axis (at h.j)); is = λ q. omega (arith, ints) })
+    (λ e. k.differs (equal_from_zero (dot k.axis (at h.i)) (dot k.axis (at h.j)) e)))
   where
-    plus_neg : (a b : ℤ) → a -ℤ b ≡ a +ℤ neg_ℤ b
-    plus_neg a b = omega (arith, ints)
+    k : Differ (at h.i) (at h.j)
+    k = differ (at h.i) (at h.j) (λ e. h.differ (d h.i h.j h.has_i h.has_j e))
 
     second : (u : Vector) (i' : ℕ) → E i' → NonZero at E (λ q. dot u (at i') -ℤ dot u q) → HasSegment E
     second u i' ei r = record { i = i'; j = r.e; has_i = ei; has_j = r.has; differ = λ e. r.differs (omega (arith, ints, ap (λ t. dot u (at t)) e)) }
@@ -93,21 +91,7 @@ segment_of at A E d m h = along (differ (at h.i) (at h.j) (λ e. h.differ (d h.i
     first : (u : Vector) → NonZero at E (λ q. dot u q -ℤ dot u (at h.j)) → HasSegment E
     first u r = second u r.e r.has
         (non_zero_member at E (at h.j) (m h.j h.has_j) (λ q. dot u (at r.e) -ℤ dot u q)
-        (record {
-          u = opposite u;
-          c = dot u (at r.e);
-          is = λ q. omega (arith, ints, dot-opposite u q);
-        }) r.differs)
-
-    along : Differ (at h.i) (at h.j) → HasSegment E
-    along k = first k.axis
-        (non_zero_member at E (at h.i) (m h.i h.has_i) (λ q. dot k.axis q -ℤ dot k.axis (at h.j))
-        (record {
-          u = k.axis;
-          c = neg_ℤ (dot k.axis (at h.j));
-          is = λ q. plus_neg (dot k.axis q) (dot k.axis (at h.j));
-        }) (λ e.
-        k.differs (equal_from_zero (dot k.axis (at h.i)) (dot k.axis (at h.j)) e)))
+        (record { u = opposite u; c = dot u (at r.e); is = λ q. omega (arith, ints, dot-opposite u q) }) r.differs)
 
 -- ---- one dimension
 -- corners of a tetrahedron are not in line, and corners of a triangle differ

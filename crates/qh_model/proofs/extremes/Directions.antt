@@ -1,29 +1,23 @@
 -- Directions up to a positive scale, and the normals of triangles in one plane.
 use Rattle.std.proofs.Common.{◌≡◌, ◌≢◌, ℕ, zero, suc, ◌<◌, arith, refl, sym, ap, subst, ◌∙◌, ◌⊎◌, inl, inr, [], ◌∷◌, ⊎_elim}
 use Rattle.std.proofs.lemmas.Int.{ints, by_lt_z}
-use Rattle.std.specs.Prelude.{ℤ, pos, negsuc, ◌+ℤ◌, ◌*ℤ◌, neg_ℤ, ◌<ℤ◌, ◌≤ℤ◌}
+use Rattle.std.specs.Prelude.{ℤ, pos, negsuc, ◌*ℤ◌, neg_ℤ, ◌<ℤ◌, ◌≤ℤ◌}
 use Rattle.qh_model.specs.headline.{Predicates.cross, Predicates.vol, Predicates.left, Predicates.AreInLine, Vector.Vector, Vector.origin, Vector.minus}
 use Rattle.qh_model.specs.{headline.Vector.cross_product, headline.Vector.dot, laws.FaceLaws.IsAlong}
-use Rattle.qh_model.proofs.algebra.{Integers.zero_mul, Order.mul-nonneg}
+use Rattle.qh_model.proofs.algebra.{Integers.zero_mul, Integers.neg_mul, Integers.mul_neg, Order.mul-nonneg, Order.mul-nonneg_nonpos}
 use Rattle.qh_model.proofs.algebra.Order.{mul-pos, cancel-nonneg, cancel-nonpos, cancel-pos, cancel-zero, le_antisym, square-nonneg, neg-positive, product_zero}
 use Rattle.qh_model.proofs.algebra.Ring.{ring, Expr.var, Expr.con, Expr.add, Expr.sub as less, Expr.mul, Expr.neg}
-use Rattle.qh_model.proofs.algebra.{Signs.equal_nonpos, Signs.equal_positive, VectorIdentities.vec, VectorIdentities.put}
+use Rattle.qh_model.proofs.algebra.{Signs.equal_positive, VectorIdentities.vec, VectorIdentities.put}
 use Rattle.qh_model.proofs.algebra.VectorIdentities.{dotE, crossE, subE, combine3, opposite, vector_path, dot-minus, vol-dot, vol-linear, left-dot, dot_comm}
 
 -- ---- signs under a positive scale
 -- where s v = t w with positive s and t, v and w have one sign
 pub at_most_along : (s t : ℕ) (v w : ℤ) → 0 < s → 0 < t → pos s *ℤ v ≡ pos t *ℤ w → v ≤ℤ pos 0 → w ≤ℤ pos 0
-at_most_along s t v w h k e l = cancel-nonpos (pos t) w (omega (arith, ints)) (equal_nonpos (pos s *ℤ v) (pos t *ℤ w) e (times_le s v h l))
-  where
-    times_le : (s : ℕ) (v : ℤ) → 0 < s → v ≤ℤ pos 0 → (pos s *ℤ v) ≤ℤ pos 0
-    times_le s v h l = grind (arith, ints)
+at_most_along s t v w h k e l = cancel-nonpos (pos t) w (omega (arith, ints)) (subst (λ x. x ≤ℤ pos 0) e (mul-nonneg_nonpos (pos s) v (omega (arith, ints)) l))
 
 -- not below 0
 pub at_least_along : (s t : ℕ) (v w : ℤ) → 0 < s → 0 < t → pos s *ℤ v ≡ pos t *ℤ w → pos 0 ≤ℤ v → pos 0 ≤ℤ w
-at_least_along s t v w h k e l = cancel-nonneg (pos t) w (omega (arith, ints)) (subst (λ x. pos 0 ≤ℤ x) e (mul-nonneg (pos s) v (above_zero s) l))
-  where
-    above_zero : (s : ℕ) → pos 0 ≤ℤ pos s
-    above_zero s = omega (arith, ints)
+at_least_along s t v w h k e l = cancel-nonneg (pos t) w (omega (arith, ints)) (subst (λ x. pos 0 ≤ℤ x) e (mul-nonneg (pos s) v (omega (arith, ints)) l))
 
 -- above 0
 pub positive_along : (s t : ℕ) (v w : ℤ) → 0 < s → 0 < t → pos s *ℤ v ≡ pos t *ℤ w → pos 0 <ℤ v → pos 0 <ℤ w
@@ -118,17 +112,15 @@ square-zero (negsuc n) h = absurd (omega (arith, ints))
 pub square-positive : (n : Vector) → n ≢ origin → pos 0 <ℤ dot n n
 square-positive n h = by_lt_z (pos 0) (dot n n) (λ q. q) (λ q. absurd (h (flat q)))
   where
-    first : (x y z : ℤ) → pos 0 ≤ℤ x → pos 0 ≤ℤ y → pos 0 ≤ℤ z → (x +ℤ y +ℤ z) ≤ℤ pos 0 → (x ≤ℤ pos 0) × (y ≤ℤ pos 0) × (z ≤ℤ pos 0)
-    first x y z a b c d = (omega (arith, ints), omega (arith, ints), omega (arith, ints))
-
     flat : dot n n ≤ℤ pos 0 → n ≡ origin
-    flat q = let f = first (n.x *ℤ n.x) (n.y *ℤ n.y) (n.z *ℤ n.z) (square-nonneg n.x) (square-nonneg n.y) (square-nonneg n.z) q in
-        vector_path n origin (square-zero n.x f.0) (square-zero n.y f.1) (square-zero n.z f.2)
+    flat q =
+        let x = square-nonneg n.x in let y = square-nonneg n.y in let z = square-nonneg n.z in
+        vector_path n origin (square-zero n.x (omega (arith, ints))) (square-zero n.y (omega (arith, ints))) (square-zero n.z (omega (arith, ints)))
 
 -- a vector parallel to n has its direction or the opposite one
 pub along_or_opposite : (n r : Vector) → n ≢ origin → r ≢ origin → Parallel n r → IsAlong n r ⊎ IsAlong n (opposite r)
 along_or_opposite n r h k e = by_lt_z (pos 0) s (λ l. inl (along_by n r s t l p (sym e.x) (sym e.y) (sym e.z)))
-    (λ l. by_lt_z s (pos 0) (λ q. inr (along_by n (opposite r) (neg_ℤ s) t (above q) p (turned n.x r.x e.x) (turned n.y r.y e.y)
+    (λ l. by_lt_z s (pos 0) (λ q. inr (along_by n (opposite r) (neg_ℤ s) t (neg-positive s q) p (turned n.x r.x e.x) (turned n.y r.y e.y)
     (turned n.z r.z e.z))) (λ q. absurd (k (flat (le_antisym s (pos 0) l q)))))
   where
     s : ℤ
@@ -140,16 +132,8 @@ along_or_opposite n r h k e = by_lt_z (pos 0) s (λ l. inl (along_by n r s t l p
     p : pos 0 <ℤ t
     p = square-positive n h
 
-    above : s <ℤ pos 0 → pos 0 <ℤ neg_ℤ s
-    above q = neg-positive s q
-
     turned : (x y : ℤ) → t *ℤ y ≡ s *ℤ x → neg_ℤ s *ℤ x ≡ t *ℤ neg_ℤ y
-    turned x y e = signs s t x y e
-      where
-        signs : (s t x y : ℤ) → t *ℤ y ≡ s *ℤ x → neg_ℤ s *ℤ x ≡ t *ℤ neg_ℤ y
-        signs s t x y e =
-            ring (s ∷ t ∷ x ∷ y ∷ []) (mul (neg (var 0)) (var 2)) (neg (mul (var 0) (var 2))) refl ∙ ap neg_ℤ (sym e)
-            ∙ ring (s ∷ t ∷ x ∷ y ∷ []) (neg (mul (var 1) (var 3))) (mul (var 1) (neg (var 3))) refl
+    turned x y e = neg_mul s x ∙ ap neg_ℤ (sym e) ∙ sym (mul_neg t y)
 
     none : (x y : ℤ) → t *ℤ y ≡ s *ℤ x → s ≡ pos 0 → y ≡ pos 0
     none x y e z = cancel-zero t y p (e ∙ ap (λ v. v *ℤ x) z ∙ zero_mul x)
@@ -183,12 +167,7 @@ normal_along n a b c h k e f =
 
 -- the difference of two points from one of them in the plane
 pub from_plane : (a b c p l : Vector) → vol a b c p ≡ pos 0 → dot (cross a b c) (minus l p) ≡ vol a b c l
-from_plane a b c p l z =
-    level (vol a b c l) (vol a b c p) (dot (cross a b c) l) (dot (cross a b c) p) (dot (cross a b c) a) _
-    (vol-linear a b c l) (vol-linear a b c p) (dot-minus (cross a b c) l p) z
-  where
-    level : (v w d e f m : ℤ) → v ≡ d +ℤ neg_ℤ f → w ≡ e +ℤ neg_ℤ f → m ≡ d +ℤ neg_ℤ e → w ≡ pos 0 → m ≡ v
-    level v w d e f m h k l z = omega (arith, ints)
+from_plane a b c p l z = rw (dot-minus (cross a b c) l p) (omega (arith, ints, vol-linear a b c l, vol-linear a b c p, z))
 
 -- volumes over two triangles of one plane and one direction
 pub vol_along : (a b c u v w l : Vector) (h : IsAlong (cross a b c) (cross u v w)) → vol a b c u ≡ pos 0 → pos h.s *ℤ vol a b c l ≡ pos h.t *ℤ vol u v w l

@@ -1,15 +1,14 @@
 -- The greatest member in a direction is extreme, members are mixes of extremes, and extremes of a union.
-use Rattle.std.proofs.Common.{◌≡◌, ◌≢◌, ℕ, zero, suc, ◌<◌, arith, refl, sym, subst, ◌⊎◌, inl, inr, ◌↔◌, List, [], ◌∷◌, ◌++◌, ⊎_elim}
+use Rattle.std.proofs.Common.{◌≡◌, ◌≢◌, ℕ, arith, refl, sym, subst, ◌⊎◌, inl, inr, ◌↔◌, List, [], ◌∷◌, ⊎_elim}
 use Rattle.std.proofs.lemmas.Int.{ints}
-use Rattle.std.specs.{List.AllByRecursion as Every, Prelude.ℤ, Prelude.pos, Prelude.◌+ℤ◌, Prelude.◌*ℤ◌, Prelude.◌<ℤ◌}
-use native.Mathlib.Decide.{ℕ_discrete}
+use Rattle.std.specs.{List.AllByRecursion as Every, List.flat_map, List.range_with_len, Prelude.filter, Prelude.ℤ, Prelude.◌+ℤ◌, Prelude.◌*ℤ◌, Prelude.◌<ℤ◌}
 use lib.Signed.{<ℤ_irrefl}
-use Rattle.qh_model.proofs.Decisions.{contrary, same_id}
+use Rattle.qh_model.proofs.Decisions.{contrary, same_id, test, told, holds}
 use Rattle.qh_model.proofs.{Members.every_at, algebra.Integers.ring_rules, algebra.VectorIdentities.vector_path}
 use Rattle.qh_model.proofs.combinations.Alternatives.{combination_or_separator, all_lower}
 use Rattle.qh_model.proofs.combinations.{OtherNames.combination_by_names, Vectors.V, Vectors.dot as vdot}
 use Rattle.qh_model.proofs.extremes.LexicographicOrder.{Less, Same, AtMost, Greatest, greatest, collapse}
-use Rattle.qh_model.proofs.lists.Joined.{in_append, of_append}
+use Rattle.qh_model.proofs.lists.{Filters.in_filter, Filters.of_filter, Joined.in_flat_map, Joined.of_flat_map, Ranges.range_below, Ranges.range_has}
 use Rattle.qh_model.specs.contract.IdSets.{HasDistinctPoints}
 use Rattle.qh_model.specs.headline.{Combination.Combination, Extreme.Others, Extreme.Extreme, Sets.In, Sets.Members, Vector.Vector, Vector.dot}
 use Rattle.qh_model.specs.laws.ExtremeLaws.{IsLower, InBlocks, GreatestIsExtreme, MembersAreCombinations, UnionOfExtremes}
@@ -34,19 +33,9 @@ same_vector w p q s = vector_path p q s.1.0 s.1.1.0 s.1.1.1.0
 abbrev bent : Vector → V 4 → Vector
 bent w u = record { x = u.0 *ℤ w.x +ℤ u.1.0; y = u.0 *ℤ w.y +ℤ u.1.1.0; z = u.0 *ℤ w.z +ℤ u.1.1.1.0 }
 
--- a step of the next
-bent_step : (n a b c u v w x y z : ℤ) → (n *ℤ u +ℤ a) *ℤ x +ℤ (n *ℤ v +ℤ b) *ℤ y +ℤ (n *ℤ w +ℤ c) *ℤ z
-    ≡ n *ℤ (u *ℤ x +ℤ v *ℤ y +ℤ w *ℤ z) +ℤ (a *ℤ x +ℤ (b *ℤ y +ℤ (c *ℤ z +ℤ pos 0)))
-bent_step n a b c u v w x y z = simp ring_rules (omega (arith, ints))
-
 -- its scalar product
 bent_is : (w : Vector) (u : V 4) (p : Vector) → dot (bent w u) p ≡ vdot 4 u (key w p)
-bent_is w u p = bent_step u.0 u.1.0 u.1.1.0 u.1.1.1.0 w.x w.y w.z p.x p.y p.z
-
--- the case that remains
-unbottom : (T : Type 0) → ⊥ ⊎ T → T
-unbottom T (inl b) = absurd b
-unbottom T (inr t) = t
+bent_is w u p = simp ring_rules (omega (arith, ints))
 
 -- what comes strictly before p, by keys of which each functional is one of the points, does not mix to p
 pub no_combination_by : (n : ℕ) (key : Vector → V n) (bend : V n → Vector) → ((u : V n) (p : Vector) → dot (bend u) p ≡ vdot n u (key p))
@@ -58,7 +47,8 @@ no_combination_by n key bend e at A p h m = from_witness (collapse n (λ j. ⊥)
     from_witness r = all_lower at A p (bend r.0) m (less m.a r.1.0) (less m.b r.1.1.0) (less m.c r.1.1.1.0) (less m.d r.1.1.1.1.0)
       where
         less : (j : ℕ) → ⊥ ⊎ (vdot n r.0 (key (at j)) <ℤ vdot n r.0 (key p)) → dot (bend r.0) (at j) <ℤ dot (bend r.0) p
-        less j l = omega (arith, ints, e r.0 (at j), e r.0 p, unbottom _ l)
+        less j (inl b) = absurd b
+        less j (inr l) = omega (arith, ints, e r.0 (at j), e r.0 p)
 
 -- what is lower does not combine
 pub no_combination : (at : ℕ → Vector) (A : ℕ → Type 0) (w p : Vector) → ((j : ℕ) → A j → Less 4 (key w (at j)) (key w p)) → ¬ (Combination at A p)
@@ -86,33 +76,15 @@ pub alternative_in : (at : ℕ → Vector) (A : ℕ → Type 0) (xs : List ℕ) 
 alternative_in at A xs l p = ⊎_elim (λ m. inl (combination_within at (Members xs) A p m (λ j c. (l j).1 c)))
     (λ s. inr (record { w = s.w; past = λ a h. s.past a ((l a).0 h) })) (combination_or_separator at xs p)
 
--- the members that pass a test, listed
-sifted : (P : ℕ → Type 0) → ((i : ℕ) → P i ⊎ (¬ (P i))) → (xs : List ℕ) → (ys : List ℕ) × Listed (λ j. In j xs × P j) ys
-sifted P D [] = ([], λ j. (λ h. absurd h.0, λ m. absurd m))
-sifted P D (x ∷ xs) = with_first x xs (D x) (sifted P D xs)
-  where
-    with_first : (x : ℕ) (xs : List ℕ) → P x ⊎ (¬ (P x)) → (ys : List ℕ) × Listed (λ j. In j xs × P j) ys → (ys : List ℕ) × Listed (λ j. In j (x ∷ xs) × P j) ys
-    with_first x xs (inl p) (ys, l) = (x ∷ ys, λ j. (into j, out j))
-      where
-        into : (j : ℕ) → In j (x ∷ xs) × P j → In j (x ∷ ys)
-        into j (inl e, q) = inl e
-        into j (inr m, q) = inr ((l j).0 (m, q))
-
-        out : (j : ℕ) → In j (x ∷ ys) → In j (x ∷ xs) × P j
-        out j (inl e) = (inl e, subst P (sym e) p)
-        out j (inr m) = (inr ((l j).1 m).0, ((l j).1 m).1)
-    with_first x xs (inr n) (ys, l) = (ys, λ j. (into j, λ m. (inr ((l j).1 m).0, ((l j).1 m).1)))
-      where
-        into : (j : ℕ) → In j (x ∷ xs) × P j → In j ys
-        into j (inl e, q) = absurd (n (subst P e q))
-        into j (inr m, q) = (l j).0 (m, q)
-
 -- the part of a listed set that passes a test
 pub listed_part : (A P : ℕ → Type 0) → ((i : ℕ) → P i ⊎ (¬ (P i))) → (xs : List ℕ) → Listed A xs → (ys : List ℕ) × Listed (λ j. A j × P j) ys
-listed_part A P D xs l = from_witness (sifted P D xs)
-  where
-    from_witness : (ys : List ℕ) × Listed (λ j. In j xs × P j) ys → (ys : List ℕ) × Listed (λ j. A j × P j) ys
-    from_witness (ys, k) = (ys, λ j. (λ h. (k j).0 ((l j).0 h.0, h.1), λ m. ((l j).1 ((k j).1 m).0, ((k j).1 m).1)))
+listed_part A P D xs l = (
+  filter (λ j. test (D j)) xs,
+  λ j. (
+    λ h. in_filter (λ i. test (D i)) xs j ((l j).0 h.0) (told (D j) h.1),
+    λ m. let r = of_filter (λ i. test (D i)) xs j m in ((l j).1 r.0, holds (D j) r.1),
+  ),
+)
 
 -- two ids are one or not
 pub apart : (i j : ℕ) → (j ≢ i) ⊎ (¬ (j ≢ i))
@@ -121,12 +93,11 @@ apart i j = contrary (j ≡ i) (same_id j i)
 -- whether a member is extreme can be told
 extreme_or_not : (at : ℕ → Vector) (A : ℕ → Type 0) (xs : List ℕ) → Listed A xs → (i : ℕ)
     → (¬ (Combination at (Others A i) (at i))) ⊎ (¬ (¬ (Combination at (Others A i) (at i))))
-extreme_or_not at A xs l i = let (ys, k) = listed_part A (λ j. j ≢ i) (apart i) xs l in sides (alternative_in at (Others A i) ys k (at i))
-  where
-    sides : Combination at (Others A i) (at i) ⊎ Separator at (Others A i) (at i)
-        → (¬ (Combination at (Others A i) (at i))) ⊎ (¬ (¬ (Combination at (Others A i) (at i))))
-    sides (inl m) = inr (λ n. n m)
-    sides (inr s) = inl (λ m. all_lower at (Others A i) (at i) s.w m (s.past m.a m.has_a) (s.past m.b m.has_b) (s.past m.c m.has_c) (s.past m.d m.has_d))
+extreme_or_not at A xs l i =
+    let (ys, k) = listed_part A (λ j. j ≢ i) (apart i) xs l in
+    ⊎_elim (λ m. inr (λ n. n m))
+    (λ s. inl (λ m. all_lower at (Others A i) (at i) s.w m (s.past m.a m.has_a) (s.past m.b m.has_b) (s.past m.c m.has_c) (s.past m.d m.has_d)))
+    (alternative_in at (Others A i) ys k (at i))
 
 -- ---- each member is a mix of extremes
 -- the greatest member is extreme
@@ -156,15 +127,9 @@ a_greatest key (x ∷ xs) i m = greatest 4 key x xs
 pub combination_of_extremes : (at : ℕ → Vector) (A : ℕ → Type 0) (xs : List ℕ) → Listed A xs → HasDistinctPoints at A
     → (i : ℕ) → A i → Combination at (Extreme at A) (at i)
 combination_of_extremes at A xs l d i h = let (ys, k) = listed_part A (λ j. ¬ (Combination at (Others A j) (at j))) (extreme_or_not at A xs l) xs l in
-    sides (alternative_in at (Extreme at A) ys k (at i))
-  where
-    sides : Combination at (Extreme at A) (at i) ⊎ Separator at (Extreme at A) (at i) → Combination at (Extreme at A) (at i)
-    sides (inl m) = m
-    sides (inr s) = absurd (clash (a_greatest (λ j. key s.w (at j)) xs i ((l i).0 h)))
-      where
-        clash : Greatest 4 (λ j. key s.w (at j)) xs → ⊥
-        clash g = not_above _ _ _ _
-            (every_at (λ j. AtMost 4 (key s.w (at j)) (key s.w (at g.top))) xs i g.above ((l i).0 h)) (s.past g.top (top_is_extreme at A xs l d s.w g))
+    ⊎_elim (λ m. m) (λ s. let g = a_greatest (λ j. key s.w (at j)) xs i ((l i).0 h) in
+    absurd (not_above _ _ _ _ (every_at (λ j. AtMost 4 (key s.w (at j)) (key s.w (at g.top))) xs i g.above ((l i).0 h))
+    (s.past g.top (top_is_extreme at A xs l d s.w g)))) (alternative_in at (Extreme at A) ys k (at i))
 
 -- the law
 pub members_are_combinations : MembersAreCombinations
@@ -187,34 +152,16 @@ extremes_between at A B xs l d sub sup i = (down, up)
     up h = (sup i h, λ m. h.1 (combination_within at (Others B i) (Others A i) (at i) m (λ j o. (sub j o.0, o.1))))
 
 -- ---- the union of blocks
-
 -- all blocks together
 abbrev gathered : ℕ → (ℕ → List ℕ) → List ℕ
-gathered zero block = []
-gathered (suc n) block = block n ++ gathered n block
-
--- their members
-in_gathered : (n : ℕ) (block : ℕ → List ℕ) (j k : ℕ) → k < n → In j (block k) → In j (gathered n block)
-in_gathered zero block j k h m = absurd (omega arith)
-in_gathered (suc n) block j k h m = by_decision (ℕ_discrete k n) (λ q. in_gathered n block j k q m)
-  where
-    by_decision : Dec (k ≡ n) → (k < n → In j (gathered n block)) → In j (gathered (suc n) block)
-    by_decision (yes e) f = in_append (block n) (gathered n block) j (inl (subst (λ t. In j (block t)) e m))
-    by_decision (no e) f = in_append (block n) (gathered n block) j (inr (f (omega arith)))
-
--- and no others
-of_gathered : (n : ℕ) (block : ℕ → List ℕ) (j : ℕ) → In j (gathered n block) → InBlocks n (λ k. Members (block k)) j
-of_gathered zero block j m = absurd m
-of_gathered (suc n) block j m = by_cases (of_append (block n) (gathered n block) j m) (of_gathered n block j)
-  where
-    by_cases : In j (block n) ⊎ In j (gathered n block) → (In j (gathered n block) → InBlocks n (λ k. Members (block k)) j)
-        → InBlocks (suc n) (λ k. Members (block k)) j
-    by_cases (inl h) f = (n, omega arith, h)
-    by_cases (inr h) f = let r = f h in (r.0, omega (arith, r.1), r.2)
+gathered n block = flat_map block (range_with_len 0 n)
 
 -- so the union is listed
 listed_blocks : (n : ℕ) (block : ℕ → List ℕ) → Listed (InBlocks n (λ k. Members (block k))) (gathered n block)
-listed_blocks n block j = (λ h. in_gathered n block j h.0 h.1 h.2, of_gathered n block j)
+listed_blocks n block j = (
+  λ h. in_flat_map block (range_with_len 0 n) h.0 j (range_has n h.0 h.1) h.2,
+  λ m. let r = of_flat_map block (range_with_len 0 n) j m in (r.0, range_below n r.0 r.1, r.2),
+)
 
 -- the law
 pub union_of_extremes : UnionOfExtremes

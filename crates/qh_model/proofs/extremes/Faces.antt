@@ -19,14 +19,9 @@ pair n w p = (dot n p, (dot w p, tt))
 abbrev pub blend : Vector → Vector → V 2 → Vector
 blend n w u = record { x = u.0 *ℤ n.x +ℤ u.1.0 *ℤ w.x; y = u.0 *ℤ n.y +ℤ u.1.0 *ℤ w.y; z = u.0 *ℤ n.z +ℤ u.1.0 *ℤ w.z }
 
--- a step of the next
-blend_step : (a b nx ny nz wx wy wz x y z : ℤ) → (a *ℤ nx +ℤ b *ℤ wx) *ℤ x +ℤ (a *ℤ ny +ℤ b *ℤ wy) *ℤ y +ℤ (a *ℤ nz +ℤ b *ℤ wz) *ℤ z
-    ≡ a *ℤ (nx *ℤ x +ℤ ny *ℤ y +ℤ nz *ℤ z) +ℤ (b *ℤ (wx *ℤ x +ℤ wy *ℤ y +ℤ wz *ℤ z) +ℤ pos 0)
-blend_step a b nx ny nz wx wy wz x y z = simp ring_rules (omega (arith, ints))
-
 -- its scalar product
 pub blend_is : (n w : Vector) (u : V 2) (p : Vector) → dot (blend n w u) p ≡ vdot 2 u (pair n w p)
-blend_is n w u p = blend_step u.0 u.1.0 n.x n.y n.z w.x w.y w.z p.x p.y p.z
+blend_is n w u p = simp ring_rules (omega (arith, ints))
 
 -- points of one plane are level
 pub on_plane : (d e c : ℤ) → pos 0 ≡ d +ℤ c → pos 0 ≡ e +ℤ c → d ≡ e
@@ -81,7 +76,9 @@ extremes_of_face at ids i j k s l = (
 -- the law
 pub support_of_extremes : SupportOfExtremes
 support_of_extremes at ids d i j k s l h =
-    by_lt_z (pos 0) v (λ q. absurd (clash (combination_of_extremes at (Members ids) ids (listed_itself ids) d l h) q)) (λ q. q)
+    let m = combination_of_extremes at (Members ids) ids (listed_itself ids) d l h in
+    by_lt_z (pos 0) v (λ q. absurd (all_lower at (Extreme at (Members ids)) (at l) n m (below m.a m.has_a q) (below m.b m.has_b q)
+    (below m.c m.has_c q) (below m.d m.has_d q))) (λ q. q)
   where
     n : Vector
     n = cross (at i) (at j) (at k)
@@ -91,6 +88,3 @@ support_of_extremes at ids d i j k s l h =
 
     below : (e : ℕ) → Extreme at (Members ids) e → pos 0 <ℤ v → dot n (at e) <ℤ dot n (at l)
     below e x q = omega (arith, ints, vol-linear (at i) (at j) (at k) (at l), vol-linear (at i) (at j) (at k) (at e), s e x)
-
-    clash : Combination at (Extreme at (Members ids)) (at l) → pos 0 <ℤ v → ⊥
-    clash m q = all_lower at (Extreme at (Members ids)) (at l) n m (below m.a m.has_a q) (below m.b m.has_b q) (below m.c m.has_c q) (below m.d m.has_d q)

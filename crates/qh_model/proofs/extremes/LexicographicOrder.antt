@@ -95,20 +95,12 @@ first Q T a b (inl q) = inl q
 first Q T a b (inr (inl h)) = inr (less_le a b h)
 first Q T a b (inr (inr p)) = inr (equal_le a b p.0)
 
--- a large factor lets the first coordinate decide
-first_decides : (N : ℕ) (a b t s : ℤ) → a <ℤ b → neg_ℤ (s -ℤ t) <ℤ pos N → (pos N *ℤ a +ℤ t) <ℤ (pos N *ℤ b +ℤ s)
-first_decides N a b t s h k = omega (arith, ints, mul-le-mul_left N (lt_out a b h))
-
--- where it is level the rest does
-rest_decides : (N : ℕ) (a b t s : ℤ) → a ≤ℤ b → t <ℤ s → (pos N *ℤ a +ℤ t) <ℤ (pos N *ℤ b +ℤ s)
-rest_decides N a b t s h k = omega (arith, ints, mul-le-mul_left N (le_out a b h))
-
--- both cases
+-- a large factor lets the first coordinate decide, and where it is level the rest does
 joined : (Q : Type 0) (N : ℕ) (a b t s : ℤ) → (Q ⊎ (a <ℤ b)) ⊎ (t <ℤ s) → (Q ⊎ (a ≤ℤ b)) × (neg_ℤ (s -ℤ t) <ℤ pos N)
     → Q ⊎ ((pos N *ℤ a +ℤ t) <ℤ (pos N *ℤ b +ℤ s))
 joined Q N a b t s (inl (inl q)) h = inl q
-joined Q N a b t s (inl (inr l)) h = inr (first_decides N a b t s l h.1)
-joined Q N a b t s (inr l) h = ⊎_elim (λ q. inl q) (λ m. inr (rest_decides N a b t s m l)) h.0
+joined Q N a b t s (inl (inr l)) h = inr (omega (arith, ints, h.1, mul-le-mul_left N (lt_out a b l)))
+joined Q N a b t s (inr l) h = ⊎_elim (λ q. inl q) (λ m. inr (omega (arith, ints, l, mul-le-mul_left N (le_out a b m)))) h.0
 
 -- one more coordinate
 extend : {A : Type 0} (n : ℕ) (Q : A → Type 0) (key : A → V (suc n)) (K : V (suc n)) (xs : List A) → Every (λ j. Q j ⊎ Less (suc n) (key j) K) xs

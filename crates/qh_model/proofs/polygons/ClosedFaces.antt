@@ -1,13 +1,12 @@
 -- Faces that close up are all faces: their fans close up, since the steps across a polygon are taken both ways.
-use Rattle.std.proofs.Common.{◌≡◌, ◌≢◌, ℕ, ◌+◌, ◌≤◌, arith, refl, sym, ap, subst, ◌∙◌, inl, inr, List, [], ◌∷◌, ◌++◌, length, cond}
+use Rattle.std.proofs.Common.{◌≡◌, ◌≢◌, ℕ, ◌+◌, arith, refl, sym, ap, subst, ◌∙◌, inl, inr, List, [], ◌∷◌, ◌++◌, cond}
 use Rattle.std.specs.{List.flat_map, Prelude.pos, Prelude.◌<ℤ◌, Prelude.◌↔◌}
 use Rattle.qh_model.specs.contract.ClosedPolygons.{steps_along, steps_round, AreClosed, AreClosedFaces}
 use Rattle.qh_model.specs.contract.ClosedSurface.{Triple, edges, is_edge, IsClosed, IsClosedSurface}
 use Rattle.qh_model.specs.{contract.IdSets.HasDistinctPoints, headline.Extreme.Extreme, headline.Polygon.FollowsAlong, headline.Polygons.IsFacePolygon}
-use Rattle.qh_model.specs.headline.{Predicates.cross, Predicates.vol, Predicates.left, Sets.In, Sets.Members, SupportingPlane.IsSupportingTriple, Vector.Vector}
-use Rattle.qh_model.specs.laws.ClosedFaceLaws.{AreSupporting, TriangleOfPlane, ClosedFacesAreAll, ClosedFacesHaveExtremes}
-use Rattle.qh_model.specs.laws.FanLaws.{IsSupportingTriangle}
-use Rattle.qh_model.proofs.{algebra.VectorIdentities.left-turn, closed_surfaces.SignedVolume.is_edge-back}
+use Rattle.qh_model.specs.headline.{Predicates.cross, Predicates.left, Sets.In, Sets.Members, SupportingPlane.IsSupportingTriple, Vector.Vector}
+use Rattle.qh_model.specs.laws.ClosedFaceLaws.{AreSupporting, ClosedFacesAreAll, ClosedFacesHaveExtremes}
+use Rattle.qh_model.proofs.{Members.to_contains, algebra.VectorIdentities.left-turn, closed_surfaces.SignedVolume.is_edge-back}
 use Rattle.qh_model.proofs.closed_surfaces.{Sums.count, Sums.count-is, Supporting.closed_miss_no_plane, Supporting.closed_miss_no_extreme}
 use Rattle.qh_model.proofs.lists.Joined.{in_flat_map, of_flat_map}
 use Rattle.qh_model.proofs.polygons.{Edges.seen_from, Fans.corners_support, Fans.face_fan, PlaneTurns.level_along}
@@ -159,18 +158,9 @@ module _ (at : ℕ → Vector) (ids : List ℕ) (i j k : ℕ) (plane : IsSupport
 
   -- there are some
   some_triples : HasDistinctPoints at (Members ids) → (q : List ℕ) → IsOwnFace q → (t : Triple) × In t (triples_in q)
-  some_triples d [] p = go (face_fan at ids d i j k plane [] [] p (inl refl))
-    where
-      go : IsSupportingTriangle at (Members ids) [] → (t : Triple) × In t (triples_in [])
-      go (u, v, w, e, s) = cc
-  some_triples d (a ∷ []) p = go (face_fan at ids d i j k plane (a ∷ []) (a ∷ []) p (inl refl))
-    where
-      go : IsSupportingTriangle at (Members ids) (a ∷ []) → (t : Triple) × In t (triples_in (a ∷ []))
-      go (u, v, w, e, s) = cc
-  some_triples d (a ∷ b ∷ []) p = go (face_fan at ids d i j k plane (a ∷ b ∷ []) (a ∷ b ∷ []) p (inl refl))
-    where
-      go : IsSupportingTriangle at (Members ids) (a ∷ b ∷ []) → (t : Triple) × In t (triples_in (a ∷ b ∷ []))
-      go (u, v, w, e, s) = cc
+  some_triples d [] p = let s = face_fan at ids d i j k plane [] [] p (inl refl) in absurd (cc s.3)
+  some_triples d (a ∷ []) p = let s = face_fan at ids d i j k plane (a ∷ []) (a ∷ []) p (inl refl) in absurd (cc s.3)
+  some_triples d (a ∷ b ∷ []) p = let s = face_fan at ids d i j k plane (a ∷ b ∷ []) (a ∷ b ∷ []) p (inl refl) in absurd (cc s.3)
   some_triples d (a ∷ b ∷ c ∷ r) p = (record { i = a; j = b; k = c }, inl refl)
 
 -- ---- the laws
@@ -185,54 +175,30 @@ module _ (at : ℕ → Vector) (ids : List ℕ) (qs : List (List ℕ)) (d : HasD
 
   -- each triangle has its polygon in the list
   face_of : (t : Triple) → In t fans → FaceOf t
-  face_of t m = go (of_flat_map triples_in qs t m)
-    where
-      go : (q : List ℕ) × In q qs × In t (triples_in q) → FaceOf t
-      go (q, has, r) = with (h.faces q has)
-        where
-          with : (i j k : ℕ) × IsSupportingTriple at (Members ids) i j k × IsFacePolygon at (Members ids) i j k q → FaceOf t
-          with (i, j, k, plane, p) = (q, has, triples_support at ids i j k plane q t p r)
+  face_of t m =
+      let r = of_flat_map triples_in qs t m in let f = h.faces r.0 r.1 in
+      (r.0, r.1, triples_support at ids f.0 f.1 f.2 f.3 r.0 t f.4 r.2)
 
   supporting : AreSupporting at (Members ids) fans
   supporting t m = let f = face_of t m in f.2.0
 
   surface : IsClosedSurface at fans
-  surface = record { some = some; area = λ t m. (supporting t m).area; closed = closed_fans qs h.closed }
-    where
-      length_some : (ts : List Triple) (t : Triple) → In t ts → 1 ≤ length ts
-      length_some [] t m = absurd m
-      length_some (x ∷ ts) t m = omega arith
-
-      some : 1 ≤ length fans
-      some = go (h.faces h.some h.there)
-        where
-          go : (i j k : ℕ) × IsSupportingTriple at (Members ids) i j k × IsFacePolygon at (Members ids) i j k h.some → 1 ≤ length fans
-          go (i, j, k, plane, p) =
-              let t = some_triples at ids i j k plane d h.some p in
-              length_some fans t.0 (in_flat_map triples_in qs h.some t.0 h.there t.1)
+  surface =
+      let f = h.faces h.some h.there in let t = some_triples at ids f.0 f.1 f.2 f.3 d h.some f.4 in
+      let place = to_contains fans t.0 (in_flat_map triples_in qs h.some t.0 h.there t.1) in
+      record { some = omega (arith, place.1); area = λ t m. (supporting t m).area; closed = closed_fans qs h.closed }
 
   each : (i j k : ℕ) → IsSupportingTriple at (Members ids) i j k → (q : List ℕ) × In q qs × IsFacePolygon at (Members ids) i j k q
-  each i j k plane = go (closed_miss_no_plane at ids fans surface supporting i j k plane)
-    where
-      go : TriangleOfPlane at fans i j k → (q : List ℕ) × In q qs × IsFacePolygon at (Members ids) i j k q
-      go s =
-          let f = face_of s.t s.there in
-          (f.0, f.1, seen_from at (Members ids) s.t.i s.t.j s.t.k i j k f.0 f.2.1 s.along s.level)
+  each i j k plane =
+      let s = closed_miss_no_plane at ids fans surface supporting i j k plane in let f = face_of s.t s.there in
+      (f.0, f.1, seen_from at (Members ids) s.t.i s.t.j s.t.k i j k f.0 f.2.1 s.along s.level)
 
   extremes : (l : ℕ) → Extreme at (Members ids) l ↔ ((q : List ℕ) × In q qs × In l q)
-  extremes l = (there, back)
-    where
-      there : Extreme at (Members ids) l → (q : List ℕ) × In q qs × In l q
-      there e = go (closed_miss_no_extreme at ids fans surface supporting l e)
-        where
-          go : (t : Triple) × In t fans × (vol (at t.i) (at t.j) (at t.k) (at l) ≡ pos 0) → (q : List ℕ) × In q qs × In l q
-          go (t, m, z) = let f = face_of t m in (f.0, f.1, (f.2.1.members l).1 (e, z))
-
-      back : (q : List ℕ) × In q qs × In l q → Extreme at (Members ids) l
-      back (q, has, m) = go (h.faces q has)
-        where
-          go : (i j k : ℕ) × IsSupportingTriple at (Members ids) i j k × IsFacePolygon at (Members ids) i j k q → Extreme at (Members ids) l
-          go (i, j, k, plane, p) = ((p.members l).0 m).0
+  extremes l = (
+    λ e. let x = closed_miss_no_extreme at ids fans surface supporting l e in let f = face_of x.0 x.1 in
+        (f.0, f.1, (f.2.1.members l).1 (e, x.2)),
+    λ m. let f = h.faces m.0 m.1 in ((f.4.members l).0 m.2).0,
+  )
 
 pub closed_faces_are_all : ClosedFacesAreAll
 closed_faces_are_all at ids qs d h rising = record { rising = rising; each = each at ids qs d h; only = h.faces }

@@ -1,16 +1,12 @@
 -- The edges of a solid: at most one face goes along each this way.
 use Rattle.std.proofs.{Common.◌≡◌, Common.ℕ, Common.arith, Common.sym, Common.◌∙◌, Common.List, lemmas.Int.ints}
-use Rattle.std.specs.Prelude.{ℤ, pos, ◌*ℤ◌, neg_ℤ, ◌≤ℤ◌}
+use Rattle.std.specs.Prelude.{pos, ◌*ℤ◌, ◌≤ℤ◌}
 use Rattle.qh_model.specs.headline.{Extreme.Extreme, Polygons.IsFacePolygon, Predicates.cross, Predicates.vol, Predicates.left, Sets.Members}
 use Rattle.qh_model.specs.{headline.SupportingPlane.OnPlane, headline.Vector.Vector, laws.EdgeLaws.OneFaceEachWay, laws.FaceLaws.IsAlong}
 use Rattle.qh_model.proofs.algebra.{Order.cancel-zero, Order.positive_le, Order.product_zero, VectorIdentities.vol-swap_last}
 use Rattle.qh_model.proofs.{extremes.Directions.vol_along, extremes.Directions.zero_along, polygons.Direction.polygon_as}
 use Rattle.qh_model.proofs.polygons.LeftOfEdge.{at_most, Way, Third, has_u, has_v, to_left, third, square, over}
 use Rattle.qh_model.proofs.polygons.{PlaneTurns.level_along, Unique.one_polygon}
-
--- opposite numbers not above 0 are 0
-both_zero : (x y : ℤ) → x ≡ neg_ℤ y → x ≤ℤ pos 0 → y ≤ℤ pos 0 → x ≡ pos 0
-both_zero x y e h k = omega (arith, ints)
 
 -- a face seen from a triangle of its plane
 pub seen_from : (at : ℕ → Vector) (A : ℕ → Type 0) (i j k u v y : ℕ) (q : List ℕ) → IsFacePolygon at A i j k q
@@ -53,7 +49,7 @@ one_face_each_way at ids i j k a b c p q u v d t r f g x y = from_thirds (third 
 
         flat : left (cross (at i) (at j) (at k)) (at u) (at v) (at w.w) *ℤ vol (at i) (at j) (at k) (at s.w) ≡ pos 0
         flat = sym (over at ids d i j k p u v one w.w (at s.w) w.member.1)
-            ∙ product_zero _ _ (both_zero _ _ (vol-swap_last (at u) (at v) (at w.w) (at s.w)) lhs rhs)
+            ∙ product_zero _ (vol (at u) (at v) (at w.w) (at s.w)) (omega (arith, ints, vol-swap_last (at u) (at v) (at w.w) (at s.w), lhs, rhs))
 
         level : vol (at i) (at j) (at k) (at s.w) ≡ pos 0
         level = cancel-zero _ _ w.turns flat

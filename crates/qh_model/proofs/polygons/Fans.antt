@@ -1,15 +1,15 @@
 -- Fans of triangles: their triangles are of their polygons, and support the set.
-use Rattle.std.proofs.Common.{ℕ, ◌≡◌, List, [], ◌∷◌, All, inl, inr, refl, sym, subst}
+use Rattle.std.proofs.Common.{ℕ, ◌≡◌, List, [], ◌∷◌, All, inl, inr, refl, sym, subst, ⊎_elim}
 use Rattle.std.specs.Prelude.{pos, ◌<ℤ◌, ◌≤ℤ◌}
 use Rattle.qh_model.specs.contract.{FaceTriangles.face_triangles, IdSets.HasDistinctPoints}
 use Rattle.qh_model.specs.headline.{Fan.triangles_along, Fan.fan, Polygon.FollowsAlong, Polygons.IsFacePolygon, Predicates.cross, Predicates.vol}
 use Rattle.qh_model.specs.headline.{Predicates.left, Sets.In, Sets.Members, SupportingPlane.IsSupportingTriple, Vector.Vector, Vector.dot}
-use Rattle.qh_model.specs.laws.{FaceLaws.SpannedByExtremes, FanLaws.CornersSupport, FanLaws.FansSupport, FanLaws.IsSupportingTriangle}
+use Rattle.qh_model.specs.laws.{FanLaws.CornersSupport, FanLaws.FansSupport, FanLaws.IsSupportingTriangle}
 use Rattle.qh_model.proofs.Members.{All-In, All-of}
 use Rattle.qh_model.proofs.algebra.{Order.cancel-nonpos, Order.mul-nonneg_nonpos, Order.positive_le, Signs.less_differ}
 use Rattle.qh_model.proofs.algebra.VectorIdentities.{vol-first, in_line-left, left-turn}
 use Rattle.qh_model.proofs.{extremes.Directions.square-positive, extremes.SpanningTriples.planes_of_extremes, lists.Joined.of_flat_map}
-use Rattle.qh_model.proofs.polygons.{LeftOfEdge.Third, LeftOfEdge.third, Neighbours.follows_members, PlaneTurns.level_volume}
+use Rattle.qh_model.proofs.polygons.{LeftOfEdge.third, Neighbours.follows_members, PlaneTurns.level_volume}
 
 -- the law
 pub corners_support : CornersSupport
@@ -51,16 +51,10 @@ triangle_along first u (x ∷ r) t (inr m) =
 pub triangle_members : (q t : List ℕ) → In t (face_triangles q) → (i : ℕ) → In i t → In i q
 triangle_members [] t m i h = absurd m
 triangle_members (a ∷ []) t m i h = absurd m
-triangle_members (a ∷ b ∷ r) t m i h = along_fan (triangle_along a b r t m)
-  where
-    along_fan : IsTriangleAlong a b r t → In i (a ∷ b ∷ r)
-    along_fan s = among_three (subst (In i) s.is h)
-      where
-        among_three : In i (a ∷ s.v ∷ s.w ∷ []) → In i (a ∷ b ∷ r)
-        among_three (inl e) = inl e
-        among_three (inr (inl e)) = inr (subst (λ x. In x (b ∷ r)) (sym e) s.has_v)
-        among_three (inr (inr (inl e))) = inr (inr (subst (λ x. In x r) (sym e) s.has_w))
-        among_three (inr (inr (inr n))) = absurd n
+triangle_members (a ∷ b ∷ r) t m i h =
+    let s = triangle_along a b r t m in
+    ⊎_elim (λ e. inl e) (λ j. ⊎_elim (λ e. inr (subst (λ x. In x (b ∷ r)) (sym e) s.has_v)) (λ k.
+    ⊎_elim (λ e. inr (inr (subst (λ x. In x r) (sym e) s.has_w))) (λ n. absurd n) k) j) (subst (In i) s.is h)
 
 -- what holds for the ids of a face holds for those of its triangles
 pub triangles_all : (P : ℕ → Type 0) (q : List ℕ) → All P q → All (All P) (face_triangles q)
@@ -81,46 +75,25 @@ fan_members (a ∷ b ∷ c ∷ r) t m i h = triangle_members (a ∷ b ∷ c ∷ 
 module _ (at : ℕ → Vector) (ids : List ℕ) (d : HasDistinctPoints at (Members ids)) (i j k : ℕ) (triple : IsSupportingTriple at (Members ids) i j k) where
   -- a face has three corners or more, so its fan has triangles alone
   pub face_fan : (q t : List ℕ) → IsFacePolygon at (Members ids) i j k q → In t (fan q) → IsSupportingTriangle at (Members ids) t
-  face_fan [] t p m = absurd (none (planes_of_extremes at ids d i j k triple))
-    where
-      none : SpannedByExtremes at (Members ids) i j k → ⊥
-      none s = (p.members s.u).1 (s.has_u, (s.same s.u).1 (vol-first (at s.u) (at s.v) (at s.w)))
-  face_fan (a ∷ []) t p m = absurd (none (third at ids d i j k (a ∷ []) a a (record { triple = triple; face = p; follows = (refl, refl) })))
-    where
-      none : Third at (Members ids) i j k a a → ⊥
-      none x = not_first ((p.members x.w).1 x.member)
-        where
-          not_first : In x.w (a ∷ []) → ⊥
-          not_first (inl e) = x.not_u e
-          not_first (inr n) = n
-  face_fan (a ∷ b ∷ []) t p m = absurd (none (third at ids d i j k (a ∷ b ∷ []) a b (record { triple = triple; face = p; follows = inl (refl, refl) })))
-    where
-      none : Third at (Members ids) i j k a b → ⊥
-      none x = not_first_two ((p.members x.w).1 x.member)
-        where
-          not_first_two : In x.w (a ∷ b ∷ []) → ⊥
-          not_first_two (inl e) = x.not_u e
-          not_first_two (inr (inl e)) = x.not_v e
-          not_first_two (inr (inr n)) = n
-  face_fan (a ∷ b ∷ c ∷ r) t p m = along_fan (triangle_along a b (c ∷ r) t m)
-    where
-      along_fan : IsTriangleAlong a b (c ∷ r) t → IsSupportingTriangle at (Members ids) t
-      along_fan s = (
-        a,
-        s.v,
-        s.w,
-        s.is,
-        corners_support at ids i j k (a ∷ b ∷ c ∷ r) triple p s.v s.w a (inr (s.follows a)) (inl refl)
-            (λ e. p.once.0 (subst (λ x. In x (b ∷ c ∷ r)) (sym e) s.has_v)) (λ e. p.once.0 (inr (subst (λ x. In x (c ∷ r)) (sym e) s.has_w))),
-      )
+  face_fan [] t p m =
+      let s = planes_of_extremes at ids d i j k triple in
+      absurd ((p.members s.u).1 (s.has_u, (s.same s.u).1 (vol-first (at s.u) (at s.v) (at s.w))))
+  face_fan (a ∷ []) t p m =
+      let x = third at ids d i j k (a ∷ []) a a (record { triple = triple; face = p; follows = (refl, refl) }) in
+      absurd (⊎_elim x.not_u (λ n. n) ((p.members x.w).1 x.member))
+  face_fan (a ∷ b ∷ []) t p m =
+      let x = third at ids d i j k (a ∷ b ∷ []) a b (record { triple = triple; face = p; follows = inl (refl, refl) }) in
+      absurd (⊎_elim x.not_u (λ i. ⊎_elim x.not_v (λ n. n) i) ((p.members x.w).1 x.member))
+  face_fan (a ∷ b ∷ c ∷ r) t p m = let s = triangle_along a b (c ∷ r) t m in (
+    a,
+    s.v,
+    s.w,
+    s.is,
+    corners_support at ids i j k (a ∷ b ∷ c ∷ r) triple p s.v s.w a (inr (s.follows a)) (inl refl)
+        (λ e. p.once.0 (subst (λ x. In x (b ∷ c ∷ r)) (sym e) s.has_v)) (λ e. p.once.0 (inr (subst (λ x. In x (c ∷ r)) (sym e) s.has_w))),
+  )
 
 -- the law
 pub fans_support : FansSupport
-fans_support at ids qs d f t m = from_witness (of_flat_map fan qs t m)
-  where
-    from_witness : (q : List ℕ) × In q qs × In t (fan q) → IsSupportingTriangle at (Members ids) t
-    from_witness (q, has, h) = face (f.only q has)
-      where
-        face : (i : ℕ) × (j : ℕ) × (k : ℕ) × IsSupportingTriple at (Members ids) i j k
-            × IsFacePolygon at (Members ids) i j k q → IsSupportingTriangle at (Members ids) t
-        face (i, j, k, triple, p) = face_fan at ids d i j k triple q t p h
+fans_support at ids qs d f t m =
+    let r = of_flat_map fan qs t m in let p = f.only r.0 r.1 in face_fan at ids d p.0 p.1 p.2 p.3 r.0 t p.4 r.2

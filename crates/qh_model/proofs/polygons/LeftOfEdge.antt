@@ -2,12 +2,12 @@
 use Rattle.std.proofs.Common.{◌≡◌, ◌≢◌, ℕ, arith, refl, sym, ap, subst, ◌∙◌, ◌⊎◌, inl, inr, List}
 use Rattle.std.proofs.lemmas.Int.{ints, by_lt_z}
 use native.Mathlib.Decide.{ℕ_discrete}
-use Rattle.std.specs.Prelude.{ℤ, pos, ◌+ℤ◌, ◌*ℤ◌, neg_ℤ, ◌≤ℤ◌, ◌<ℤ◌}
-use Rattle.qh_model.specs.{contract.IdSets.HasDistinctPoints, headline.Combination.Combination, headline.Extreme.Extreme, headline.Polygon.Follows}
+use Rattle.std.specs.Prelude.{ℤ, pos, ◌*ℤ◌, ◌≤ℤ◌, ◌<ℤ◌}
+use Rattle.qh_model.specs.{contract.IdSets.HasDistinctPoints, headline.Extreme.Extreme, headline.Polygon.Follows}
 use Rattle.qh_model.specs.headline.{Polygons.IsFacePolygon, Predicates.cross, Predicates.vol, Predicates.left, Predicates.AreInLine, Sets.Members}
 use Rattle.qh_model.specs.headline.{SupportingPlane.IsSupportingTriple, SupportingPlane.OnPlane, Vector.Vector, Vector.minus, Vector.cross_product, Vector.dot}
 use Rattle.qh_model.specs.laws.FaceLaws.{SpannedByExtremes}
-use Rattle.qh_model.proofs.algebra.Order.{mul-nonneg_nonpos, mul-pos_neg, mul-neg_neg, cancel-nonpos, zero_or_not, positive_le}
+use Rattle.qh_model.proofs.algebra.Order.{mul-nonneg, mul-nonneg_nonpos, mul-pos_neg, mul-neg_neg, cancel-nonpos, zero_or_not, positive_le}
 use Rattle.qh_model.proofs.algebra.VectorIdentities.{opposite, dot-opposite, vol-first, vol-second, vol-third, left-linear, in_line-left, in_line-twice}
 use Rattle.qh_model.proofs.{algebra.VectorIdentities.in_line-last, combinations.Alternatives.all_lower}
 use Rattle.qh_model.proofs.extremes.{Directions.square-positive, Directions.in_line-flip, ExtremeIds.Listed, ExtremeIds.listed_itself, ExtremeIds.listed_part}
@@ -21,27 +21,21 @@ at_most s l x y h e p q = cancel-nonpos s x h (subst (λ v. v ≤ℤ pos 0) (sym
 
 -- strictly
 pub below : (s l x y : ℤ) → pos 0 <ℤ s → s *ℤ x ≡ l *ℤ y → pos 0 <ℤ l → y <ℤ pos 0 → x <ℤ pos 0
-below s l x y h e p q = by_lt_z x (pos 0) (λ k. k) (λ k. absurd (omega (arith, ints, times s x h k, mul-pos_neg l y p q)))
-  where
-    times : (s x : ℤ) → pos 0 <ℤ s → pos 0 ≤ℤ x → pos 0 ≤ℤ (s *ℤ x)
-    times s x h k = grind (arith, ints)
+below s l x y h e p q =
+    by_lt_z x (pos 0) (λ k. k) (λ k. absurd (omega (arith, ints, e, mul-nonneg s x (positive_le s h) k, mul-pos_neg l y p q)))
 
 -- s x = l y with s above 0, y below 0 and x not above 0
 pub turn_sign : (s l x y : ℤ) → pos 0 <ℤ s → s *ℤ x ≡ l *ℤ y → y <ℤ pos 0 → x ≤ℤ pos 0 → pos 0 ≤ℤ l
-turn_sign s l x y h e q k = by_lt_z l (pos 0) (λ p. absurd (omega (arith, ints, times s x h k, mul-neg_neg l y p q))) (λ p. p)
-  where
-    times : (s x : ℤ) → pos 0 <ℤ s → x ≤ℤ pos 0 → (s *ℤ x) ≤ℤ pos 0
-    times s x h k = grind (arith, ints)
+turn_sign s l x y h e q k =
+    by_lt_z l (pos 0) (λ p. absurd (omega (arith, ints, e, mul-nonneg_nonpos s x (positive_le s h) k, mul-neg_neg l y p q))) (λ p. p)
 
 -- ---- a third member
 -- of three different numbers one is neither of two
 other_of_three : (x y z u v : ℕ) → x ≢ y → y ≢ z → x ≢ z → (w : ℕ) × ((w ≡ x) ⊎ (w ≡ y) ⊎ (w ≡ z)) × (w ≢ u) × (w ≢ v)
 other_of_three x y z u v xy yz xz = by_decision (ℕ_discrete x u) (ℕ_discrete x v) (ℕ_discrete y u) (ℕ_discrete y v)
   where
-    Found : Type 0
-    Found = (w : ℕ) × ((w ≡ x) ⊎ (w ≡ y) ⊎ (w ≡ z)) × (w ≢ u) × (w ≢ v)
-
-    by_decision : Dec (x ≡ u) → Dec (x ≡ v) → Dec (y ≡ u) → Dec (y ≡ v) → Found
+    by_decision : Dec (x ≡ u) → Dec (x ≡ v) → Dec (y ≡ u) → Dec (y ≡ v)
+        → (w : ℕ) × ((w ≡ x) ⊎ (w ≡ y) ⊎ (w ≡ z)) × (w ≢ u) × (w ≢ v)
     by_decision (no a) (no b) c d = (x, inl refl, a, b)
     by_decision a b (no c) (no d) = (y, inr (inl refl), c, d)
     by_decision (yes a) b (yes c) d = absurd (xy (a ∙ sym c))
@@ -134,15 +128,17 @@ module _ (at : ℕ → Vector) (ids : List ℕ) (d : HasDistinctPoints at (Membe
 
       -- along the opposite of c all extremes are lower than what lies to the right
       lower : (x : ℕ) → Extreme at F x → left n (at u) (at v) (at l) <ℤ pos 0 → dot (opposite c) (at x) <ℤ dot (opposite c) (at l)
-      lower x e r = order _ _ _ _ _ _ _ (left-linear n (at u) (at v) (at l)) (left-linear n (at u) (at v) (at x))
-          (dot-opposite c (at x)) (dot-opposite c (at l)) r (extreme x ((extremes_of_face at ids i j k way.triple.supports x).0 e))
-        where
-          order : (y z p r m x' l' : ℤ) → y ≡ p +ℤ m → z ≡ r +ℤ m → x' ≡ neg_ℤ r → l' ≡ neg_ℤ p → y <ℤ pos 0 → pos 0 ≤ℤ z → x' <ℤ l'
-          order y z p r m x' l' e f g h a b = omega (arith, ints)
+      lower x e r = rw (dot-opposite c (at x), dot-opposite c (at l)) (omega (
+        arith,
+        ints,
+        left-linear n (at u) (at v) (at l),
+        left-linear n (at u) (at v) (at x),
+        r,
+        extreme x ((extremes_of_face at ids i j k way.triple.supports x).0 e),
+      ))
 
       from_witness : (ys : List ℕ) × Listed F ys → pos 0 ≤ℤ left n (at u) (at v) (at l)
-      from_witness (ys, s) = by_lt_z (left n (at u) (at v) (at l)) (pos 0)
-          (λ r. absurd (clash r (combination_of_extremes at F ys s (λ x y fx fy e. d x y fx.0 fy.0 e) l h))) (λ r. r)
-        where
-          clash : left n (at u) (at v) (at l) <ℤ pos 0 → Combination at (Extreme at F) (at l) → ⊥
-          clash r m = all_lower at (Extreme at F) (at l) (opposite c) m (lower m.a m.has_a r) (lower m.b m.has_b r) (lower m.c m.has_c r) (lower m.d m.has_d r)
+      from_witness (ys, s) =
+          let m = combination_of_extremes at F ys s (λ x y fx fy e. d x y fx.0 fy.0 e) l h in
+          by_lt_z (left n (at u) (at v) (at l)) (pos 0) (λ r. absurd (all_lower at (Extreme at F) (at l) (opposite c) m
+          (lower m.a m.has_a r) (lower m.b m.has_b r) (lower m.c m.has_c r) (lower m.d m.has_d r))) (λ r. r)

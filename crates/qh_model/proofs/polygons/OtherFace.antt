@@ -1,13 +1,14 @@
 -- The edges of a solid: another face goes along each the other way, found by turning a plane about the edge.
-use Rattle.std.proofs.Common.{◌≡◌, ◌≢◌, ℕ, arith, refl, sym, ap, subst, ◌∙◌, ◌⊎◌, inl, inr, List, Bool, true, false}
+use Rattle.std.proofs.Common.{◌≡◌, ◌≢◌, ℕ, arith, refl, sym, subst, ◌∙◌, ◌⊎◌, inl, inr, List, Bool, true, false}
 use Rattle.std.proofs.lemmas.Int.{ints, by_lt_z}
 use native.Mathlib.Decide.{ℕ_discrete}
-use Rattle.std.specs.Prelude.{ℤ, pos, negsuc, ◌-ℤ◌, ◌*ℤ◌, neg_ℤ, ◌≤ℤ◌, ◌<ℤ◌}
+use mathlib.Core.Logic.{dite}
+use Rattle.std.specs.Prelude.{ℤ, pos, negsuc, ◌-ℤ◌, ◌*ℤ◌, ◌≤ℤ◌, ◌<ℤ◌}
 use Rattle.qh_model.specs.{contract.IdSets.HasDistinctPoints, headline.Dimension.HasTetrahedron, headline.Polygon.Follows}
 use Rattle.qh_model.specs.headline.{Polygons.IsFacePolygon, Predicates.cross, Predicates.vol, Predicates.left, Predicates.AreInLine, Sets.In, Sets.Members}
 use Rattle.qh_model.specs.{headline.SupportingPlane.IsSupportingTriple, headline.Vector.Vector, headline.Vector.dot, laws.EdgeLaws.OtherFace}
-use Rattle.qh_model.proofs.algebra.{Integers.mul_comm, Order.mul-pos, Order.cancel-zero, Order.le_antisym, Order.positive_le, Order.product_zero}
-use Rattle.qh_model.proofs.algebra.{Signs.less_differ, VectorIdentities.edge_product}
+use Rattle.qh_model.proofs.algebra.{Integers.mul_comm, Order.mul-pos, Order.cancel-zero, Order.le_antisym, Order.neg-positive}
+use Rattle.qh_model.proofs.algebra.{Order.positive_le, Order.product_zero, Signs.less_differ, VectorIdentities.edge_product}
 use Rattle.qh_model.proofs.algebra.VectorIdentities.{vol-first, vol-second, vol-flip, vol-swap_last, left-flip, in_line-vol, in_line-left, in_line-twice}
 use Rattle.qh_model.proofs.extremes.Directions.{square-positive}
 use Rattle.qh_model.proofs.polygons.LeftOfEdge.{at_most, below, turn_sign, Way, Third, has_u, has_v, third, square, over, not_right}
@@ -16,10 +17,7 @@ use Rattle.qh_model.proofs.surfaces.VisibleFacets.{Least, least}
 
 -- turned about, and with the last two exchanged, a volume is the same
 vol-both : (u v x y : Vector) → vol v u y x ≡ vol u v x y
-vol-both u v x y = vol-flip v u y x ∙ ap neg_ℤ (vol-swap_last u v y x) ∙ twice (vol u v x y)
-  where
-    twice : (z : ℤ) → neg_ℤ (neg_ℤ z) ≡ z
-    twice z = omega (arith, ints)
+vol-both u v x y = omega (arith, ints, vol-flip v u y x, vol-swap_last u v y x)
 
 -- whether a number is below 0
 is_below : ℤ → Bool
@@ -39,14 +37,7 @@ true_below (negsuc n) h = omega (arith, ints)
 -- of two points the one beyond the plane of the other and the line u v comes first, by their volumes with a and b
 gift_wrap : (u v a b p y : Vector) → pos 0 <ℤ vol u v a b → pos 0 <ℤ vol u v p y → pos 0 <ℤ (vol u v a p *ℤ vol u v b y -ℤ vol u v b p *ℤ vol u v a y)
 gift_wrap u v a b p y h k =
-    finish (vol u v a p *ℤ vol u v b y) (vol u v a y) (vol u v b p) (vol u v a b *ℤ vol u v p y)
-    (edge_product u v a b p y) (mul-pos (vol u v a b) (vol u v p y) h k)
-  where
-    order : (x y z g : ℤ) → x -ℤ y ≡ g → z ≡ y → pos 0 <ℤ g → pos 0 <ℤ (x -ℤ z)
-    order x y z g h e k = omega (arith, ints)
-
-    finish : (x s t g : ℤ) → x -ℤ s *ℤ t ≡ g → pos 0 <ℤ g → pos 0 <ℤ (x -ℤ t *ℤ s)
-    finish x s t g e h = order x (s *ℤ t) (t *ℤ s) g e (mul_comm t s) h
+    rw (mul_comm (vol u v b p) (vol u v a y), edge_product u v a b p y) (mul-pos (vol u v a b) (vol u v p y) h k)
 
 module _ (at : ℕ → Vector) (ids : List ℕ) (d : HasDistinctPoints at (Members ids))
     (solid : HasTetrahedron at (Members ids)) (i j k : ℕ) (q : List ℕ) (u v : ℕ)
@@ -65,10 +56,7 @@ module _ (at : ℕ → Vector) (ids : List ℕ) (d : HasDistinctPoints at (Membe
 
   -- over the edge turned about, they are above 0
   turned : (l : ℕ) → height l <ℤ pos 0 → pos 0 <ℤ vol (at v) (at u) (at x.w) (at l)
-  turned l h = flip _ _ (vol-flip (at v) (at u) (at x.w) (at l)) (under l h)
-    where
-      flip : (p r : ℤ) → p ≡ neg_ℤ r → r <ℤ pos 0 → pos 0 <ℤ p
-      flip p r e h = omega (arith, ints)
+  turned l h = rw (vol-flip (at v) (at u) (at x.w) (at l)) (neg-positive _ (under l h))
 
   -- a member below the plane with no member below the plane beyond the plane of the edge and it
   record Next : Type 0 where
@@ -143,14 +131,17 @@ module _ (at : ℕ → Vector) (ids : List ℕ) (d : HasDistinctPoints at (Membe
 
   -- in its polygon u comes after v
   comes_back : (w : Next) (p : List ℕ) → IsFacePolygon at (Members ids) v u w.w p → Follows v u p
-  comes_back w p f = from_witness (next_member v p has)
+  comes_back w p f =
+      let y = next_member v p ((f.members v).1 ((has_v at ids d i j k q u v way).0, vol-first (at v) (at u) (at w.w))) in
+      let has = (f.members u).1 ((has_u at ids d i j k q u v way).0, vol-second (at v) (at u) (at w.w)) in
+      dite (ℕ_discrete u y.0) (λ e. subst (λ t. Follows v t p) (sym e) y.1) (λ n. absurd (omega (
+        arith,
+        ints,
+        left-flip (cross (at v) (at u) (at w.w)) (at v) (at y.0) (at u),
+        f.round v y.0 y.1 u has differ n,
+        not_right' y.0 (follows_members v y.0 p y.1).1,
+      )))
     where
-      has : In v p
-      has = (f.members v).1 ((has_v at ids d i j k q u v way).0, vol-first (at v) (at u) (at w.w))
-
-      has' : In u p
-      has' = (f.members u).1 ((has_u at ids d i j k q u v way).0, vol-second (at v) (at u) (at w.w))
-
       differ : u ≢ v
       differ e =
           let line = subst (λ t. AreInLine (at u) (at t) (at x.w)) e (in_line-twice (at u) (at x.w)) in
@@ -164,33 +155,15 @@ module _ (at : ℕ → Vector) (ids : List ℕ) (d : HasDistinctPoints at (Membe
           (subst (λ z. z <ℤ pos 0) (sym (vol-both (at u) (at v) (at x.w) (at w.w))) (under w.w w.low))
           (subst (λ z. z ≤ℤ pos 0) (sym (vol-both (at u) (at v) (at x.w) (at y))) (not_over y o.0.0))
 
-      from_witness : (y : ℕ) × Follows v y p → Follows v u p
-      from_witness (y, h) = test (ℕ_discrete u y)
-        where
-          clash : (a b : ℤ) → a ≡ neg_ℤ b → pos 0 <ℤ a → pos 0 ≤ℤ b → ⊥
-          clash a b e h k = omega (arith, ints)
-
-          test : Dec (u ≡ y) → Follows v u p
-          test (yes e) = subst (λ t. Follows v t p) (sym e) h
-          test (no n) = absurd (clash _ _ (left-flip (cross (at v) (at u) (at w.w)) (at v) (at y) (at u))
-              (f.round v y h u has' differ n) (not_right' y (follows_members v y p h).1))
-
 -- the law
 pub other_face : OtherFace
 other_face at ids qs d (inr (inl e)) faces q m u v f = absurd (omega arith)
 other_face at ids qs d (inr (inr (inl e))) faces q m u v f = absurd (omega arith)
 other_face at ids qs d (inr (inr (inr e))) faces q m u v f = absurd (omega arith)
-other_face at ids qs d (inl solid) faces q m u v f = from_witness (faces.only q m)
-  where
-    from_witness : (i : ℕ) × (j : ℕ) × (k : ℕ) × IsSupportingTriple at (Members ids) i j k
-        × IsFacePolygon at (Members ids) i j k q → (p : List ℕ) × In p qs × Follows v u p
-    from_witness (i, j, k, t, g) = turn (next at ids d solid.1 i j k q u v way x)
-      where
-        way : Way at (Members ids) i j k q u v
-        way = record { triple = t; face = g; follows = f }
-
-        x : Third at (Members ids) i j k u v
-        x = third at ids d i j k q u v way
-
-        turn : Next at ids d solid.1 i j k q u v way x → (p : List ℕ) × In p qs × Follows v u p
-        turn w = let r = faces.each v u w.w (triple at ids d solid.1 i j k q u v way x w) in (r.0, r.1, comes_back at ids d solid.1 i j k q u v way x w r.0 r.2)
+other_face at ids qs d (inl solid) faces q m u v f =
+    let (i, j, k, t, g) = faces.only q m in
+    let way : Way at (Members ids) i j k q u v = record { triple = t; face = g; follows = f } in
+    let x = third at ids d i j k q u v way in
+    let w = next at ids d solid.1 i j k q u v way x in
+    let r = faces.each v u w.w (triple at ids d solid.1 i j k q u v way x w) in
+    (r.0, r.1, comes_back at ids d solid.1 i j k q u v way x w r.0 r.2)

@@ -1,5 +1,5 @@
 -- The faces of a solid close up: one face takes each step along an edge, and another the step back.
-use Rattle.std.proofs.Common.{◌≡◌, ℕ, suc, ◌≤◌, length, arith, refl, sym, ap, subst, ◌∙◌, inl, inr, List, [], ◌∷◌}
+use Rattle.std.proofs.Common.{◌≡◌, ℕ, suc, ◌≤◌, le_antisymm, length, refl, sym, ap, subst, ◌∙◌, inl, inr, ⊎_elim, List, [], ◌∷◌}
 use Rattle.std.specs.{List.flat_map, Prelude.◌↔◌}
 use Rattle.qh_model.specs.contract.{ClosedPolygons.steps_along, ClosedPolygons.steps_round, ClosedPolygons.step_count, ClosedSurface.is_edge}
 use Rattle.qh_model.specs.headline.{Polygon.FollowsAlong, Polygon.Follows, Polygons.ComesBefore, Sets.In, Sets.Once}
@@ -23,25 +23,17 @@ Has u v ps = In {X = ℕ × ℕ} (u, v) ps
 pair : {a b c d : ℕ} → a ≡ c → b ≡ d → ◌≡◌ {A = ℕ × ℕ} (a, b) (c, d)
 pair e f = cc
 
+-- equal pairs have equal parts, told from the second
+ends : {a b c d : ℕ} → ◌≡◌ {A = ℕ × ℕ} (a, b) (c, d) → (c ≡ a) × (d ≡ b)
+ends p = (sym (ap (λ (x : ℕ × ℕ). x.0) p), sym (ap (λ (x : ℕ × ℕ). x.1) p))
+
 -- the steps on a way
 on_along : (u v t : ℕ) (r : List ℕ) (e : ℕ) → Has u v (steps_along t r e) ↔ FollowsAlong u v t r e
-on_along u v t [] e = (there, λ f. inl (pair (sym f.0) (sym f.1)))
-  where
-    there : Has u v ((t, e) ∷ []) → FollowsAlong u v t [] e
-    there (inl p) = (sym (ap (λ (x : ℕ × ℕ). x.0) p), sym (ap (λ (x : ℕ × ℕ). x.1) p))
-    there (inr n) = absurd n
-on_along u v t (w ∷ r) e = (there (on_along u v w r e), back_again (on_along u v w r e))
-  where
-    Rest : Type 0
-    Rest = Has u v (steps_along w r e) ↔ FollowsAlong u v w r e
-
-    there : Rest → Has u v ((t, w) ∷ steps_along w r e) → FollowsAlong u v t (w ∷ r) e
-    there rest (inl p) = inl (sym (ap (λ (x : ℕ × ℕ). x.0) p), sym (ap (λ (x : ℕ × ℕ). x.1) p))
-    there rest (inr m) = inr (rest.0 m)
-
-    back_again : Rest → FollowsAlong u v t (w ∷ r) e → Has u v ((t, w) ∷ steps_along w r e)
-    back_again rest (inl f) = inl (pair (sym f.0) (sym f.1))
-    back_again rest (inr f) = inr (rest.1 f)
+on_along u v t [] e = (λ m. ⊎_elim (λ p. ends p) (λ n. absurd n) m, λ f. inl (pair (sym f.0) (sym f.1)))
+on_along u v t (w ∷ r) e = (
+  λ m. ⊎_elim (λ p. inl (ends p)) (λ i. inr ((on_along u v w r e).0 i)) m,
+  λ f. ⊎_elim (λ p. inl (pair (sym p.0) (sym p.1))) (λ g. inr ((on_along u v w r e).1 g)) f,
+)
 
 -- the steps of a polygon are its neighbours
 pub on_round : (u v : ℕ) (q : List ℕ) → Has u v (steps_round q) ↔ Follows u v q
@@ -77,11 +69,8 @@ ordered_once (q ∷ qs) o = (λ i. before-asymmetric q q (o.0 q i) (o.0 q i), or
 
 -- the law
 pub faces_close : FacesClose
-faces_close at ids qs d solid faces u v = both (half u v) (half v u)
+faces_close at ids qs d solid faces u v = le_antisymm (half u v) (half v u)
   where
-    both : {a b : ℕ} → a ≤ b → b ≤ a → a ≡ b
-    both h k = omega arith
-
     one : (p q : List ℕ) → In p qs → In q qs → (u v : ℕ) → Follows u v p → Follows u v q → p ≡ q
     one p q i j u v f g = let x = faces.only p i in let y = faces.only q j in
         one_face_each_way at ids x.0 x.1 x.2 y.0 y.1 y.2 p q u v d x.3 y.3 x.4 y.4 f g

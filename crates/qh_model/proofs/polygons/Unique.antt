@@ -1,5 +1,5 @@
 -- One list alone goes round a set and begins with its least id.
-use Rattle.std.proofs.Common.{◌≡◌, ◌≢◌, ℕ, refl, List, [], ◌∷◌, arith, sym, subst, inl, inr, ⊎_elim}
+use Rattle.std.proofs.Common.{◌≡◌, ℕ, refl, List, [], ◌∷◌, arith, sym, subst, inl, inr, ⊎_elim}
 use Rattle.std.proofs.lemmas.Int.{ints}
 use native.Mathlib.Decide.{ℕ_discrete}
 use Rattle.std.specs.Prelude.{◌↔◌}
@@ -16,12 +16,6 @@ follow n at q p m u [] (w ∷ s) e f g i o k a b = absurd (⊎_elim (λ d. k.0 (
 follow n at q p m u (v ∷ r) [] e f g i o k a b = absurd (⊎_elim (λ d. o.0 (inl (sym d))) (λ d. d) ((i v).0 (inr (inl refl))))
 follow n at q p m u (v ∷ r) (w ∷ s) e f g i o k a b = with_rest (λ f' g' i' k' b'. follow n at q p m v r s e f' g' i' o.1 k' a.1 b') (ℕ_discrete v w)
   where
-    v_u : v ≢ u
-    v_u d = o.0 (inl (sym d))
-
-    w_u : w ≢ u
-    w_u d = k.0 (inl (sym d))
-
     forth : (x : ℕ) → In x (v ∷ r) → In x (w ∷ s)
     forth x j = ⊎_elim (λ d. absurd (o.0 (subst (λ t. In t (v ∷ r)) d j))) (λ l. l) ((i x).0 (inr j))
 
@@ -41,8 +35,8 @@ follow n at q p m u (v ∷ r) (w ∷ s) e f g i o k a b = with_rest (λ f' g' i'
         → Dec (v ≡ w) → (v ∷ r) ≡ (w ∷ s)
     with_rest more (yes d) = let t : r ≡ s = tails more (sym d) in cc
     with_rest more (no ne) =
-        let ahead = a.0 w ((m w).1 (g w (inr (inl refl)))) w_u (λ d. ne (sym d)) in
-        absurd (omega (arith, ints, ahead, left-flip n (at u) (at v) (at w), b.0 v ((m v).0 (f v (inr (inl refl)))) v_u ne))
+        let ahead = a.0 w ((m w).1 (g w (inr (inl refl)))) (λ d. k.0 (inl (sym d))) (λ d. ne (sym d)) in
+        absurd (omega (arith, ints, ahead, left-flip n (at u) (at v) (at w), b.0 v ((m v).0 (f v (inr (inl refl)))) (λ d. o.0 (inl (sym d))) ne))
 
 -- heads that are least in lists with the same members are one
 heads : (u v : ℕ) (us vs : List ℕ) → BeginsWithLeast (u ∷ us) → BeginsWithLeast (v ∷ vs) → In v (u ∷ us) → In u (v ∷ vs) → u ≡ v

@@ -157,14 +157,7 @@ module _ (at : ℕ → Vector) (m : Surface) (s t u v : ℕ) where
 
   -- one facet more
   volumes_more : IsInner m (weighted_at at) (middle_at at s t u v) → (f : ℕ) (fs : List ℕ) → In f m.live → volumes fs ≤ℤ pos 0 → volumes (f ∷ fs) <ℤ pos 0
-  volumes_more z f fs i low =
-      let own : ℕ → ℤ = λ l. vol (at (m.i f)) (at (m.j f)) (at (m.k f)) (at l) in
-      let rest : ℕ → ℤ = λ l. signed_volume at (triples_from m fs) (at l) in
-      added _ (own s) (own t) (own u) (own v) (rest s) (rest t) (rest u) (rest v) (four_volumes f) (z f i) low
-    where
-      added : (x p q r s a b c d : ℤ) → x ≡ p +ℤ q +ℤ r +ℤ s → x <ℤ pos 0 → (a +ℤ b +ℤ c +ℤ d) ≤ℤ pos 0
-          → ((p +ℤ a) +ℤ (q +ℤ b) +ℤ (r +ℤ c) +ℤ (s +ℤ d)) <ℤ pos 0
-      added x p q r s a b c d e h k = omega (arith, ints)
+  volumes_more z f fs i low = omega (arith, ints, four_volumes f, z f i, low)
 
   -- so the sum is not above 0
   volumes_below : IsInner m (weighted_at at) (middle_at at s t u v) → (fs : List ℕ) → ((f : ℕ) → In f fs → In f m.live) → volumes fs ≤ℤ pos 0

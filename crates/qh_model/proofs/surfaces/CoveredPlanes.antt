@@ -64,10 +64,9 @@ module _ (a b c o y : Weighted) (k : ℕ) where
 
   -- and where one that y isn't above sees it, y is on that, for k large enough
   pub sees_beyond_on : neg_ℤ (above a b c o) <ℤ pos k → above a b c y ≤ℤ pos 0 → pos 0 <ℤ above a b c (beyond o y k) → above a b c y ≡ pos 0
-  sees_beyond_on large h sees = by_lt_z (above a b c y) (pos 0) (λ p. absurd (never p)) (λ p. le_antisym _ (pos 0) h p)
-    where
-      never : above a b c y <ℤ pos 0 → ⊥
-      never p = let l = share (neg_ℤ (above a b c o)) (above a b c y) k large p in let s = beyond-is in omega (arith, ints, l, s, sees)
+  sees_beyond_on large h sees =
+      by_lt_z (above a b c y) (pos 0) (λ p. absurd (let s = beyond-is in
+      omega (arith, ints, share (neg_ℤ (above a b c o)) (above a b c y) k large p, s, sees))) (λ p. le_antisym _ (pos 0) h p)
 
 -- ---- a supporting plane
 -- a number is not above 0 if a large multiple of it isn't above another
@@ -77,11 +76,7 @@ large x k b n h q l = by_lt_z (pos 0) x (λ p. absurd (not_less (pos 0) (pos n *
 -- two numbers not above 0 whose sum isn't below 0, one of them taken n times
 both_zero : (n e t : ℤ) → pos 0 <ℤ n → n *ℤ e +ℤ t ≡ pos 0 → e ≤ℤ pos 0 → t ≤ℤ pos 0 → (e ≡ pos 0) × (t ≡ pos 0)
 both_zero n e t h z he ht =
-    let p = parts (n *ℤ e) t z (mul-nonneg_nonpos n e (positive_le n h) he) ht in
-    (cancel-zero n e h p.0, p.1)
-  where
-    parts : (p t : ℤ) → p +ℤ t ≡ pos 0 → p ≤ℤ pos 0 → t ≤ℤ pos 0 → (p ≡ pos 0) × (t ≡ pos 0)
-    parts p t z h k = (omega (arith, ints), omega (arith, ints))
+    let p = mul-nonneg_nonpos n e (positive_le n h) he in (cancel-zero n e h (omega (arith, ints, z, p, ht)), omega (arith, ints, z, p, ht))
 
 -- one of three counts is less than all together
 within_all : (d : Side → ℕ) (s : Side) → suc (d s) ≤ suc (d first) + suc (d second) + suc (d third)

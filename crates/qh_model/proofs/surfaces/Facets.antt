@@ -51,16 +51,11 @@ module _ (m : Surface) where
   pub corner_test : (f l : ℕ) → IsCorner m f l ⊎ (¬ (IsCorner m f l))
   corner_test f l = test (ℕ_discrete l (m.i f)) (ℕ_discrete l (m.j f)) (ℕ_discrete l (m.k f))
     where
-      none : (l ≢ m.i f) → (l ≢ m.j f) → (l ≢ m.k f) → ¬ (IsCorner m f l)
-      none a b c (inl e) = a e
-      none a b c (inr (inl e)) = b e
-      none a b c (inr (inr e)) = c e
-
       test : Dec (l ≡ m.i f) → Dec (l ≡ m.j f) → Dec (l ≡ m.k f) → IsCorner m f l ⊎ (¬ (IsCorner m f l))
       test (yes e) q r = inl (inl e)
       test (no a) (yes e) r = inl (inr (inl e))
       test (no a) (no b) (yes e) = inl (inr (inr e))
-      test (no a) (no b) (no c) = inr (none a b c)
+      test (no a) (no b) (no c) = inr (λ h. ⊎_elim a (λ k. ⊎_elim b c k) h)
 
 module _ (m : Surface) (at : ℕ → Weighted) where
   -- ---- a facet and its neighbour, told by the side between them

@@ -2,6 +2,7 @@
 use Rattle.std.proofs.Common.{◌↔◌, ◌≡◌, ◌≢◌, ℕ, arith, refl, sym, ap, subst, ◌∙◌, ◌⊎◌, inl, inr, List, [], ◌∷◌, ⊎_elim}
 use Rattle.std.proofs.lemmas.Int.{ints}
 use native.Mathlib.Decide.{ℕ_discrete}
+use mathlib.Core.Logic.{dite}
 use Rattle.std.specs.Prelude.{ℤ, pos, ◌+ℤ◌, ◌-ℤ◌, ◌*ℤ◌, ◌≤ℤ◌, ◌<ℤ◌}
 use Rattle.qh_model.specs.contract.{FinishedSurface.weighted_at, FinishedSurface.middle_at, FinishedSurface.IsFinished, Surface.Surface, Surface.IsCorner}
 use Rattle.qh_model.specs.contract.{Surface.rise, Weighted.Weighted, Weighted.weighted, Weighted.weighted_dot, Weighted.above}
@@ -92,11 +93,8 @@ module _ (at : ℕ → Vector) (ids : List ℕ) (m : Surface) (z : IsFinished at
       low j h n = omega (arith, ints, height_is j, e.past j (h, n))
 
       at_most : (j : ℕ) → Members ids j → height j ≤ℤ pos 1
-      at_most j h = either (ℕ_discrete j l)
-        where
-          either : Dec (j ≡ l) → height j ≤ℤ pos 1
-          either (yes q) = equal_le (height j) (pos 1) (ap height q ∙ own)
-          either (no q) = let l = low j h q in omega (arith, ints, l)
+      at_most j h =
+          dite (ℕ_discrete j l) (λ q. equal_le (height j) (pos 1) (ap height q ∙ own)) (λ q. let l = low j h q in omega (arith, ints, l))
 
       two_differ : z.s ≡ z.t → ⊥
       two_differ d =

@@ -2,7 +2,7 @@
 use Rattle.qh_model.specs.contract.SoundSurface.{HasDistinctFacets, IsInner, IsSound, IsStrict, perturbed}
 use Rattle.qh_model.specs.contract.Surface.{IsCorner, Side, Surface, HasTwin, IsWhole, end, rise, start, rest, Side.first, Side.second, Side.third}
 use Rattle.qh_model.specs.{contract.Weighted.Weighted, headline.Sets.In}
-use Rattle.std.proofs.Common.{◌≡◌, ◌≢◌, ℕ, refl, arith, ap, sym, ◌∙◌, subst, ◌⊎◌, inl, inr}
+use Rattle.std.proofs.Common.{◌≡◌, ◌≢◌, ℕ, refl, arith, ap, sym, ◌∙◌, subst, ◌⊎◌, inl, inr, ⊎_elim}
 use Rattle.std.proofs.lemmas.Int.{ints}
 use Rattle.std.specs.Prelude.{pos, neg_ℤ, ◌≤ℤ◌}
 use Rattle.qh_model.proofs.{algebra.Signs.not_less, surfaces.Cone.KeptOf, surfaces.Cone.ConeOf, surfaces.Cone.Replaced, surfaces.Cone.p_fresh}
@@ -11,12 +11,8 @@ use Rattle.qh_model.proofs.surfaces.Facets.{side_rise, side_below, corner_start,
 
 -- all corners of a facet from those of a side
 from_side : (m : Surface) (f : ℕ) (s : Side) (P : ℕ → Type 0) → P (start m f s) → P (end m f s) → P (rest m f s) → (l : ℕ) → IsCorner m f l → P l
-from_side m f s P a b c l k = one (corner_cases m f s l k)
-  where
-    one : (l ≡ start m f s) ⊎ (l ≡ end m f s) ⊎ (l ≡ rest m f s) → P l
-    one (inl e) = subst P (sym e) a
-    one (inr (inl e)) = subst P (sym e) b
-    one (inr (inr e)) = subst P (sym e) c
+from_side m f s P a b c l k =
+    ⊎_elim (λ e. subst P (sym e) a) (λ j. ⊎_elim (λ e. subst P (sym e) b) (λ e. subst P (sym e) c) j) (corner_cases m f s l k)
 
 -- two facets with one side in common, the same way, are one
 pub edge_once : (m : Surface) (home : ℕ → Weighted) (o : Weighted) → IsSound m home o

@@ -93,16 +93,12 @@ LeadsBack m name position = (f : ℕ) → In f m.live → (l : ℕ) → IsCorner
 module _ {m m' : Surface} {name : ℕ → ℕ} (r : IsNamed m m' name) where
   -- a point is as far above a facet as before
   rise_named : (home home' : ℕ → Weighted) → ArePlaced m home home' name → (f : ℕ) → In f m.live → (y : Weighted) → rise m home f y ≡ rise m' home' f y
-  rise_named home home' p f i y = λ k. above (at_i k) (at_j k) (at_k k) y
+  rise_named home home' p f i y =
+      let a = at _ _ (r.i_is f i) (inl refl) in let b = at _ _ (r.j_is f i) (inr (inl refl)) in let c = at _ _ (r.k_is f i) (inr (inr refl)) in
+      λ k. above (a k) (b k) (c k) y
     where
-      at_i : home (m.i f) ≡ home' (m'.i f)
-      at_i = sym (ap home' (r.i_is f i) ∙ p f i (m.i f) (inl refl))
-
-      at_j : home (m.j f) ≡ home' (m'.j f)
-      at_j = sym (ap home' (r.j_is f i) ∙ p f i (m.j f) (inr (inl refl)))
-
-      at_k : home (m.k f) ≡ home' (m'.k f)
-      at_k = sym (ap home' (r.k_is f i) ∙ p f i (m.k f) (inr (inr refl)))
+      at : (l n : ℕ) → n ≡ name l → IsCorner m f l → home l ≡ home' n
+      at l n e c = sym (ap home' e ∙ p f i l c)
 
   -- a strict surface stays strict
   strict_named : (home home' : ℕ → Weighted) → ArePlaced m home home' name → IsStrict m home → IsStrict m' home'
@@ -236,24 +232,19 @@ module _ (name : ℕ → ℕ) where
       at f i = stored_facet fs f ((live_is_marked fs f).0 i)
 
 -- ---- positions in a list of ids
--- positions have the points of the ids at them
-positions_are_named : (pts : List Vector) (ids : List ℕ) → Once ids
-    → IsNaming (place (map (place pts) ids)) (place pts) (length ids) (slice_index ids) (vertex_number ids)
-unfolding place
-positions_are_named pts ids once = record { back = λ l h. number_at ids l once h; point = λ l h. sym (get_or-map (place pts) ids l 0 origin h) }
-
 -- a surface finished over the positions of ids is finished over the ids
 pub finished_by_position : (pts : List Vector) (ids : List ℕ) (name : ℕ → ℕ) (fs : List StoredFacet) → Once ids
     → ((l : ℕ) → l < length ids → name l ≡ slice_index ids l)
     → IsFinished (place (map (place pts) ids)) (range_with_len 0 (length ids)) (surface_of fs)
     → IsFinished (place pts) ids (surface_of (map (named_facet name) fs))
+unfolding place
 finished_by_position pts ids name fs once same h =
     subst (λ xs. IsFinished (place pts) xs (surface_of (map (named_facet name) fs))) (range_named name ids same)
     (finished_named (place (map (place pts) ids)) (place pts) (length ids) name (vertex_number ids) (surface_of fs)
     (surface_of (map (named_facet name) fs)) naming (stored_named name fs) h)
   where
-    is : IsNaming (place (map (place pts) ids)) (place pts) (length ids) (slice_index ids) (vertex_number ids)
-    is = positions_are_named pts ids once
-
     naming : IsNaming (place (map (place pts) ids)) (place pts) (length ids) name (vertex_number ids)
-    naming = record { back = λ l b. ap (vertex_number ids) (same l b) ∙ is.back l b; point = λ l b. ap (place pts) (same l b) ∙ is.point l b }
+    naming = record {
+      back = λ l b. ap (vertex_number ids) (same l b) ∙ number_at ids l once b;
+      point = λ l b. ap (place pts) (same l b) ∙ sym (get_or-map (place pts) ids l 0 origin b);
+    }

@@ -2,10 +2,11 @@
 use Rattle.qh_model.specs.contract.SoundSurface.{IsSound, IsStrict}
 use Rattle.qh_model.specs.contract.Surface.{IsCorner, Side, Surface, HasTwin, IsWhole, end, rise, start, rest}
 use Rattle.qh_model.specs.{contract.Weighted.Weighted, contract.Weighted.above, headline.Sets.In, steps.FarCorners.far}
-use Rattle.std.proofs.Common.{◌≡◌, ◌≢◌, ℕ, refl, [], ◌∷◌, ap, sym, ◌∙◌, subst, ◌⊎◌, inl, inr, Bool, true, false}
+use Rattle.std.proofs.Common.{◌≡◌, ◌≢◌, ℕ, refl, [], ◌∷◌, ap, sym, ◌∙◌, subst, ◌⊎◌, inl, inr, Bool, true}
 use Rattle.std.proofs.lemmas.Bool.{and_parts}
 use native.Mathlib.Decide.{ℕ_discrete}
 use Rattle.std.specs.Prelude.{ℤ, pos, ◌-ℤ◌, ◌*ℤ◌, neg_ℤ, ◌<ℤ◌, ◌&&◌}
+use Rattle.qh_model.proofs.Decisions.{test, told, holds}
 use Rattle.qh_model.proofs.algebra.{Order.mul-neg_neg, Order.neg-positive, Ring.ring, Ring.Expr.var, Ring.Expr.sub as less, Ring.Expr.mul, Ring.Expr.neg}
 use Rattle.qh_model.proofs.algebra.Signs.{less_one_way, equal_negative, opposite_positive, opposite_negative}
 use Rattle.qh_model.proofs.surfaces.{ConePlanes.Old, ConePlanes.apex_rise, ConePlanes.corner_below_cone, Connected.positive, Connected.positive-is}
@@ -53,28 +54,6 @@ module _ (m : Surface) (home : ℕ → Weighted) (o : Weighted) (c : Scene m hom
           (q, side_once m home o c.sound.inner g b.live s t (ap (λ h. start m h s) (sym q) ∙ e))
 
 -- ---- where a horizon side ends another begins
--- is v a corner of the facet?
-has_corner : (m : Surface) (f v : ℕ) → Bool
-has_corner m f v = elim (corner_test m f v) [ inl c ↦ true | inr n ↦ false ]
-
--- the test is right
-has_corner-is : (m : Surface) (f v : ℕ) → has_corner m f v ≡ true → IsCorner m f v
-unfolding has_corner
-has_corner-is m f v e = told (corner_test m f v) e
-  where
-    told : (d : IsCorner m f v ⊎ (¬ (IsCorner m f v))) → elim d [ inl c ↦ true | inr n ↦ false ] ≡ true → IsCorner m f v
-    told (inl c) k = c
-    told (inr n) k = cc
-
--- and finds all
-has_corner-true : (m : Surface) (f v : ℕ) → IsCorner m f v → has_corner m f v ≡ true
-unfolding has_corner
-has_corner-true m f v c = passes (corner_test m f v)
-  where
-    passes : (d : IsCorner m f v ⊎ (¬ (IsCorner m f v))) → elim d [ inl c ↦ true | inr n ↦ false ] ≡ true
-    passes (inl k) = refl
-    passes (inr n) = absurd (n c)
-
 -- a horizon side that starts at v
 pub record Joined (m : Surface) (at : ℕ → Weighted) (top : Weighted) (v : ℕ) : Type 0 where
   pub f : ℕ
@@ -103,7 +82,7 @@ horizon_next m home o c f s r = found (least mark p q m.live (λ g i e. p_pos g 
     w = rest m f s
 
     mark : ℕ → Bool
-    mark g = positive (rise m at g top) && has_corner m g v
+    mark g = positive (rise m at g top) && test (corner_test m g v)
 
     out : ℕ → ℕ
     out g = end m g (from m g v)
@@ -118,17 +97,17 @@ horizon_next m home o c f s r = found (least mark p q m.live (λ g i e. p_pos g 
     q : ℕ → ℤ
     q g = neg_ℤ (round w (at (out g)))
 
-    parts : (g : ℕ) → mark g ≡ true → (positive (rise m at g top) ≡ true) × (has_corner m g v ≡ true)
-    parts g = and_parts (positive (rise m at g top)) (has_corner m g v)
+    parts : (g : ℕ) → mark g ≡ true → (positive (rise m at g top) ≡ true) × (test (corner_test m g v) ≡ true)
+    parts g = and_parts (positive (rise m at g top)) (test (corner_test m g v))
 
     seen : (g : ℕ) → mark g ≡ true → pos 0 <ℤ rise m at g top
     seen g e = positive-is (rise m at g top) (parts g e).0
 
     marked : (g : ℕ) → pos 0 <ℤ rise m at g top → IsCorner m g v → mark g ≡ true
-    marked g a b = rw (positive-true (rise m at g top) a, has_corner-true m g v b) refl
+    marked g a b = rw (positive-true (rise m at g top) a, told (corner_test m g v) b) refl
 
     starts : (g : ℕ) → mark g ≡ true → start m g (from m g v) ≡ v
-    starts g e = from_is m g v (has_corner-is m g v (parts g e).1)
+    starts g e = from_is m g v (holds (corner_test m g v) (parts g e).1)
 
     t : HasTwin m f s
     t = c.whole f r.live s
@@ -179,16 +158,10 @@ horizon_next m home o c f s r = found (least mark p q m.live (λ g i e. p_pos g 
         out' : out g' ≡ far m g d
         out' = ap (end m g') turn ∙ end_next m g' (m.back g d)
 
-        back_d : d ≡ from m g v
-        back_d = sym de
-
-        back_out : far m g d ≡ out g'
-        back_out = sym out'
-
         rising : rise m at g' top ≡ neg_ℤ (round (out g) (at (out g')))
         rising =
             rise_over m at c.whole g i d top
-            ∙ (λ z. above (at (end m g (back_d z))) (at (starts_at_v z)) (at (back_out z)) top)
+            ∙ (λ z. above (at (end m g (sym de z))) (at (starts_at_v z)) (at (sym out' z)) top)
             ∙ turned_first (at v) top (at (out g)) (at (out g'))
 
         after_g : pos 0 <ℤ (p g *ℤ q g' -ℤ q g *ℤ p g')

@@ -97,8 +97,6 @@ round-product l a b p q =
 -- planes through the line u v
 pub line_product : (u v a b p q : Weighted) → above u v a p *ℤ above u v b q -ℤ above u v a q *ℤ above u v b p ≡ above u v a b *ℤ above u v p q
 line_product u v a b p q =
+    let none = ap (λ t. t *ℤ above a b p q) (skew-zero u v) ∙ zero_mul (above a b p q) in
     rw (round-is u v a p, round-is u v b q, round-is u v a q, round-is u v b p, round-is u v a b, round-is u v p q)
-    (last _ (round (line u v) a b *ℤ round (line u v) p q) (skew (line u v)) (above a b p q) (round-product (line u v) a b p q) (skew-zero u v))
-  where
-    last : (l r s d : ℤ) → l ≡ r -ℤ s *ℤ d → s ≡ pos 0 → l ≡ r
-    last l r s d e z = let k : s *ℤ d ≡ pos 0 = ap (λ t. t *ℤ d) z ∙ zero_mul d in omega (arith, ints)
+    (omega (arith, ints, round-product (line u v) a b p q, none))

@@ -1,8 +1,8 @@
 -- The surface of the initial simplex.
-use Rattle.qh_model.specs.contract.{Surface.IsCorner, Surface.Surface, Surface.rise, Weighted.Weighted, Weighted.above}
+use Rattle.qh_model.specs.contract.{Surface.Surface, Surface.rise, Weighted.Weighted, Weighted.above}
 use Rattle.qh_model.specs.contract.SoundSurface.{HasDistinctFacets, IsInner, IsSound, IsStrict, perturbed}
 use Rattle.qh_model.specs.laws.SimplexSurface.{IsSimplexBoundary}
-use Rattle.std.proofs.Common.{ap, ◌≡◌, ℕ, ◌≤◌, arith, sym, ◌∙◌, subst, ◌⊎◌, inl, inr, ⊎_elim}
+use Rattle.std.proofs.Common.{ap, ◌≡◌, ℕ, ◌≤◌, arith, sym, ◌∙◌, subst, ⊎_elim}
 use Rattle.std.proofs.lemmas.Int.{ints}
 use Rattle.std.specs.Prelude.{ℤ, pos, ◌+ℤ◌, ◌*ℤ◌, ◌<ℤ◌}
 use Rattle.qh_model.proofs.algebra.{Order.mul-pos_neg, Signs.less_differ}
@@ -11,11 +11,8 @@ use Rattle.qh_model.proofs.surfaces.{Facets.rise_own, PerturbedInwards.above-per
 module _ (m : Surface) (home : ℕ → Weighted) (r : IsSimplexBoundary m home) where
   -- all is strict as it stands
   strict_home : IsStrict m home
-  strict_home f g i j l c n = below (r.covers f g i j l c)
-    where
-      below : IsCorner m f l ⊎ (l ≡ r.missing f) → rise m home f (home l) <ℤ pos 0
-      below (inl k) = absurd (n k)
-      below (inr e) = subst (λ t. rise m home f (home t) <ℤ pos 0) (sym e) (r.below f i)
+  strict_home f g i j l c n =
+      ⊎_elim (λ k. absurd (n k)) (λ e. subst (λ t. rise m home f (home t) <ℤ pos 0) (sym e) (r.below f i)) (r.covers f g i j l c)
 
   -- the facets differ
   distinct_home : HasDistinctFacets m
@@ -28,10 +25,9 @@ strict_perturbed m home o st n b f g i j l c nc =
     subst (λ v. v <ℤ pos 0) (sym value) (mul-pos_neg (pos n *ℤ pos n *ℤ pos n) _ (cube 0 n b) (mul-pos_neg (pos n) _ (omega (arith, ints)) (st f g i j l c nc)))
   where
     no_tilt : (n v a b c d : ℤ) → n *ℤ n *ℤ n *ℤ (n *ℤ v +ℤ (pos 0 *ℤ a +ℤ pos 0 *ℤ b +ℤ pos 0 *ℤ c +ℤ pos 0 *ℤ d)) ≡ n *ℤ n *ℤ n *ℤ (n *ℤ v)
-    no_tilt n v a b c d = ap (λ t. n *ℤ n *ℤ n *ℤ t) (plain (n *ℤ v) a b c d)
-      where
-        plain : (x a b c d : ℤ) → x +ℤ (pos 0 *ℤ a +ℤ pos 0 *ℤ b +ℤ pos 0 *ℤ c +ℤ pos 0 *ℤ d) ≡ x
-        plain x a b c d = omega (arith, ints)
+    no_tilt n v a b c d =
+        let plain : n *ℤ v +ℤ (pos 0 *ℤ a +ℤ pos 0 *ℤ b +ℤ pos 0 *ℤ c +ℤ pos 0 *ℤ d) ≡ n *ℤ v = omega (arith, ints) in
+        ap (λ t. n *ℤ n *ℤ n *ℤ t) plain
 
     value : rise m (perturbed home o (λ l. 0) n) f (perturbed home o (λ l. 0) n l) ≡ pos n *ℤ pos n *ℤ pos n *ℤ (pos n *ℤ rise m home f (home l))
     value =

@@ -1,7 +1,7 @@
 -- The live facets of a stored surface.
 use Rattle.qh_model.specs.contract.StoredSurface.{StoredFacet, facet_at, live_from, no_facet}
 use Rattle.qh_model.specs.{headline.Sets.In, headline.Sets.Once, laws.LiveFacets.LiveIsMarked, laws.LiveFacets.LiveIsListedOnce}
-use Rattle.std.proofs.Common.{◌≡◌, ℕ, zero, suc, ◌+◌, ◌<◌, ◌≤◌, length, ap, refl, sym, ◌∙◌, subst, arith, List, [], ◌∷◌, inl, inr, Bool, true, false, cond}
+use Rattle.std.proofs.Common.{◌≡◌, ℕ, zero, suc, ◌+◌, ◌<◌, length, ap, refl, sym, ◌∙◌, subst, arith, List, [], ◌∷◌, inl, inr, Bool, true, false, cond}
 use Rattle.std.proofs.lemmas.{Bool.both_ways, Bool.cases_lt, List.get_or_past, List.Sums.sum_by-cons}
 use Rattle.std.specs.Prelude.{count_by}
 
@@ -24,18 +24,16 @@ marked_of n (f ∷ fs) g i = split f.live refl i (marked_of (n + 1) fs g)
 live_of : (n : ℕ) (fs : List StoredFacet) (k : ℕ) → (facet_at fs k).live ≡ true → In (n + k) (live_from n fs)
 live_of n [] k e = absurd (both_ways false refl e)
 live_of n (f ∷ fs) zero e = subst (λ b. In (n + zero) (cond b (n ∷ live_from (n + 1) fs) (live_from (n + 1) fs))) (sym e) (inl (omega arith))
-live_of n (f ∷ fs) (suc k) e = more f.live (subst (λ g. In g (live_from (n + 1) fs)) (omega arith) (live_of (n + 1) fs k e))
-  where
-    more : (b : Bool) → In (n + suc k) (live_from (n + 1) fs) → In (n + suc k) (cond b (n ∷ live_from (n + 1) fs) (live_from (n + 1) fs))
-    more true j = inr j
-    more false j = j
+live_of n (f ∷ fs) (suc k) e =
+    let j : In (n + suc k) (live_from (n + 1) fs) = subst (λ g. In g (live_from (n + 1) fs)) (omega arith) (live_of (n + 1) fs k e) in
+    elim f.live as (λ b. In (n + suc k) (cond b (n ∷ live_from (n + 1) fs) (live_from (n + 1) fs))) [ true ↦ inr j | false ↦ j ]
 
 -- the law
 pub live_is_marked : LiveIsMarked
-live_is_marked fs f = (λ i. to (marked_of 0 fs f i), λ e. subst (λ g. In g (live_from 0 fs)) (omega arith) (live_of 0 fs f e))
-  where
-    to : (k : ℕ) × (f ≡ 0 + k) × ((facet_at fs k).live ≡ true) → (facet_at fs f).live ≡ true
-    to (k, e, q) = subst (λ g. (facet_at fs g).live ≡ true) (sym (e ∙ (omega arith))) q
+live_is_marked fs f = (
+  λ i. let r = marked_of 0 fs f i in subst (λ g. (facet_at fs g).live ≡ true) (sym (r.1 ∙ (omega arith))) r.2,
+  λ e. subst (λ g. In g (live_from 0 fs)) (omega arith) (live_of 0 fs f e),
+)
 
 -- a facet of the surface is live
 pub live_in : (fs : List StoredFacet) (f : ℕ) → In f (live_from 0 fs) → (facet_at fs f).live ≡ true
@@ -45,17 +43,13 @@ live_in fs f = (live_is_marked fs f).0
 pub in_live : (fs : List StoredFacet) (f : ℕ) → (facet_at fs f).live ≡ true → In f (live_from 0 fs)
 in_live fs f = (live_is_marked fs f).1
 
--- a live number is no less than where counting begins
-live_above : (n : ℕ) (fs : List StoredFacet) (g : ℕ) → In g (live_from n fs) → n ≤ g
-live_above n fs g i = let r = marked_of n fs g i in let e = r.1 in omega arith
-
 -- each live number is listed once
 live_once : (n : ℕ) (fs : List StoredFacet) → Once (live_from n fs)
 live_once n [] = tt
 live_once n (f ∷ fs) = by_mark f.live (live_once (n + 1) fs)
   where
     by_mark : (b : Bool) → Once (live_from (n + 1) fs) → Once (cond b (n ∷ live_from (n + 1) fs) (live_from (n + 1) fs))
-    by_mark true o = ((λ i. let h = live_above (n + 1) fs n i in omega arith), o)
+    by_mark true o = ((λ i. let r = marked_of (n + 1) fs n i in absurd (omega (arith, r.1))), o)
     by_mark false o = o
 
 -- the law

@@ -22,16 +22,14 @@ dropped_stay_unseen m home o w z p q f0 i0 sp sq unseen f i blind =
     by_p : (g : ℕ) → c g ≡ true → pos 0 <ℤ rise m home g p
     by_p g e = positive-is (rise m home g p) (and_parts (positive (rise m home g p)) (positive (rise m home g q)) e).0
 
-    by_q : (g : ℕ) → c g ≡ true → pos 0 <ℤ rise m home g q
-    by_q g e = positive-is (rise m home g q) (and_parts (positive (rise m home g p)) (positive (rise m home g q)) e).1
-
     joined : (g : ℕ) → pos 0 <ℤ rise m home g p → pos 0 <ℤ rise m home g q → c g ≡ true
     joined g a b = rw (positive-true (rise m home g p) a, positive-true (rise m home g q) b) refl
 
     horizon : (g : ℕ) → In g m.live → (s : Side) → c g ≡ true → pos 0 <ℤ rise m home (m.over g s) q → rise m home (m.over g s) p ≤ℤ pos 0 → ⊥
     horizon g j s e k l =
         let far_blind = cert m home o z.lifted g (m.over g s) j (w g j s).live (far m g s) (corner_rest m (m.over g s) (m.back g s)) in
-        not_less _ _ (apex_seen m home w g j s p q (by_p g e) l far_blind (by_q g e) k) (unseen g j s (by_p g e) l)
+        let sees_q = positive-is (rise m home g q) (and_parts (positive (rise m home g p)) (positive (rise m home g q)) e).1 in
+        not_less _ _ (apex_seen m home w g j s p q (by_p g e) l far_blind sees_q k) (unseen g j s (by_p g e) l)
 
     grows : (g : ℕ) → In g m.live → (s : Side) → c g ≡ true → positive (rise m home (m.over g s) q) ≡ true → c (m.over g s) ≡ true
     grows g j s e k =
