@@ -3,7 +3,7 @@ use Rattle.std.proofs.Common.{◌≡◌, ◌≢◌, ◌⊎◌, inl, inr, ℕ, �
 use mathlib.Core.Logic.{dite}
 use native.Mathlib.Decide.{ℕ_discrete}
 use Rattle.qh_model.specs.contract.BoardMachine.{Place, untouched, held, parked, used, published, Machine, put, parent, sibling, Acts}
-use Rattle.qh_model.proofs.board.{Grown.Consistent, Grown.place_dec, Grown.ranged, Siblings.ArePair, Siblings.Near, Siblings.near}
+use Rattle.qh_model.proofs.board.{Grown.Consistent, Grown.place_dec, Grown.ranged, Siblings.ArePair, Siblings.Near, Siblings.near, Siblings.of_pair}
 use Rattle.qh_model.proofs.board.Updates.{put_here, put_else, at_put}
 
 -- what a node is after the second arrival from the node i
@@ -36,13 +36,11 @@ module _ (B W : ℕ) (some : 0 < B) (m : Machine) (g : Consistent B W m) (w i : 
   n_i = near i (let r = r_i in omega arith)
 
   pub fresh : m.node (parent i) ≡ untouched
-  fresh = elim (place_dec (m.node (parent i))) as (λ _. m.node (parent i) ≡ untouched) [ inl e ↦ e | inr ne ↦ absurd (clash ne n_i.both) ]
+  fresh = elim (place_dec (m.node (parent i))) as (λ _. m.node (parent i) ≡ untouched) [ inl e ↦ e | inr ne ↦ clash ne ]
     where
-      clash : m.node (parent i) ≢ untouched → ArePair i → ⊥
-      clash ne (inl t) = let u = g.below (parent i) n_i.positive (let r = r_i in let z = n_i.above in omega arith) ne in
-          let f : held w ≡ used = sym mine ∙ (ap m.node (sym t.0) ∙ u.0) in cc
-      clash ne (inr t) = let u = g.below (parent i) n_i.positive (let r = r_i in let z = n_i.above in omega arith) ne in
-          let f : held w ≡ used = sym mine ∙ (ap m.node (sym t.1) ∙ u.1) in cc
+      clash : m.node (parent i) ≢ untouched → m.node (parent i) ≡ untouched
+      clash ne = let u = g.below (parent i) n_i.positive (let r = r_i in let z = n_i.above in omega arith) ne in
+          let f : held w ≡ used = sym mine ∙ of_pair m.node used i n_i.both u in cc
 
   new : ℕ → Place
   new = joined m.node w i

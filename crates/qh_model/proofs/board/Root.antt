@@ -3,7 +3,7 @@ use Rattle.std.proofs.Common.{◌≡◌, ◌≢◌, inl, inr, ℕ, zero, suc, �
 use mathlib.Core.Logic.{dite}
 use native.Mathlib.Decide.{ℕ_discrete, dec_le}
 use Rattle.qh_model.specs.contract.BoardMachine.{Place, untouched, held, parked, used, published, Machine, parent, sibling, settled}
-use Rattle.qh_model.proofs.board.{Grown.Consistent, Grown.ranged, Siblings.ArePair, Siblings.near, Siblings.sibling_even}
+use Rattle.qh_model.proofs.board.{Grown.Consistent, Grown.ranged, Siblings.ArePair, Siblings.near, Siblings.of_pair, Siblings.sibling_even}
 
 module _ (B W : ℕ) (some : 0 < B) where
   -- where the root is published, each other node is used
@@ -13,14 +13,7 @@ module _ (B W : ℕ) (some : 0 < B) where
       let done : m.node (parent i) ≢ untouched =
       dite (ℕ_discrete (parent i) 1) (λ e q. let f : published ≡ untouched = sym pub_ ∙ (ap m.node (sym e) ∙ q) in cc)
       (λ ne q. let f : used ≡ untouched = sym (all_used m g pub_ n (parent i) (omega arith) (omega arith) (omega arith)) ∙ q in cc) in
-      let kids = g.below (parent i) near_.positive (parent_small i b) done in by_pair near_.both kids
-    where
-      parent_small : (i : ℕ) → i < 2 * B → parent i < B
-      parent_small i h = omega arith
-
-      by_pair : ArePair i → (m.node (2 * parent i) ≡ used) × (m.node (2 * parent i + 1) ≡ used) → m.node i ≡ used
-      by_pair (inl t) k = ap m.node (sym t.0) ∙ k.0
-      by_pair (inr t) k = ap m.node (sym t.1) ∙ k.1
+      of_pair m.node used i near_.both (g.below (parent i) near_.positive (omega arith) done)
 
   pub published_only : (m : Machine) → Consistent B W m → m.node 1 ≡ published → (B ≤ m.claims) × ((i w : ℕ) → m.node i ≢ held w)
   published_only m g pub_ = (
@@ -35,66 +28,15 @@ module _ (B W : ℕ) (some : 0 < B) where
           dite (ℕ_discrete i 1) (λ q. let f : published ≡ untouched = sym pub_ ∙ (ap m.node (sym q) ∙ e) in cc)
           (λ ne. let f : used ≡ untouched = sym (all_used m g pub_ (i + 1) i (omega arith) (omega arith) (omega arith)) ∙ e in cc)
 
-  -- where all blocks are claimed and no pass holds a node, each node was delivered; from the leaves up
-  all_reached : (m : Machine) → Consistent B W m → B ≤ m.claims → ((i w : ℕ) → m.node i ≢ held w) → (n i : ℕ)
-      → 2 * B ≤ i + n → 0 < i → i < 2 * B → m.node i ≢ untouched
-  all_reached m g full idle_ zero i h a b = absurd (omega arith)
-  all_reached m g full idle_ (suc n) i h a b = dite (dec_le B i) (λ leaf. g.early i leaf b (omega arith))
-      (λ inner. by_place (m.node (2 * i)) refl (m.node (2 * i + 1)) refl (all_reached m g full idle_ n (2 * i) (omega arith) (omega arith) (omega arith))
-      (all_reached m g full idle_ n (2 * i + 1) (omega arith) (omega arith) (omega arith)))
-    where
-      up_left : m.node (2 * i) ≡ used → m.node i ≢ untouched
-      up_left e = subst (λ (k : ℕ). m.node k ≢ untouched) (half i) (g.up (2 * i) (λ q. omega arith) e)
-        where
-          half : (i : ℕ) → parent (2 * i) ≡ i
-          half i = omega arith
-
-      up_right : m.node (2 * i + 1) ≡ used → m.node i ≢ untouched
-      up_right e = subst (λ (k : ℕ). m.node k ≢ untouched) (half i) (g.up (2 * i + 1) (λ q. omega arith) e)
-        where
-          half : (i : ℕ) → parent (2 * i + 1) ≡ i
-          half i = omega arith
-
-      sib : sibling (2 * i) ≡ 2 * i + 1
-      sib = sibling_even (2 * i) (omega arith)
-
-      by_place : (x : Place) → m.node (2 * i) ≡ x → (y : Place) → m.node (2 * i + 1) ≡ y → m.node (2 * i) ≢ untouched
-          → m.node (2 * i + 1) ≢ untouched → m.node i ≢ untouched
-      by_place untouched ex y ey p q = absurd (p ex)
-      by_place (held w) ex y ey p q = absurd (idle_ (2 * i) w ex)
-      by_place used ex y ey p q = up_left ex
-      by_place published ex y ey p q = let t = g.top (2 * i) ex in absurd (omega arith)
-      by_place parked ex untouched ey p q = absurd (q ey)
-      by_place parked ex (held w) ey p q = absurd (idle_ (2 * i + 1) w ey)
-      by_place parked ex used ey p q = up_right ey
-      by_place parked ex published ey p q = let t = g.top (2 * i + 1) ey in absurd (omega arith)
-      by_place parked ex parked ey p q = absurd (g.pair (2 * i) ex (ap m.node sib ∙ ey))
-
-  pub done_is_published : (m : Machine) → Consistent B W m → B ≤ m.claims → ((i w : ℕ) → m.node i ≢ held w) → m.node 1 ≡ published
-  done_is_published m g full idle_ = by_place (m.node 1) refl
-    where
-      by_place : (x : Place) → m.node 1 ≡ x → m.node 1 ≡ published
-      by_place untouched e = absurd (all_reached m g full idle_ (2 * B) 1 (omega arith) (omega arith) (omega arith) e)
-      by_place (held w) e = absurd (idle_ 1 w e)
-      by_place parked e = absurd (g.root_parked e)
-      by_place used e = absurd (g.root_used e)
-      by_place published e = e
-
   -- an inner node is reached where both its children are delivered
   pub both_up : (m : Machine) → Consistent B W m → (i : ℕ) → 0 < i → settled (m.node (2 * i)) ≡ 1 → settled (m.node (2 * i + 1)) ≡ 1 → m.node i ≢ untouched
   both_up m g i lo a b = by_place (m.node (2 * i)) refl (m.node (2 * i + 1)) refl a b
     where
-      half : parent (2 * i) ≡ i
-      half = omega arith
-
-      half_odd : parent (2 * i + 1) ≡ i
-      half_odd = omega arith
-
       up_left : m.node (2 * i) ≡ used → m.node i ≢ untouched
-      up_left e = subst (λ (k : ℕ). m.node k ≢ untouched) half (g.up (2 * i) (λ q. omega arith) e)
+      up_left e = let half : parent (2 * i) ≡ i = omega arith in subst (λ (k : ℕ). m.node k ≢ untouched) half (g.up (2 * i) (λ q. omega arith) e)
 
       up_right : m.node (2 * i + 1) ≡ used → m.node i ≢ untouched
-      up_right e = subst (λ (k : ℕ). m.node k ≢ untouched) half_odd (g.up (2 * i + 1) (λ q. omega arith) e)
+      up_right e = let half : parent (2 * i + 1) ≡ i = omega arith in subst (λ (k : ℕ). m.node k ≢ untouched) half (g.up (2 * i + 1) (λ q. omega arith) e)
 
       sib : sibling (2 * i) ≡ 2 * i + 1
       sib = sibling_even (2 * i) (omega arith)
@@ -111,6 +53,32 @@ module _ (B W : ℕ) (some : 0 < B) where
       by_place parked ex published ey p q = let t = g.top (2 * i + 1) ey in absurd (omega arith)
       by_place parked ex parked ey p q = absurd (g.pair (2 * i) ex (ap m.node sib ∙ ey))
 
+  -- where no pass holds a node, one that is not untouched was delivered
+  delivered : (m : Machine) → ((i w : ℕ) → m.node i ≢ held w) → (x : Place) (i : ℕ) → m.node i ≡ x → m.node i ≢ untouched → settled (m.node i) ≡ 1
+  delivered m idle_ untouched i e p = absurd (p e)
+  delivered m idle_ (held w) i e p = absurd (idle_ i w e)
+  delivered m idle_ parked i e p = ap settled e
+  delivered m idle_ used i e p = ap settled e
+  delivered m idle_ published i e p = ap settled e
+
+  -- where all blocks are claimed and no pass holds a node, each node was delivered; from the leaves up
+  all_reached : (m : Machine) → Consistent B W m → B ≤ m.claims → ((i w : ℕ) → m.node i ≢ held w) → (n i : ℕ)
+      → 2 * B ≤ i + n → 0 < i → i < 2 * B → m.node i ≢ untouched
+  all_reached m g full idle_ zero i h a b = absurd (omega arith)
+  all_reached m g full idle_ (suc n) i h a b = dite (dec_le B i) (λ leaf. g.early i leaf b (omega arith)) (λ inner. both_up m g i a
+      (delivered m idle_ (m.node (2 * i)) (2 * i) refl (all_reached m g full idle_ n (2 * i) (omega arith) (omega arith) (omega arith)))
+      (delivered m idle_ (m.node (2 * i + 1)) (2 * i + 1) refl (all_reached m g full idle_ n (2 * i + 1) (omega arith) (omega arith) (omega arith))))
+
+  pub done_is_published : (m : Machine) → Consistent B W m → B ≤ m.claims → ((i w : ℕ) → m.node i ≢ held w) → m.node 1 ≡ published
+  done_is_published m g full idle_ = by_place (m.node 1) refl
+    where
+      by_place : (x : Place) → m.node 1 ≡ x → m.node 1 ≡ published
+      by_place untouched e = absurd (all_reached m g full idle_ (2 * B) 1 (omega arith) (omega arith) (omega arith) e)
+      by_place (held w) e = absurd (idle_ 1 w e)
+      by_place parked e = absurd (g.root_parked e)
+      by_place used e = absurd (g.root_used e)
+      by_place published e = e
+
   -- the children of a parked node's parent: it alone was delivered
   pub parked_alone : (m : Machine) → Consistent B W m → (i : ℕ) → m.node i ≡ parked
       → (1 < i) × (i < 2 * B) × (settled (m.node (2 * parent i)) + settled (m.node (2 * parent i + 1)) ≡ 1)
@@ -122,10 +90,6 @@ module _ (B W : ℕ) (some : 0 < B) where
       sum (inl t) z = let a = ap (λ (k : ℕ). settled (m.node k)) t.0 in let b = ap (λ (k : ℕ). settled (m.node k)) t.1 in let c = ap settled e in omega arith
       sum (inr t) z = let a = ap (λ (k : ℕ). settled (m.node k)) t.0 in let b = ap (λ (k : ℕ). settled (m.node k)) t.1 in let c = ap settled e in omega arith
 
-      clash : 1 < i → ArePair i → (m.node (2 * parent i) ≡ used) × (m.node (2 * parent i + 1) ≡ used) → ⊥
-      clash lo (inl t) k = let f : parked ≡ used = sym e ∙ (ap m.node (sym t.0) ∙ k.0) in cc
-      clash lo (inr t) k = let f : parked ≡ used = sym e ∙ (ap m.node (sym t.1) ∙ k.1) in cc
-
       sib : 1 < i → (x : Place) → m.node (sibling i) ≡ x → settled (m.node (sibling i)) ≡ 0
       sib lo untouched q = ap settled q
       sib lo (held w) q = ap settled q
@@ -134,7 +98,7 @@ module _ (B W : ℕ) (some : 0 < B) where
           let r = ranged B W some m g i (λ q. let f : parked ≡ untouched = sym e ∙ q in cc) in
           let up_ : m.node (parent i) ≢ untouched =
           subst (λ (k : ℕ). m.node k ≢ untouched) n.same (g.up (sibling i) (λ z. omega arith) q) in
-          absurd (clash lo n.both (g.below (parent i) pos (omega arith) up_))
+          let f : parked ≡ used = sym e ∙ of_pair m.node used i n.both (g.below (parent i) pos (omega arith) up_) in cc
       sib lo published q = let n = near i lo in let above = n.above_sibling in let pos = n.positive in let t = g.top (sibling i) q in absurd (omega arith)
 
   -- both children of a used node's parent are used

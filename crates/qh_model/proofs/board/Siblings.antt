@@ -1,5 +1,5 @@
 -- The numbers of a node, its sibling and its parent.
-use Rattle.std.proofs.Common.{◌≡◌, ◌≢◌, ◌⊎◌, inl, inr, ℕ, ◌+◌, ◌-◌, ◌*◌, ◌%◌, ◌<◌, refl, ap, ◌∙◌, arith, eq-eqb, ne_eqb}
+use Rattle.std.proofs.Common.{◌≡◌, ◌≢◌, ◌⊎◌, inl, inr, ℕ, ◌+◌, ◌-◌, ◌*◌, ◌%◌, ◌<◌, refl, ap, sym, ◌∙◌, arith, eq-eqb, ne_eqb}
 use mathlib.Core.Logic.{dite}
 use native.Mathlib.Decide.{ℕ_discrete}
 use Rattle.qh_model.specs.contract.BoardMachine.{parent, sibling}
@@ -13,6 +13,11 @@ sibling_odd i e = rw (ne_eqb (i % 2) 0 e) refl
 -- a node and its sibling are the children of their parent, one way round or the other
 abbrev pub ArePair : ℕ → Type 0
 ArePair i = ((2 * parent i ≡ i) × (2 * parent i + 1 ≡ sibling i)) ⊎ ((2 * parent i ≡ sibling i) × (2 * parent i + 1 ≡ i))
+
+-- what both children of its parent have a node has
+pub of_pair : {X : Type 0} (f : ℕ → X) (x : X) (i : ℕ) → ArePair i → (f (2 * parent i) ≡ x) × (f (2 * parent i + 1) ≡ x) → f i ≡ x
+of_pair f x i (inl t) k = ap f (sym t.0) ∙ k.0
+of_pair f x i (inr t) k = ap f (sym t.1) ∙ k.1
 
 -- the numbers of a node other than the root, its sibling and its parent
 pub record Near (i : ℕ) : Type 0 where

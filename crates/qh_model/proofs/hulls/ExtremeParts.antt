@@ -1,11 +1,12 @@
 -- Parts of a set of ids, which are sets of ids; one that has all its extreme ids is not empty and has its hull.
 use Rattle.std.proofs.Common.{ℕ, ◌<◌, List, length, get_or, arith}
-use Rattle.std.specs.{List.Sorted.IsStrictlyIncreasing, Prelude.◌↔◌}
+use Rattle.std.specs.{List.Sorted.IsStrictlyIncreasing}
 use Rattle.qh_model.specs.contract.IdSets.{AreIndices, IsIdSet}
 use Rattle.qh_model.specs.headline.{Extreme.Extreme, Hull.AreExtremes, Hull.BodyValue, Hull.IsBody, Predicates.place, Sets.In, Sets.Members, Vector.Vector}
 use Rattle.qh_model.specs.laws.HullLaws.{HasExtremes}
 use Rattle.qh_model.proofs.Members.{All-In, All-of, In-get_or, in_at}
-use Rattle.qh_model.proofs.{extremes.ExtremeIds.members_are_combinations, hulls.SameSets.extremes_of_part, hulls.SameSets.body_of_part}
+use Rattle.qh_model.proofs.{extremes.ExtremeIds.members_are_combinations, hulls.OfExtremes.extremes_told}
+use Rattle.qh_model.proofs.hulls.SameSets.{extremes_of_part, body_of_part}
 
 -- ids of a list of indices are indices
 pub part_indices : (pts : List Vector) (ids part : List ℕ) → AreIndices pts ids → ((i : ℕ) → In i part → In i ids) → AreIndices pts part
@@ -27,11 +28,8 @@ part_some pts ids part set some extremes =
 -- its extreme ids are those of the set
 pub part_extremes : (pts : List Vector) (ids part xs : List ℕ) → IsIdSet pts ids → HasExtremes pts ids part
     → AreExtremes (place pts) (Members part) xs → AreExtremes (place pts) (Members ids) xs
-part_extremes pts ids part xs set h x =
-    record { rising = x.rising; members = λ i. ((λ m. (same i).0 ((x.members i).0 m)), (λ e. (x.members i).1 ((same i).1 e))) }
-  where
-    same : (i : ℕ) → Extreme (place pts) (Members part) i ↔ Extreme (place pts) (Members ids) i
-    same = extremes_of_part (place pts) ids part set.distinct h.within h.extremes
+part_extremes pts ids part xs set h =
+    extremes_told (place pts) (Members part) (Members ids) (extremes_of_part (place pts) ids part set.distinct h.within h.extremes) xs
 
 -- its hull is that of the set
 pub part_body : (pts : List Vector) (ids part : List ℕ) (b : BodyValue) → IsIdSet pts ids → IsStrictlyIncreasing part → HasExtremes pts ids part

@@ -6,7 +6,7 @@ use Rattle.qh_model.specs.{contract.Places.IsPlace, headline.Hull.HullValue}
 use Rattle.qh_model.specs.headline.{Hull.IsHull, Limits.IsCoordinate, PointFile.coordinates, Predicates.place, Sets.In, Vector.Vector, Vector.origin}
 use Rattle.qh_model.specs.laws.RoundTrip.{CanBeRead, extreme_points}
 use Rattle.qh_model.proofs.DistinctIds.{distinct_apart, some_id, few_below}
-use Rattle.qh_model.proofs.{Members.In-get_or, extremes.ExtremeIds.members_are_combinations}
+use Rattle.qh_model.proofs.{Members.In-get_or, Members.in_at, extremes.ExtremeIds.members_are_combinations}
 
 module _ (pts : List Vector) (h : HullValue) (s : IsHull pts h) where
   -- an extreme id is the index of a point
@@ -18,15 +18,7 @@ module _ (pts : List Vector) (h : HullValue) (s : IsHull pts h) where
   some_extreme some =
       let first = In-get_or s.ids 0 0 (some_id pts s.ids s.distinct_ids some) in
       let c = members_are_combinations (place pts) s.ids (distinct_apart pts s.ids s.distinct_ids) (get_or s.ids 0 0) first in
-      member c.a h.body.extremes ((s.body.extremes.members c.a).1 c.has_a)
-    where
-      member : (i : ℕ) (xs : List ℕ) → In i xs → 1 ≤ length xs
-      member i [] m = absurd m
-      member i (x ∷ xs) m = omega arith
-
-  -- the number of extreme ids is at most that of the points
-  few_extremes : length h.body.extremes ≤ length pts
-  few_extremes = few_below (length pts) h.body.extremes s.body.extremes.rising extreme_within
+      let r = in_at h.body.extremes c.a ((s.body.extremes.members c.a).1 c.has_a) in omega (arith, r.1)
 
 -- a point of points in range is in range
 place_in_range : (pts : List Vector) → Every IsCoordinate (coordinates pts) → (i : ℕ) → i < length pts → IsPlace (get_or pts i origin)
@@ -49,6 +41,6 @@ extreme_points_can_be_read pts h s can =
     let count : length (extreme_points pts h) ≡ length h.body.extremes = length-map h.body.extremes (place pts) in
     record {
       some = omega (arith, count, some_extreme pts h s can.some);
-      few = omega (arith, count, few_extremes pts h s, can.few);
+      few = omega (arith, count, few_below (length pts) h.body.extremes s.body.extremes.rising (extreme_within pts h s), can.few);
       limit = places_in_range pts can.limit h.body.extremes (extreme_within pts h s);
     }

@@ -1,6 +1,7 @@
 -- Sets in one plane: their triangles have one direction or the opposite one, and one of the two points forward.
-use Rattle.std.proofs.{Common.◌≡◌, Common.◌≢◌, Common.ℕ, Common.arith, Common.ap, Common.◌∙◌, Common.◌⊎◌, Common.inl, Common.inr, lemmas.Int.ints}
-use Rattle.std.specs.Prelude.{ℤ, pos, neg_ℤ, ◌<ℤ◌}
+use Rattle.std.proofs.Common.{◌≡◌, ◌≢◌, ℕ, arith, ap, ◌∙◌, ◌⊎◌, inl, inr, ⊎_elim}
+use Rattle.std.proofs.lemmas.Int.{ints}
+use Rattle.std.specs.Prelude.{pos}
 use Rattle.qh_model.specs.headline.{Dimension.HasTetrahedron, Polygons.PointsForward, Predicates.cross, Predicates.vol, Predicates.AreInLine, Vector.Vector}
 use Rattle.qh_model.specs.{headline.Vector.origin, headline.Vector.minus, headline.Vector.dot, laws.FaceLaws.IsAlong}
 use Rattle.qh_model.proofs.algebra.{Order.zero_or_not, VectorIdentities.opposite}
@@ -8,26 +9,15 @@ use Rattle.qh_model.proofs.extremes.Directions.{positive_along, zero_along, norm
 
 -- four points of a set with no tetrahedron lie in one plane
 pub flat_volume : (at : ℕ → Vector) (A : ℕ → Type 0) → ¬ (HasTetrahedron at A) → (i j k l : ℕ) → A i → A j → A k → A l → vol (at i) (at j) (at k) (at l) ≡ pos 0
-flat_volume at A n i j k l hi hj hk hl = by_cases (zero_or_not (vol (at i) (at j) (at k) (at l)))
-  where
-    by_cases : (vol (at i) (at j) (at k) (at l) ≡ pos 0) ⊎ (¬ (vol (at i) (at j) (at k) (at l) ≡ pos 0)) → vol (at i) (at j) (at k) (at l) ≡ pos 0
-    by_cases (inl e) = e
-    by_cases (inr d) = absurd (n (record { i = i; j = j; k = k; l = l; has_i = hi; has_j = hj; has_k = hk; has_l = hl; volume = d }))
+flat_volume at A n i j k l hi hj hk hl =
+    ⊎_elim (λ e. e) (λ d. absurd (n (record { i = i; j = j; k = k; l = l; has_i = hi; has_j = hj; has_k = hk; has_l = hl; volume = d })))
+    (zero_or_not (vol (at i) (at j) (at k) (at l)))
 
 -- what points forward is not zero
 pub forward_not_zero : (n : Vector) → PointsForward n → n ≢ origin
-forward_not_zero n (inl h) e = positive_zero n.x (ap (λ v. v.x) e) h
-  where
-    positive_zero : (x : ℤ) → x ≡ pos 0 → pos 0 <ℤ x → ⊥
-    positive_zero x e h = omega (arith, ints)
-forward_not_zero n (inr (x, inl h)) e = positive_zero n.y (ap (λ v. v.y) e) h
-  where
-    positive_zero : (x : ℤ) → x ≡ pos 0 → pos 0 <ℤ x → ⊥
-    positive_zero x e h = omega (arith, ints)
-forward_not_zero n (inr (x, inr (y, h))) e = positive_zero n.z (ap (λ v. v.z) e) h
-  where
-    positive_zero : (x : ℤ) → x ≡ pos 0 → pos 0 <ℤ x → ⊥
-    positive_zero x e h = omega (arith, ints)
+forward_not_zero n (inl h) e = let z : n.x ≡ pos 0 = ap (λ v. v.x) e in omega (arith, ints)
+forward_not_zero n (inr (x, inl h)) e = let z : n.y ≡ pos 0 = ap (λ v. v.y) e in omega (arith, ints)
+forward_not_zero n (inr (x, inr (y, h))) e = let z : n.z ≡ pos 0 = ap (λ v. v.z) e in omega (arith, ints)
 
 -- a direction points forward as a whole
 pub forward_along : (n m : Vector) → IsAlong n m → PointsForward n → PointsForward m
@@ -36,17 +26,13 @@ forward_along n m h (inr (x, inl y)) = inr (zero_along h.s h.t n.x m.x h.some_t 
 forward_along n m h (inr (x, inr (y, z))) =
     inr (zero_along h.s h.t n.x m.x h.some_t h.x x, inr (zero_along h.s h.t n.y m.y h.some_t h.y y, positive_along h.s h.t n.z m.z h.some_s h.some_t h.z z))
 
--- nor has a positive number the opposite 0
-positive_zero : (x : ℤ) → pos 0 <ℤ x → neg_ℤ x ≡ pos 0 → ⊥
-positive_zero x h k = omega (arith, ints)
-
 -- so at most one of two opposite directions points forward
 pub one_forward : (n : Vector) → PointsForward n → PointsForward (opposite n) → ⊥
 one_forward n (inl x) (inl x') = omega (arith, ints, x')
-one_forward n (inl x) (inr (x', k)) = positive_zero n.x x x'
+one_forward n (inl x) (inr (x', k)) = omega (arith, ints, x')
 one_forward n (inr (x, k)) (inl x') = omega (arith, ints, x')
 one_forward n (inr (x, inl y)) (inr (x', inl y')) = omega (arith, ints, y')
-one_forward n (inr (x, inl y)) (inr (x', inr (y', k))) = positive_zero n.y y y'
+one_forward n (inr (x, inl y)) (inr (x', inr (y', k))) = omega (arith, ints, y')
 one_forward n (inr (x, inr (y, z))) (inr (x', inl y')) = omega (arith, ints, y')
 one_forward n (inr (x, inr (y, z))) (inr (x', inr (y', z'))) = omega (arith, ints, z')
 

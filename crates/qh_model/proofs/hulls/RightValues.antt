@@ -6,11 +6,12 @@ use native.Mathlib.Decide.{ℕ_discrete}
 use mathlib.Core.Logic.{dite}
 use Rattle.qh_model.specs.contract.{BoardMachine.InSpan, Cut.IsCut, Cut.bound, Cut.block_count, Cut.positions, IdSets.HasDistinctPoints, IdSets.IsIdSet}
 use Rattle.qh_model.specs.{contract.RightValue.block_ids, contract.RightValue.IsIdOfBlocks, contract.RightValue.RightValue, headline.Extreme.Extreme}
-use Rattle.qh_model.specs.headline.{Extreme.Others, Hull.AreExtremes, Hull.BodyValue, Hull.IsBody, Predicates.place, Sets.In, Sets.Members, Vector.Vector}
+use Rattle.qh_model.specs.headline.{Extreme.Others, Hull.AreExtremes, Predicates.place, Sets.In, Sets.Members, Vector.Vector}
 use Rattle.qh_model.specs.laws.{CutLaws.IsInBlock, RightValueLaws.RightOfLeaf, RightValueLaws.RightOfNode, RightValueLaws.HullOfRoot}
 use Rattle.qh_model.proofs.{Cuts.blocks_cover, Members.In-get_or, Members.in_at, board.Spans.span_of_leaf, board.Spans.span_of_node, board.Spans.span_of_root}
-use Rattle.qh_model.proofs.{extremes.ExtremeIds.combination_within, extremes.ExtremeIds.extremes_between, hulls.SameSets.Same, hulls.SameSets.extreme_as}
-use Rattle.qh_model.proofs.{hulls.SameSets.body_of_part, lists.Joined.in_append, lists.Joined.of_append, lists.Rising.part_at, lists.Rising.rising_part}
+use Rattle.qh_model.proofs.{extremes.ExtremeIds.combination_within, extremes.ExtremeIds.extremes_between, hulls.OfExtremes.extremes_told}
+use Rattle.qh_model.proofs.hulls.SameSets.{body_of_part, extreme_as}
+use Rattle.qh_model.proofs.{lists.Joined.in_append, lists.Joined.of_append, lists.Rising.part_at, lists.Rising.rising_part}
 
 -- ---- the ids of a block
 -- an id of a block is one of the list
@@ -41,18 +42,12 @@ block_set pts ids bounds k set =
     }
 
 -- ---- right values
--- sets with the same members have the same extreme ids
-extremes_as : (at : ℕ → Vector) (A B : ℕ → Type 0) (xs : List ℕ) → Same A B → AreExtremes at A xs → AreExtremes at B xs
-extremes_as at A B xs same x = let s = extreme_as at A B same in record {
-  rising = x.rising;
-  members = λ i. (λ m. (s i).0 ((x.members i).0 m), λ e. (x.members i).1 ((s i).1 e));
-}
-
 -- the extreme ids of a block are right for a set that has it alone
 pub right_of_block : (pts : List Vector) (ids bounds : List ℕ) (k : ℕ) (J : ℕ → Type 0) (xs : List ℕ) → k < block_count bounds → ((l : ℕ) → J l ↔ (l ≡ k))
     → AreExtremes (place pts) (Members (block_ids ids bounds k)) xs → RightValue pts ids bounds J xs
-right_of_block pts ids bounds k J xs h only x = extremes_as (place pts) (Members (block_ids ids bounds k)) (IsIdOfBlocks ids bounds J) xs
-    (λ i. (λ m. (k, h, (only k).1 refl, m), λ b. subst (λ l. In i (block_ids ids bounds l)) ((only b.0).0 b.2) b.3)) x
+right_of_block pts ids bounds k J xs h only = extremes_told (place pts) (Members (block_ids ids bounds k)) (IsIdOfBlocks ids bounds J)
+    (extreme_as (place pts) (Members (block_ids ids bounds k)) (IsIdOfBlocks ids bounds J)
+    (λ i. (λ m. (k, h, (only k).1 refl, m), λ b. subst (λ l. In i (block_ids ids bounds l)) ((only b.0).0 b.2) b.3))) xs
 
 -- they are ids of the list
 pub right_within : (pts : List Vector) (ids bounds : List ℕ) (J : ℕ → Type 0) (xs : List ℕ) → RightValue pts ids bounds J xs → (i : ℕ) → In i xs → In i ids
@@ -153,10 +148,6 @@ module _ (pts : List Vector) (ids bounds : List ℕ) (J : ℕ → Type 0) (xs : 
             (place pts i) mix (λ j o. (block_within ids bounds o.0.0 j o.0.3, o.1))),
       )
 
-  -- the hull of the list is that of all
-  root_body : (b : BodyValue) → HasDistinctPoints (place pts) (Members ids) → IsBody (place pts) (Members xs) b → IsBody (place pts) (Members ids) b
-  root_body b apart h = body_of_part (place pts) ids xs b apart (right_within pts ids bounds J xs x) root_has h
-
 -- ---- the laws
 pub right_of_leaf : RightOfLeaf
 right_of_leaf pts ids bounds k xs h x =
@@ -169,4 +160,6 @@ right_of_node pts ids bounds i xs ys zs vs apart lo hi x y union v =
 
 pub hull_of_root : HullOfRoot
 hull_of_root pts ids bounds xs b apart cut whole x h =
-    root_body pts ids bounds (InSpan (block_count bounds) 1) xs cut whole (λ k l. (span_of_root (block_count bounds) k).1 l) x b apart h
+    let J = InSpan (block_count bounds) 1 in
+    body_of_part (place pts) ids xs b apart (right_within pts ids bounds J xs x)
+    (root_has pts ids bounds J xs cut whole (λ k l. (span_of_root (block_count bounds) k).1 l) x) h

@@ -1,11 +1,12 @@
 -- Each part of a hull is one value: distinct ids, polygons, and the number of edges.
 use Rattle.std.proofs.Common.{◌≡◌, ℕ, ◌<◌, refl, List, [], ◌∷◌, length, arith, sym, ap, subst, ◌∙◌, ◌⊎◌, inl, inr}
 use native.Mathlib.Decide.{ℕ_discrete}
+use mathlib.Core.Logic.{dite}
 use Rattle.std.specs.Prelude.{◌↔◌}
 use Rattle.qh_model.specs.headline.Dimension.{HasTetrahedron, HasSegment, IsDimension}
 use Rattle.qh_model.specs.headline.{Extreme.Extreme, Hull.BodyValue, Hull.HullValue, Hull.IsBody}
-use Rattle.qh_model.specs.headline.Polygons.{AreFaces, IsFacePolygon, IsFlatFace, IsSegmentFace, IsPointFace, ArePolygons, IsEdgeCount, PointsForward}
-use Rattle.qh_model.specs.headline.{Predicates.cross, Predicates.place, Sets.In, Sets.Members, SupportingPlane.IsSupportingTriple, SupportingPlane.OnPlane}
+use Rattle.qh_model.specs.headline.Polygons.{AreFaces, IsFlatFace, IsSegmentFace, IsPointFace, ArePolygons, IsEdgeCount, PointsForward}
+use Rattle.qh_model.specs.headline.{Predicates.cross, Predicates.place, Sets.In, Sets.Members, SupportingPlane.OnPlane}
 use Rattle.qh_model.specs.{headline.Text.hull_text, headline.Vector.Vector, laws.FaceLaws.IsAlong, laws.HullLaws.BodyIsUnique}
 use Rattle.qh_model.specs.laws.HullLaws.{HullIsUnique, TextIsUnique, PolygonsAreUnique, EdgeCountIsUnique, RisingListIsUnique, DistinctIdsAreUnique}
 use Rattle.qh_model.proofs.{extremes.Dimensions.one_dimension, extremes.Directions.cross-flip, hulls.FlatSets.forward_not_zero, hulls.FlatSets.forward_along}
@@ -34,11 +35,9 @@ one_face_list : (at : ℕ → Vector) (A : ℕ → Type 0) (ps qs : List (List �
 one_face_list at A ps qs a b = rising_unique ps qs a.rising b.rising (λ q. (over ps qs a b q, over qs ps b a q))
   where
     over : (ps qs : List (List ℕ)) → AreFaces at A ps → AreFaces at A qs → (q : List ℕ) → In q ps → In q qs
-    over ps qs a b q i = from_witness (a.only q i)
-      where
-        from_witness : (i : ℕ) × (j : ℕ) × (k : ℕ) × IsSupportingTriple at A i j k × IsFacePolygon at A i j k q → In q qs
-        from_witness (u, v, w, t, p) = let r = b.each u v w t in
-            subst (λ s. In s qs) (one_polygon at (OnPlane at (Extreme at A) u v w) (cross (at u) (at v) (at w)) r.0 q r.2 p) r.1
+    over ps qs a b q i =
+        let (u, v, w, t, p) = a.only q i in let r = b.each u v w t in
+        subst (λ s. In s qs) (one_polygon at (OnPlane at (Extreme at A) u v w) (cross (at u) (at v) (at w)) r.0 q r.2 p) r.1
 
 -- dimension 2: one polygon
 one_flat_face : (at : ℕ → Vector) (A : ℕ → Type 0) → ¬ (HasTetrahedron at A) → (p q : List ℕ) → IsFlatFace at A p → IsFlatFace at A q → p ≡ q
@@ -56,11 +55,8 @@ one_flat_face at A n p q a b =
 
 -- dimension 1: one pair
 one_segment_face : (at : ℕ → Vector) (A : ℕ → Type 0) (p q : List ℕ) → IsSegmentFace at A p → IsSegmentFace at A q → p ≡ q
-one_segment_face at A p q a b = a.is ∙ pair (ends.0) (ends.1) ∙ sym b.is
+one_segment_face at A p q a b = a.is ∙ (λ t. ends.0 t ∷ ends.1 t ∷ []) ∙ sym b.is
   where
-    pair : a.i ≡ b.i → a.j ≡ b.j → (a.i ∷ a.j ∷ []) ≡ (b.i ∷ b.j ∷ [])
-    pair e f = cc (e, f)
-
     in_b : (l : ℕ) → (l ≡ a.i) ⊎ (l ≡ a.j) → (l ≡ b.i) ⊎ (l ≡ b.j)
     in_b l h = (b.members l).1 ((a.members l).0 h)
 
@@ -75,11 +71,9 @@ one_segment_face at A p q a b = a.is ∙ pair (ends.0) (ends.1) ∙ sym b.is
 
 -- dimension 0: one id
 one_point_face : (A : ℕ → Type 0) → ¬ (HasSegment A) → (p q : List ℕ) → IsPointFace A p → IsPointFace A q → p ≡ q
-one_point_face A n p q a b = a.is ∙ same (ℕ_discrete a.i b.i) ∙ sym b.is
-  where
-    same : Dec (a.i ≡ b.i) → (a.i ∷ []) ≡ (b.i ∷ [])
-    same (yes e) = cc e
-    same (no d) = absurd (n (record { i = a.i; j = b.i; has_i = a.has_i; has_j = b.has_i; differ = d }))
+one_point_face A n p q a b =
+    let same : a.i ≡ b.i = dite (ℕ_discrete a.i b.i) (λ e. e) (λ d. absurd (n (record { i = a.i; j = b.i; has_i = a.has_i; has_j = b.has_i; differ = d }))) in
+    a.is ∙ ap (λ i. i ∷ []) same ∙ sym b.is
 
 -- one list of one polygon
 one_of_one : (F : List ℕ → Type 0) → ((p q : List ℕ) → F p → F q → p ≡ q) → (ps qs : List (List ℕ))

@@ -31,11 +31,8 @@ in_flat_map f (z ∷ xs) x y (inr m) h = in_append (f z) (flat_map f xs) y (inr 
 -- and back
 pub of_flat_map : {X Y : Type 0} (f : X → List Y) (xs : List X) (y : Y) → In y (flat_map f xs) → (x : X) × In x xs × In y (f x)
 of_flat_map f [] y m = absurd m
-of_flat_map {X} {Y} f (z ∷ xs) y m = with_rest (of_flat_map f xs y) (of_append (f z) (flat_map f xs) y m)
-  where
-    with_rest : (In y (flat_map f xs) → (x : X) × In x xs × In y (f x)) → In y (f z) ⊎ In y (flat_map f xs) → (x : X) × In x (z ∷ xs) × In y (f x)
-    with_rest rest (inl h) = (z, inl refl, h)
-    with_rest rest (inr h) = let r = rest h in (r.0, inr r.1, r.2)
+of_flat_map f (z ∷ xs) y m =
+    ⊎_elim (λ h. (z, inl refl, h)) (λ h. let r = of_flat_map f xs y h in (r.0, inr r.1, r.2)) (of_append (f z) (flat_map f xs) y m)
 
 -- a walk over a list that appends the list of each member: once that of the first is appended, those of the rest are left
 pub join_next : {X Y : Type 0} (f : X → List Y) (old new all : List Y) (x : X) (xs rest : List X) → xs ≡ x ∷ rest

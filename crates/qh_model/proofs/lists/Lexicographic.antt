@@ -16,11 +16,8 @@ before-asymmetric (u ∷ p) (v ∷ q) (inr h) (inr k) = before-asymmetric p q h.
 
 -- the order is transitive
 before-transitive : (p q r : List ℕ) → ComesBefore p q → ComesBefore q r → ComesBefore p r
-before-transitive p q [] h k = absurd (nothing q k)
-  where
-    nothing : (q : List ℕ) → ComesBefore q [] → ⊥
-    nothing [] k = k
-    nothing (v ∷ q) k = k
+before-transitive p [] [] h k = absurd k
+before-transitive p (v ∷ q) [] h k = absurd k
 before-transitive [] q (w ∷ r) h k = tt
 before-transitive (u ∷ p) [] (w ∷ r) h k = absurd h
 before-transitive (u ∷ p) (v ∷ q) (w ∷ r) (inl h) (inl k) = inl (omega arith)

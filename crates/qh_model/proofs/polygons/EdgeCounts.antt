@@ -112,19 +112,16 @@ of_along a b t [] e (inr n) = absurd n
 of_along a b t (w ∷ r) e (inl f) = record { u = t; v = w; follows = inl (refl, refl); low = ap (λ (x : ℕ × ℕ). x.0) f; high = ap (λ (x : ℕ × ℕ). x.1) f }
 of_along a b t (w ∷ r) e (inr m) = let s = of_along a b w r e m in record { u = s.u; v = s.v; follows = inr s.follows; low = s.low; high = s.high }
 
--- the lower and the higher of two
-ordered : (u v : ℕ) → u < v → (min u v ≡ u) × (max u v ≡ v)
-ordered u v h = (omega arith, omega arith)
-
-turned : (u v : ℕ) → u < v → (min v u ≡ u) × (max v u ≡ v)
-turned u v h = (omega arith, omega arith)
-
 -- neighbours of a face are among its pairs
 in_round : (u v : ℕ) (q : List ℕ) → u < v → Follows u v q ⊎ Follows v u q → In (u, v) (pairs_round q)
 in_round u v [] h (inl f) = absurd f
 in_round u v [] h (inr f) = absurd f
-in_round u v (t ∷ r) h (inl f) = let o = ordered u v h in subst (λ x. In x (pairs_along t r t)) (cc (o.0, o.1)) (in_along u v t r t f)
-in_round u v (t ∷ r) h (inr f) = let o = turned u v h in subst (λ x. In x (pairs_along t r t)) (cc (o.0, o.1)) (in_along v u t r t f)
+in_round u v (t ∷ r) h (inl f) =
+    let low : min u v ≡ u = omega arith in let high : max u v ≡ v = omega arith in
+    subst (λ x. In x (pairs_along t r t)) (λ i. (low i, high i)) (in_along u v t r t f)
+in_round u v (t ∷ r) h (inr f) =
+    let low : min v u ≡ u = omega arith in let high : max v u ≡ v = omega arith in
+    subst (λ x. In x (pairs_along t r t)) (λ i. (low i, high i)) (in_along v u t r t f)
 
 -- and back
 of_round : (a b : ℕ) (q : List ℕ) → In (a, b) (pairs_round q) → a ≢ b → (a < b) × (Follows a b q ⊎ Follows b a q)
@@ -151,10 +148,7 @@ edges_are_counted qs = record {
 }
   where
     there : (u v : ℕ) → In (u, v) (flat_map pairs_round qs) × (u ≢ v) → IsEdge qs u v
-    there u v (m, d) = from_witness (of_flat_map pairs_round qs (u, v) m)
-      where
-        from_witness : (q : List ℕ) × In q qs × In (u, v) (pairs_round q) → IsEdge qs u v
-        from_witness (q, i, h) = let r = of_round u v q h d in (r.0, (q, i, r.1))
+    there u v (m, d) = let (q, i, h) = of_flat_map pairs_round qs (u, v) m in let r = of_round u v q h d in (r.0, (q, i, r.1))
 
     back : (u v : ℕ) → IsEdge qs u v → In (u, v) (distinct (flat_map pairs_round qs))
     back u v (h, (q, i, f)) = in_distinct (flat_map pairs_round qs) u v (in_flat_map pairs_round qs q (u, v) i (in_round u v q h f)) (λ e. omega arith)

@@ -1,5 +1,5 @@
 -- The edges of a solid: another face goes along each the other way, found by turning a plane about the edge.
-use Rattle.std.proofs.Common.{◌≡◌, ◌≢◌, ℕ, arith, refl, sym, subst, ◌∙◌, ◌⊎◌, inl, inr, List, Bool, true, false}
+use Rattle.std.proofs.Common.{◌≡◌, ◌≢◌, ℕ, arith, refl, sym, subst, ◌∙◌, inl, inr, ⊎_elim, List, Bool, true, false}
 use Rattle.std.proofs.lemmas.Int.{ints, by_lt_z}
 use native.Mathlib.Decide.{ℕ_discrete}
 use mathlib.Core.Logic.{dite}
@@ -83,7 +83,10 @@ module _ (at : ℕ → Vector) (ids : List ℕ) (d : HasDistinctPoints at (Membe
 
   -- the plane turned about the edge as far as the first member
   next : Next
-  next = base (least marked (λ l. vol (at v) (at u) (at x.w) (at l)) (λ l. pos 0) ids positive)
+  next =
+      ⊎_elim (λ f. absurd (none f)) (λ b. ⊎_elim (λ f. absurd (none f)) (λ m. from_both b m)
+      (least marked (λ l. vol (at v) (at u) (at x.w) (at l)) (λ l. vol (at v) (at u) (at b.m) (at l)) ids positive))
+      (least marked (λ l. vol (at v) (at u) (at x.w) (at l)) (λ l. pos 0) ids positive)
     where
       positive : (g : ℕ) → In g ids → marked g ≡ true → pos 0 <ℤ vol (at v) (at u) (at x.w) (at g)
       positive g m e = turned g (true_below (height g) e)
@@ -91,22 +94,16 @@ module _ (at : ℕ → Vector) (ids : List ℕ) (d : HasDistinctPoints at (Membe
       none : ((g : ℕ) → In g ids → marked g ≡ true → ⊥) → ⊥
       none f = some_below (λ l h r. f l h (below_true (height l) r))
 
-      base : ((g : ℕ) → In g ids → marked g ≡ true → ⊥) ⊎ Least marked (λ l. vol (at v) (at u) (at x.w) (at l)) (λ l. pos 0) ids → Next
-      base (inl f) = absurd (none f)
-      base (inr b) = by_cases (least marked (λ l. vol (at v) (at u) (at x.w) (at l)) (λ l. vol (at v) (at u) (at b.m) (at l)) ids positive)
-        where
-          by_cases : ((g : ℕ) → In g ids → marked g ≡ true → ⊥)
-              ⊎ Least marked (λ l. vol (at v) (at u) (at x.w) (at l)) (λ l. vol (at v) (at u) (at b.m) (at l)) ids
-              → Next
-          by_cases (inl f) = absurd (none f)
-          by_cases (inr m) = record { w = m.m; has_w = m.there; low = true_below (height m.m) m.marked; first = first }
-            where
-              first : (l : ℕ) → Members ids l → height l <ℤ pos 0 → vol (at v) (at u) (at m.m) (at l) ≤ℤ pos 0
-              first l h r = by_lt_z (pos 0) (vol (at v) (at u) (at m.m) (at l)) (λ s. absurd (m.least l h (below_true (height l) r) (beyond s))) (λ s. s)
-                where
-                  beyond : pos 0 <ℤ vol (at v) (at u) (at m.m) (at l) → pos 0 <ℤ (vol (at v) (at u) (at x.w) (at m.m) *ℤ vol (at v) (at u) (at b.m) (at l)
-                      -ℤ vol (at v) (at u) (at b.m) (at m.m) *ℤ vol (at v) (at u) (at x.w) (at l))
-                  beyond s = gift_wrap (at v) (at u) (at x.w) (at b.m) (at m.m) (at l) (positive b.m b.there b.marked) s
+      -- no member comes before the first by the volumes with x and with a first one
+      from_both : (b : Least marked (λ l. vol (at v) (at u) (at x.w) (at l)) (λ l. pos 0) ids)
+          → Least marked (λ l. vol (at v) (at u) (at x.w) (at l)) (λ l. vol (at v) (at u) (at b.m) (at l)) ids → Next
+      from_both b m = record {
+        w = m.m;
+        has_w = m.there;
+        low = true_below (height m.m) m.marked;
+        first = λ l h r. by_lt_z (pos 0) (vol (at v) (at u) (at m.m) (at l)) (λ s. absurd (m.least l h (below_true (height l) r)
+            (gift_wrap (at v) (at u) (at x.w) (at b.m) (at m.m) (at l) (positive b.m b.there b.marked) s))) (λ s. s);
+      }
 
   -- the plane of the edge and that member supports the set
   triple : (w : Next) → IsSupportingTriple at (Members ids) v u w.w

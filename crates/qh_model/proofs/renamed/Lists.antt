@@ -47,14 +47,12 @@ module _ (A : ℕ → Type 0) (f : ℕ → ℕ) (rises : (i j : ℕ) → A i →
   -- the least stays first
   pub least_map : (q : List ℕ) → ((i : ℕ) → In i q → A i) → BeginsWithLeast q → BeginsWithLeast (map f q)
   least_map [] within h = tt
-  least_map (u ∷ us) within h = λ v m. low_image v (of_map f us v m)
-    where
-      low_image : (v : ℕ) → (w : ℕ) × In w us × (v ≡ f w) → f u ≤ v
-      low_image v (w, i, e) =
-          let low : u ≤ w = h w i in
-          let up : u < w → f u < f w = rises u w (within u (inl refl)) (within w (inr i)) in
-          let same : u ≡ w → f u ≡ f w = ap f in
-          grind (arith, low, up, same, e)
+  least_map (u ∷ us) within h = λ v m.
+      let (w, i, e) = of_map f us v m in
+      let low : u ≤ w = h w i in
+      let up : u < w → f u < f w = rises u w (within u (inl refl)) (within w (inr i)) in
+      let same : u ≡ w → f u ≡ f w = ap f in
+      grind (arith, low, up, same, e)
 
   -- lists keep their order
   pub before_map : (p q : List ℕ) → ((i : ℕ) → In i p → A i) → ((i : ℕ) → In i q → A i) → ComesBefore p q → ComesBefore (map f p) (map f q)

@@ -1,7 +1,9 @@
 -- The members of a rising list named by their positions: the list of their points has the same hull, by these names.
-use Rattle.std.proofs.Common.{◌≡◌, ℕ, zero, suc, ◌<◌, Bool, true, false, cond, refl, List, [], ◌∷◌, length, get_or, map, arith, sym, ap, subst, ◌∙◌, ◌⊎◌, inl}
-use Rattle.std.proofs.{Common.inr, Common.eqb-true, lemmas.Bool.eqb-false, lemmas.List.length-map, lemmas.List.get_or-map}
-use Rattle.std.specs.{List.Sorted.IsStrictlyIncreasing, Prelude.◌==◌, Prelude.◌↔◌}
+use Rattle.std.proofs.Common.{◌≡◌, ℕ, zero, suc, ◌<◌, refl, List, [], ◌∷◌, length, get_or, map, arith, sym, ap, subst, ◌∙◌}
+use Rattle.std.proofs.{Common.⊎_elim, Common.eq-eqb, Common.ne_eqb, lemmas.List.length-map, lemmas.List.get_or-map}
+use mathlib.Core.Logic.{dite}
+use native.Mathlib.Decide.{ℕ_discrete}
+use Rattle.std.specs.{List.Sorted.IsStrictlyIncreasing, Prelude.◌↔◌}
 use Rattle.qh_model.specs.{contract.IdSets.HasDistinctPoints, headline.DistinctIds.AreDistinctIds, headline.Extreme.Extreme, headline.Hull.HullValue}
 use Rattle.qh_model.specs.headline.{Hull.IsHull, Predicates.place, Sets.In, Sets.Once, Sets.Members, Text.vertex_number, Vector.Vector, Vector.origin}
 use Rattle.qh_model.proofs.{DistinctIds.distinct_apart, Members.In-get_or, Members.rising_once, hulls.OfExtremes.body_of_extremes, lists.Images.in_map}
@@ -12,33 +14,15 @@ use Rattle.qh_model.proofs.renamed.{Bodies.body_renamed, Lists.rising_map, Renam
 -- a member's position is one of the list, and it stands there
 pub at_number : (xs : List ℕ) (i : ℕ) → In i xs → (vertex_number xs i < length xs) × (get_or xs (vertex_number xs i) 0 ≡ i)
 at_number [] i m = absurd m
-at_number (x ∷ xs) i m = first_or_later (at_number xs i) (x == i) refl m
-  where
-    IsAt : List ℕ → ℕ → Type 0
-    IsAt ys k = (k < length ys) × (get_or ys k 0 ≡ i)
-
-    first_or_later : (In i xs → IsAt xs (vertex_number xs i)) → (b : Bool) → (x == i) ≡ b → (i ≡ x) ⊎ In i xs
-        → IsAt (x ∷ xs) (cond b 0 (suc (vertex_number xs i)))
-    first_or_later rest true e m = (omega arith, eqb-true x i e)
-    first_or_later rest false e (inl d) = absurd (eqb-false x i e (sym d))
-    first_or_later rest false e (inr m) = let r = rest m in let low = r.0 in (omega (arith, low), r.1)
+at_number (x ∷ xs) i m = dite (ℕ_discrete x i) (λ e. rw (eq-eqb x i e) (omega arith, e)) (λ n.
+    let r = at_number xs i (⊎_elim (λ d. absurd (n (sym d))) (λ j. j) m) in let low = r.0 in rw (ne_eqb x i n) (omega (arith, low), r.1))
 
 -- the member at a position has this position, where each stands once
 pub number_at : (xs : List ℕ) (k : ℕ) → Once xs → k < length xs → vertex_number xs (get_or xs k 0) ≡ k
 number_at [] k o h = absurd (omega arith)
-number_at (x ∷ xs) zero o h = first (x == x) refl
-  where
-    first : (b : Bool) → (x == x) ≡ b → cond b 0 (suc (vertex_number xs x)) ≡ 0
-    first true e = refl
-    first false e = absurd (eqb-false x x e refl)
-number_at (x ∷ xs) (suc k) o h = later (number_at xs k o.1 (omega arith)) (x == i) refl
-  where
-    i : ℕ
-    i = get_or xs k 0
-
-    later : vertex_number xs i ≡ k → (b : Bool) → (x == i) ≡ b → cond b 0 (suc (vertex_number xs i)) ≡ suc k
-    later rest true e = absurd (o.0 (subst (λ t. In t xs) (sym (eqb-true x i e)) (In-get_or xs k 0 (omega arith))))
-    later rest false e = ap suc rest
+number_at (x ∷ xs) zero o h = rw (eq-eqb x x refl) refl
+number_at (x ∷ xs) (suc k) o h =
+    rw (ne_eqb x (get_or xs k 0) (λ e. o.0 (subst (λ t. In t xs) (sym e) (In-get_or xs k 0 (omega arith))))) (ap suc (number_at xs k o.1 (omega arith)))
 
 -- positions rise with the members
 number_rises : (xs : List ℕ) → IsStrictlyIncreasing xs → (i j : ℕ) → In i xs → In j xs → i < j → vertex_number xs i < vertex_number xs j

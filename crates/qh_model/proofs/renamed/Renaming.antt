@@ -56,20 +56,16 @@ module _ {at at' : ℕ → Vector} {A B : ℕ → Type 0} {f g : ℕ → ℕ} (r
 
   -- the volume of three members and a name
   pub volume_renamed : (i j k l : ℕ) → A i → A j → A k → B l → vol (at' (f i)) (at' (f j)) (at' (f k)) (at' l) ≡ vol (at i) (at j) (at k) (at (g l))
-  volume_renamed i j k l a b c d = λ z. vol (r.point i a z) (r.point j b z) (r.point k c z) (last z)
-    where
-      last : at' l ≡ at (g l)
-      last = sym (renaming_back.point l d)
+  volume_renamed i j k l a b c d = λ z. vol (r.point i a z) (r.point j b z) (r.point k c z) (sym (renaming_back.point l d) z)
 
 module _ {at at' : ℕ → Vector} {A B : ℕ → Type 0} {f g : ℕ → ℕ} (r : IsRenaming at at' A B f g) where
   -- an extreme id is extreme by its name
   pub extreme_renamed : (i : ℕ) → Extreme at A i → Extreme at' B (f i)
-  extreme_renamed i h = (r.to i h.0, λ m. h.1 (subst (Combination at (Others A i)) (r.point i h.0) (back m)))
-    where
-      back : Combination at' (Others B (f i)) (at' (f i)) → Combination at (Others A i) (at' (f i))
-      back =
-          combination_by_names at' at (Others B (f i)) (Others A i) g (λ j o. (r.from j o.0, λ e. o.1 (sym (r.under j o.0) ∙ ap f e)))
-          (λ j o. (renaming_back r).point j o.0) (at' (f i))
+  extreme_renamed i h = (
+    r.to i h.0,
+    λ m. h.1 (subst (Combination at (Others A i)) (r.point i h.0) (combination_by_names at' at (Others B (f i)) (Others A i) g
+        (λ j o. (r.from j o.0, λ e. o.1 (sym (r.under j o.0) ∙ ap f e))) (λ j o. (renaming_back r).point j o.0) (at' (f i)) m)),
+  )
 
   -- the dimension stays
   pub dimension_renamed : (k : ℕ) → IsDimension at A k → IsDimension at' B k

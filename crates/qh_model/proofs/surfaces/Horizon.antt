@@ -5,6 +5,7 @@ use Rattle.qh_model.specs.{contract.Weighted.Weighted, contract.Weighted.above, 
 use Rattle.std.proofs.Common.{◌≡◌, ◌≢◌, ℕ, zero, suc, ◌+◌, refl, arith, sym, ◌∙◌, subst, inl, inr, List, [], ◌∷◌}
 use Rattle.std.proofs.lemmas.Int.{by_lt_z}
 use native.Mathlib.Decide.{ℕ_discrete}
+use mathlib.Core.Logic.{dite}
 use Rattle.std.specs.{List.flat_map, Prelude.pos, Prelude.◌≤ℤ◌, Prelude.◌<ℤ◌}
 use Rattle.qh_model.proofs.{algebra.Signs.less_one_way, algebra.Signs.opposite_positive, lists.Joined.in_flat_map, lists.Searches.comes_back}
 use Rattle.qh_model.proofs.surfaces.{Determinants.swap14, Facets.corner_start, Facets.ends_differ}
@@ -23,7 +24,7 @@ module _ (m : Surface) (home : ℕ → Weighted) (o : Weighted) (c : Scene m hom
   -- a horizon side is known by its end
   pub horizon_once_end : (f g : ℕ) (s t : Side) → HorizonSide m c.at c.top f s → HorizonSide m c.at c.top g t
       → end m f s ≡ end m g t → start m f s ≡ start m g t
-  horizon_once_end f g s t a b e = same (ℕ_discrete (start m f s) (start m g t))
+  horizon_once_end f g s t a b e = dite (ℕ_discrete (start m f s) (start m g t)) (λ k. k) (λ n. absurd (never n))
     where
       never : start m f s ≢ start m g t → ⊥
       never n =
@@ -32,10 +33,6 @@ module _ (m : Surface) (home : ℕ → Weighted) (o : Weighted) (c : Scene m hom
           (horizon_below m home o c g t b (start m f s) (f, a.live, corner_start m f s) n (λ q. ends_differ m home o c.sound.inner f a.live s (q ∙ sym e)))))
           (horizon_below m home o c f s a (start m g t) (g, b.live, corner_start m g t) (λ q. n (sym q))
           (λ q. ends_differ m home o c.sound.inner g b.live t (q ∙ e)))
-
-      same : Dec (start m f s ≡ start m g t) → start m f s ≡ start m g t
-      same (yes k) = k
-      same (no n) = absurd (never n)
 
   -- where a horizon side starts another ends: from side to side the way leads back to the first, and each side is the next of one alone
   pub horizon_prev : (f : ℕ) (s : Side) → HorizonSide m c.at c.top f s → Ended m c.at c.top (start m f s)

@@ -5,6 +5,7 @@ use Rattle.qh_model.specs.{contract.Weighted.Weighted, contract.Weighted.above, 
 use Rattle.std.proofs.Common.{◌≡◌, ◌≢◌, ℕ, refl, [], ◌∷◌, ap, sym, ◌∙◌, subst, ◌⊎◌, inl, inr, Bool, true}
 use Rattle.std.proofs.lemmas.Bool.{and_parts}
 use native.Mathlib.Decide.{ℕ_discrete}
+use mathlib.Core.Logic.{dite}
 use Rattle.std.specs.Prelude.{ℤ, pos, ◌-ℤ◌, ◌*ℤ◌, neg_ℤ, ◌<ℤ◌, ◌&&◌}
 use Rattle.qh_model.proofs.Decisions.{test, told, holds}
 use Rattle.qh_model.proofs.algebra.{Order.mul-neg_neg, Order.neg-positive, Ring.ring, Ring.Expr.var, Ring.Expr.sub as less, Ring.Expr.mul, Ring.Expr.neg}
@@ -38,7 +39,8 @@ module _ (m : Surface) (home : ℕ → Weighted) (o : Weighted) (c : Scene m hom
 
   -- a horizon side is known by its start, and by its end
   pub horizon_once : (f g : ℕ) (s t : Side) → HorizonSide m c.at c.top f s → HorizonSide m c.at c.top g t → start m f s ≡ start m g t → (f ≡ g) × (s ≡ t)
-  horizon_once f g s t a b e = one (ℕ_discrete (end m f s) (end m g t))
+  horizon_once f g s t a b e = dite (ℕ_discrete (end m f s) (end m g t)) (λ k. let q = edge_once m home o c.sound f g a.live b.live s t e k in
+      (q, side_once m home o c.sound.inner g b.live s t (ap (λ h. start m h s) (sym q) ∙ e))) (λ n. absurd (never n))
     where
       never : end m f s ≢ end m g t → ⊥
       never n =
@@ -46,12 +48,6 @@ module _ (m : Surface) (home : ℕ → Weighted) (o : Weighted) (c : Scene m hom
           (subst (λ u. above (c.at u) (c.at (end m g t)) c.top (c.at (end m f s)) <ℤ pos 0) (sym e)
           (horizon_below g t b (end m f s) (f, a.live, corner_end m f s) (λ q. ends_differ m home o c.sound.inner f a.live s (e ∙ sym q)) n)))
           (horizon_below f s a (end m g t) (g, b.live, corner_end m g t) (λ q. ends_differ m home o c.sound.inner g b.live t (sym e ∙ sym q)) (λ q. n (sym q)))
-
-      one : Dec (end m f s ≡ end m g t) → (f ≡ g) × (s ≡ t)
-      one (no n) = absurd (never n)
-      one (yes k) =
-          let q = edge_once m home o c.sound f g a.live b.live s t e k in
-          (q, side_once m home o c.sound.inner g b.live s t (ap (λ h. start m h s) (sym q) ∙ e))
 
 -- ---- where a horizon side ends another begins
 -- a horizon side that starts at v

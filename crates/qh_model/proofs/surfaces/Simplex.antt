@@ -3,7 +3,7 @@ use Rattle.qh_model.specs.contract.{Simplex.one_of, SoundSurface.IsInner, Surfac
 use Rattle.qh_model.specs.contract.{Surface.start, Surface.end, Surface.rise, Surface.Side.first, Surface.Side.second, Surface.Side.third, Weighted.Weighted}
 use Rattle.qh_model.specs.{contract.Weighted.above, contract.Weighted.middle_of, contract.Weighted.weighted_dot, contract.Weighted.plane_of, headline.Sets.In}
 use Rattle.qh_model.specs.laws.{SimplexSurface.IsSimplexBoundary, SimplexSurface.simplex_surface, SurfaceLaws.SimplexIsSound, SurfaceLaws.MiddleIsBelow}
-use Rattle.std.proofs.Common.{◌∙◌, ◌≡◌, ℕ, refl, sym, subst, arith, ap, [], ◌∷◌, ◌⊎◌, inl, inr}
+use Rattle.std.proofs.Common.{◌∙◌, ◌≡◌, ℕ, refl, sym, subst, arith, ap, [], ◌∷◌, ◌⊎◌, inl, inr, ⊎_elim}
 use Rattle.std.proofs.lemmas.Int.{ints, by_lt_z}
 use Rattle.std.specs.Prelude.{ℤ, pos, ◌+ℤ◌, ◌<ℤ◌, ◌≤ℤ◌}
 use Rattle.qh_model.proofs.algebra.{Order.cancel-zero_neg, Order.product_zero, Ring.ring, Signs.less_differ}
@@ -124,15 +124,11 @@ module _ (home : ℕ → Weighted) (a b c d : ℕ) (h : above (home a) (home b) 
   boundary = record {
     missing = missing a b c d;
     covers = λ f g i j l k. place a b c d f i l (ids a b c d g j l k);
-    known = λ f g i j. turned f g (other a b c d f i g j);
+    known = λ f g i j. ⊎_elim (λ e. inr (ap (missing a b c d) (sym e))) (λ k. inl k) (other a b c d f i g j);
     below = below;
     once = λ f g i j e. one f g i e (other a b c d f i g j);
   }
     where
-      turned : (f g : ℕ) → HasOther a b c d f g → IsCorner (S a b c d) f (missing a b c d g) ⊎ (missing a b c d g ≡ missing a b c d f)
-      turned f g (inl e) = inr (ap (missing a b c d) (sym e))
-      turned f g (inr k) = inl k
-
       below : (f : ℕ) → In f (S a b c d).live → rise (S a b c d) home f (home (missing a b c d f)) <ℤ pos 0
       below =
           let A = home a in let B = home b in let C = home c in let D = home d in

@@ -19,10 +19,7 @@ AreSomeDigits cs = (0 < length cs) × Every IsDigit cs
 -- ---- the bytes of decimals
 -- the last digit
 glyph_digit : (n : ℕ) → IsDigit (digit_glyph false (n % 10))
-glyph_digit n = each_digit (n % 10) (omega arith)
-  where
-    each_digit : (d : ℕ) → d < 10 → IsDigit (digit_glyph false d)
-    each_digit d h = subst (λ (b : Bool). IsDigit (cond b (48 + d) (87 + d))) (sym (lt-ltb d 10 h)) (omega arith, omega arith)
+glyph_digit n = subst (λ (b : Bool). IsDigit (cond b (48 + n % 10) (87 + n % 10))) (sym (lt-ltb (n % 10) 10 (omega arith))) (omega arith, omega arith)
 
 -- digits either way
 either_digits : (b : Bool) (cs ds : List ℕ) → AreSomeDigits cs → AreSomeDigits ds → AreSomeDigits (cond b cs ds)
@@ -102,12 +99,9 @@ IsOfNumber c = IsInRange 45 57 c
 abbrev pub IsNumberWord : List ℕ → Type 0
 IsNumberWord cs = (0 < length cs) × Every IsOfNumber cs
 
-digits_of_number : (cs : List ℕ) → Every IsDigit cs → Every IsOfNumber cs
-digits_of_number cs h = every_map IsDigit IsOfNumber cs (λ c d. (omega (arith, d.0), omega (arith, d.1))) h
-
 -- a decimal is made of them
 pub decimal_word : (n : ℕ) → IsNumberWord (decimal n)
-decimal_word n = let d = decimal_digits n in (d.0, digits_of_number (decimal n) d.1)
+decimal_word n = let d = decimal_digits n in (d.0, every_map IsDigit IsOfNumber (decimal n) (λ c e. (omega (arith, e.0), omega (arith, e.1))) d.1)
 
 -- with a sign too
 pub signed_word : (z : ℤ) → IsNumberWord (signed_decimal z)

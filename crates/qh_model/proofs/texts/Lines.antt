@@ -78,12 +78,6 @@ not_blank c h =
     let blank : (b : ℕ) → b < 45 → (c == b) ≡ false = λ b l. other_byte b c l h in
     cc (blank 9 (omega arith), blank 11 (omega arith), blank 12 (omega arith), blank 13 (omega arith), blank 32 (omega arith))
 
-not_hash : (c : ℕ) → IsOfNumber c → is_hash c ≡ false
-not_hash c h = other_byte 35 c (omega arith) h
-
-not_end : (c : ℕ) → IsOfNumber c → ends_line c ≡ false
-not_end c h = other_byte 10 c (omega arith) h
-
 -- a word before a blank
 first_word : (w l : List ℕ) → IsNumberWord w → words_of (w ++ 32 ∷ l) ≡ w ∷ words_of l
 first_word [] l h = absurd (omega (arith, h.0))
@@ -108,12 +102,12 @@ three_clear p f blank u v w a b c =
 
 -- they stand in one line
 pub three_in_line : (u v w : List ℕ) → IsNumberWord u → IsNumberWord v → IsNumberWord w → Clear ends_line (three u v w)
-three_in_line = three_clear ends_line not_end refl
+three_in_line = three_clear ends_line (λ c h. other_byte 10 c (omega arith) h) refl
 
 -- and are its words
 pub three_words : (u v w : List ℕ) → IsNumberWord u → IsNumberWord v → IsNumberWord w → words_of (before_hash (three u v w)) ≡ u ∷ v ∷ w ∷ []
 three_words u v w a b c =
-    ap words_of (before_hash_clear (three u v w) (three_clear is_hash not_hash refl u v w a b c))
+    ap words_of (before_hash_clear (three u v w) (three_clear is_hash (λ k h. other_byte 35 k (omega arith) h) refl u v w a b c))
     ∙ ap words_of (append_assoc u (32 ∷ v) (32 ∷ w))
     ∙ first_word u (v ++ 32 ∷ w) a
     ∙ ap (λ (t : List (List ℕ)). u ∷ t) (first_word v w b ∙ ap (λ (t : List (List ℕ)). v ∷ t) (last_word w c))

@@ -1,7 +1,9 @@
 -- The text of faces, of the points of the extreme ids, is that of the set.
-use Rattle.std.proofs.Common.{◌≡◌, ℕ, suc, Bool, true, false, cond, refl, List, [], ◌∷◌, ◌++◌, map, sym, ap, ap₂, ◌∙◌, inl, inr, eqb-true, eq-eqb, ne_eqb}
-use Rattle.std.proofs.{Common.get_or, Common.decimal, lemmas.Bool.eqb-false, lemmas.List.length-map, lemmas.List.map-append, lemmas.List.Folds.flat_map-map}
-use Rattle.std.specs.{List.flat_map, Prelude.◌==◌}
+use Rattle.std.proofs.Common.{◌≡◌, ℕ, suc, refl, List, [], ◌∷◌, ◌++◌, map, sym, ap, ap₂, ◌∙◌, inl, inr, eq-eqb, ne_eqb}
+use Rattle.std.proofs.{Common.get_or, Common.decimal, lemmas.List.length-map, lemmas.List.map-append, lemmas.List.Folds.flat_map-map}
+use mathlib.Core.Logic.{dite}
+use native.Mathlib.Decide.{ℕ_discrete}
+use Rattle.std.specs.{List.flat_map}
 use Rattle.qh_model.specs.headline.{Fan.triangles_along, Fan.fan, Fan.fans, Hull.BodyValue, Predicates.place, Sets.In, Sets.Members, Text.line, Text.spaced}
 use Rattle.qh_model.specs.headline.{Text.vertex_number, Text.vertex_text, Text.face_text, Text.off_text, Vector.Vector}
 use Rattle.qh_model.proofs.renamed.{Bodies.renamed_body, Lists.AreWithin}
@@ -15,23 +17,13 @@ flat_map_same s t (x ∷ xs) h = ap₂ (λ (a b : List ℕ). a ++ b) (h x (inl r
 -- names that keep members apart keep positions
 vertex_number-map : (f : ℕ → ℕ) (xs : List ℕ) (i : ℕ) → ((j : ℕ) → In j xs → f j ≡ f i → j ≡ i) → vertex_number (map f xs) (f i) ≡ vertex_number xs i
 vertex_number-map f [] i apart = refl
-vertex_number-map f (x ∷ xs) i apart = with_rest (vertex_number-map f xs i (λ j m. apart j (inr m))) (x == i) refl
-  where
-    either : Bool → ℕ → ℕ
-    either b n = cond b 0 (suc n)
+vertex_number-map f (x ∷ xs) i apart = dite (ℕ_discrete x i) (λ e. rw (eq-eqb x i e, eq-eqb (f x) (f i) (ap f e)) refl)
+    (λ n. rw (ne_eqb x i n, ne_eqb (f x) (f i) (λ d. n (apart x (inl refl) d))) (ap suc (vertex_number-map f xs i (λ j m. apart j (inr m)))))
 
-    with_rest : vertex_number (map f xs) (f i) ≡ vertex_number xs i → (b : Bool) → (x == i) ≡ b
-        → either (f x == f i) (vertex_number (map f xs) (f i)) ≡ either b (vertex_number xs i)
-    with_rest rest true e = ap (λ b. either b (vertex_number (map f xs) (f i))) (eq-eqb (f x) (f i) (ap f (eqb-true x i e)))
-    with_rest rest false e = ap₂ either (ne_eqb (f x) (f i) (λ d. eqb-false x i e (apart x (inl refl) d))) rest
-
--- members have their own positions
-number_apart : (xs : List ℕ) (i j : ℕ) → In i xs → In j xs → vertex_number xs j ≡ vertex_number xs i → j ≡ i
-number_apart xs i j m n e = sym (at_number xs j n).1 ∙ ap (λ k. get_or xs k 0) e ∙ (at_number xs i m).1
-
--- the position of a position is the same
+-- the position of a position is the same, since members have their own positions
 number_again : (xs : List ℕ) (i : ℕ) → In i xs → vertex_number (vertex_numbers xs) (vertex_number xs i) ≡ vertex_number xs i
-number_again xs i m = vertex_number-map (vertex_number xs) xs i (λ j n. number_apart xs i j m n)
+number_again xs i m =
+    vertex_number-map (vertex_number xs) xs i (λ j n e. sym (at_number xs j n).1 ∙ ap (λ k. get_or xs k 0) e ∙ (at_number xs i m).1)
 
 -- a face of members has its text
 face_text_renamed : (xs q : List ℕ) → ((i : ℕ) → In i q → In i xs) → face_text (vertex_numbers xs) (map (vertex_number xs) q) ≡ face_text xs q
