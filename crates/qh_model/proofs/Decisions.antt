@@ -1,7 +1,7 @@
 -- Decided claims: of pairs, of the members of a list, of ids, numbers and vectors.
 use Rattle.std.proofs.Common.{◌≡◌, ℕ, ◌⊎◌, inl, inr, ⊎_elim, List, [], ◌∷◌, refl, sym, subst, ap, Bool, true, false}
 use Rattle.std.proofs.lemmas.Int.{by_lt_z}
-use Rattle.std.specs.Prelude.{ℤ, ◌≤ℤ◌}
+use Rattle.std.specs.Prelude.{ℤ, ◌≤ℤ◌, ◌<ℤ◌}
 use native.Mathlib.Decide.{ℕ_discrete}
 use lib.IntN.{ℤ_discrete}
 use Rattle.qh_model.proofs.algebra.Signs.{not_less}
@@ -87,3 +87,7 @@ same_vector p q =
 -- a number is at most another or not
 pub at_most_or_above : (a b : ℤ) → Decided (a ≤ℤ b)
 at_most_or_above a b = by_lt_z b a (λ h. inr (λ l. not_less b a h l)) (λ h. inl h)
+
+-- a number is less than another or not
+pub less_or_not : (a b : ℤ) → Decided (a <ℤ b)
+less_or_not a b = by_lt_z a b inl (λ l. inr (λ h. not_less a b h l))

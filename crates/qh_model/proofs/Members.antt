@@ -11,6 +11,11 @@ All-In P [] x all h = absurd h
 All-In P (y ∷ ys) x all (inl e) = subst P (sym e) (All-head P y ys all)
 All-In P (y ∷ ys) x all (inr h) = All-In P ys x (All-tail P y ys all) h
 
+-- what holds of the first and of the rest holds of each member
+pub each_more : {X : Type 0} (P : X → Type 0) (x : X) (xs : List X) → P x → ((y : X) → In y xs → P y) → (y : X) → In y (x ∷ xs) → P y
+each_more P x xs p r y (inl e) = subst P (sym e) p
+each_more P x xs p r y (inr i) = r y i
+
 -- the element at an index is a member
 pub In-get_or : {X : Type 0} (xs : List X) (k : ℕ) (d : X) → k < length xs → In (get_or xs k d) xs
 In-get_or [] k d h = absurd (omega arith)

@@ -1,13 +1,14 @@
 -- A byte string has one list of points as an OFF file, or one fault.
-use Rattle.std.proofs.Common.{◌≡◌, ◌∙◌, [], ◌∷◌, ◌++◌, ◌≤◌, ◌⊎◌, ℕ, List, Bool, true, false, cond, refl, ap, sym, arith, suc, length, map, inl, inr, subst}
+use Rattle.std.proofs.Common.{◌≡◌, ◌∙◌, [], ◌∷◌, ◌++◌, ◌≤◌, ◌⊎◌, ℕ, List, Bool, true, false, cond, refl, ap, sym, arith, suc, length, map, subst}
 use Rattle.std.proofs.{Common.nat_lt, lemmas.Bool.Decides.nat_tests}
-use Rattle.std.specs.{Cmp.Lexicographic.same_text, List.AllByRecursion, Prelude.ℤ, Prelude.pos, Prelude.codes, Prelude.Option, Prelude.Some, Prelude.None}
+use Rattle.std.specs.{Cmp.Lexicographic.same_text, List.AllByRecursion, Prelude.ℤ, Prelude.pos, Prelude.codes, Prelude.Some, Prelude.None}
 use Rattle.std.specs.Str.{bytes_eq}
 use Rattle.qh_model.specs.declared.limits.TheConstants.{POINT_LIMIT, BYTE_LIMIT}
 use Rattle.qh_model.specs.declared.read_fault.ReadFault.{ReadFault, TheVariants.Big, TheVariants.NotOff}
 use Rattle.qh_model.specs.headline.{Limits.IsCoordinate, Numbers.number_of, OffFault.counts_fault, OffFault.off_words_fault, OffFault.first_off_fault}
 use Rattle.qh_model.specs.headline.{OffFile.off_words, OffFile.ReadsOff, PointFile.coordinates, Vector.Vector, Words.Word}
 use Rattle.qh_model.proofs.ReadingLaws.{numbers, same_some, same_points, counted, next_number, grouped, thrice, counted_clear, next_clear, not_big}
+use Rattle.qh_model.proofs.ReadingLaws.{list_or_fault}
 
 -- ---- one list at most
 same_front : (us bs xs ys : List Word) → length us ≡ length bs → us ++ xs ≡ bs ++ ys → us ≡ bs
@@ -120,17 +121,12 @@ whole bytes (w ∷ ws) small e h = by_test (bytes_eq w.text (codes "OFF")) refl 
 
 pub one_or_other : (bytes : List ℕ) → ((ps : List Vector) × ReadsOff bytes ps × (first_off_fault bytes ≡ None))
     ⊎ ((f : ReadFault) × (first_off_fault bytes ≡ Some f))
-one_or_other bytes = by_option (first_off_fault bytes) refl
+one_or_other bytes = list_or_fault (ReadsOff bytes) (first_off_fault bytes) (small (nat_lt BYTE_LIMIT (length bytes)) refl)
   where
     small : (b : Bool) → nat_lt BYTE_LIMIT (length bytes) ≡ b
         → cond b (Some Big) (off_words_fault (off_words bytes)) ≡ None → (ps : List Vector) × ReadsOff bytes ps
     small true e h = cc
     small false e h = whole bytes (off_words bytes) (grind (arith, nat_tests)) refl h
-
-    by_option : (o : Option ReadFault) → first_off_fault bytes ≡ o → ((ps : List Vector) × ReadsOff bytes ps × (first_off_fault bytes ≡ None))
-        ⊎ ((f : ReadFault) × (first_off_fault bytes ≡ Some f))
-    by_option None e = let r = small (nat_lt BYTE_LIMIT (length bytes)) refl e in inl (r.0, r.1, e)
-    by_option (Some f) e = inr (f, e)
 
 -- ---- never both
 counts_clear : (ws rest : List Word) (faces edges : ℤ) (ps : List Vector) → numbers ws ≡ map Some (pos (length ps) ∷ faces ∷ edges ∷ coordinates ps)

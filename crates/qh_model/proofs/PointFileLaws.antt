@@ -1,13 +1,14 @@
 -- A byte string is the point file of one list of points, or has one fault.
 use Rattle.std.proofs.Common.{◌≡◌, ◌∙◌, [], ◌∷◌, ◌++◌, ◌≤◌, ◌⊎◌, ℕ, List, Bool, true, false, cond, refl, ap, sym, arith, length, map, inl, inr, subst, nat_lt}
 use Rattle.std.proofs.lemmas.{Bool.Decides.nat_tests, List.append-nil}
-use Rattle.std.specs.{List.AllByRecursion, Prelude.ℤ, Prelude.pos, Prelude.negsuc, Prelude.Option, Prelude.Some, Prelude.None}
+use Rattle.std.specs.{List.AllByRecursion, Prelude.ℤ, Prelude.pos, Prelude.negsuc, Prelude.Some, Prelude.None}
 use Rattle.qh_model.specs.declared.limits.TheConstants.{POINT_LIMIT, BYTE_LIMIT}
 use Rattle.qh_model.specs.declared.read_fault.ReadFault.{ReadFault, TheVariants.NotThree, TheVariants.Big}
 use Rattle.qh_model.specs.headline.FileFault.{is_three, counted_fault, long_fault, headed_fault, words_fault, first_fault}
 use Rattle.qh_model.specs.headline.{Limits.IsCoordinate, Numbers.number_of, PointFile.coordinates, PointFile.IsHeader, PointFile.Reads, Vector.Vector}
 use Rattle.qh_model.specs.headline.Words.{Word, data_words}
 use Rattle.qh_model.proofs.ReadingLaws.{same_some, same_points, numbers, Counted, counted, next_number, grouped, counted_clear, next_clear, not_big}
+use Rattle.qh_model.proofs.ReadingLaws.{list_or_fault}
 
 -- a byte string is the file of one list of points at most
 pub one_reading : (bytes : List ℕ) (ps qs : List Vector) → Reads bytes ps → Reads bytes qs → ps ≡ qs
@@ -71,7 +72,7 @@ whole ws h = let w = next_number _ ws h in let v = next_number _ w.rest w.clear 
 
 -- it is the file of some points, or it has a fault
 pub one_or_other : (bytes : List ℕ) → ((ps : List Vector) × Reads bytes ps × (first_fault bytes ≡ None)) ⊎ ((f : ReadFault) × (first_fault bytes ≡ Some f))
-one_or_other bytes = by_option (first_fault bytes) refl
+one_or_other bytes = list_or_fault (Reads bytes) (first_fault bytes) (small (nat_lt BYTE_LIMIT (length bytes)) refl)
   where
     small : (b : Bool) → nat_lt BYTE_LIMIT (length bytes) ≡ b → cond b (Some Big) (words_fault (data_words bytes)) ≡ None → (ps : List Vector) × Reads bytes ps
     small true e h = cc
@@ -89,11 +90,6 @@ one_or_other bytes = by_option (first_fault bytes) refl
             limit = w.limit;
           },
         )
-
-    by_option : (o : Option ReadFault) → first_fault bytes ≡ o → ((ps : List Vector) × Reads bytes ps × (first_fault bytes ≡ None))
-        ⊎ ((f : ReadFault) × (first_fault bytes ≡ Some f))
-    by_option None e = let r = small (nat_lt BYTE_LIMIT (length bytes)) refl e in inl (r.0, r.1, e)
-    by_option (Some f) e = inr (f, e)
 
 headed_clear : (a b : ℤ) (n : ℕ) (ws : List Word) → IsHeader a b n → counted_fault long_fault (pos n) ws ≡ None → headed_fault a b ws ≡ None
 headed_clear a b n ws (inl (first, second)) h =

@@ -1,5 +1,6 @@
 -- What the words of a file stand for: numbers, coordinates, a count with its points; and when they have no fault.
 use Rattle.std.proofs.Common.{◌≡◌, [], ◌∷◌, ◌++◌, ◌*◌, ◌≤◌, ◌&&◌, ℕ, List, Bool, true, false, cond, refl, ap, sym, arith, zero, suc, length, map, subst, nat_lt}
+use Rattle.std.proofs.Common.{◌⊎◌, inl, inr}
 use Rattle.std.proofs.lemmas.Bool.{leb-true, le-leb, Decides.nat_tests}
 use Rattle.std.specs.{List.AllByRecursion, Option.option_or, Prelude.ℤ, Prelude.pos, Prelude.negsuc, Prelude.Option, Prelude.Some, Prelude.None, Prelude.nat_le}
 use Rattle.qh_model.specs.declared.limits.TheConstants.{POINT_LIMIT, BYTE_LIMIT}
@@ -43,9 +44,6 @@ pub record Filled (after : List Word → Option ReadFault) (ws : List Word) (k :
   pub limit : AllByRecursion IsCoordinate all
   pub clear : after rest ≡ None
 
-in_limit : (z : ℤ) → is_coordinate z ≡ true → IsCoordinate z
-in_limit z h = leb-true _ _ h
-
 -- a coordinate that has no fault, and what follows it
 in_range : (w : Word) (after : Option ReadFault) → option_or (coordinate_fault (number_of w.text) w.line) after ≡ None
     → (z : ℤ) × (number_of w.text ≡ Some z) × IsCoordinate z × (after ≡ None)
@@ -54,7 +52,7 @@ in_range w after h = by_option (number_of w.text) refl h
     within : (z : ℤ) → number_of w.text ≡ Some z → (b : Bool) → is_coordinate z ≡ b → option_or (cond b None (Some (Range w.line))) after ≡ None
         → (z : ℤ) × (number_of w.text ≡ Some z) × IsCoordinate z × (after ≡ None)
     within z e false c h = cc
-    within z e true c h = (z, e, in_limit z c, h)
+    within z e true c h = (z, e, leb-true _ _ c, h)
 
     by_option : (o : Option ℤ) → number_of w.text ≡ o → option_or (coordinate_fault o w.line) after ≡ None
         → (z : ℤ) × (number_of w.text ≡ Some z) × IsCoordinate z × (after ≡ None)
@@ -173,3 +171,9 @@ next_clear after w ws z e h = subst (λ (o : Option ℤ). number_fault after o w
 
 pub not_big : (n : ℕ) → n ≤ BYTE_LIMIT → nat_lt BYTE_LIMIT n ≡ false
 not_big n h = grind (arith, nat_tests)
+
+-- a list of points where there is no fault, or the fault
+pub list_or_fault : (P : List Vector → Type 0) (fault : Option ReadFault) → (fault ≡ None → (ps : List Vector) × P ps)
+    → ((ps : List Vector) × P ps × (fault ≡ None)) ⊎ ((f : ReadFault) × (fault ≡ Some f))
+list_or_fault P None read = let r = read refl in inl (r.0, r.1, refl)
+list_or_fault P (Some f) read = inr (f, refl)

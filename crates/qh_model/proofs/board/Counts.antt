@@ -108,12 +108,9 @@ module _ (B W : ℕ) (some : 0 < B) where
   pub bounded : (m : Machine) (n : ℕ) → Consistent B W m → Counts m n → n ≤ 3 * B + 2 * W - 1
   unfolding settled_sum over_sum mark_sum
   bounded m n g c = let a = c.steps in let b = c.drawn in
-      let d = sum_less (λ i. settled (m.node i)) (2 * B) (zero_settled m g) (λ i. settled_small (m.node i)) (omega arith) in
+      let d = sum_less (λ i. settled (m.node i)) (2 * B) (ap settled g.bottom) (λ i. settled_small (m.node i)) (omega arith) in
       let o = sum_most (λ w. one_if (m.over w)) W (λ w. one_if_small (m.over w)) in
       let k = sum_most (λ w. ended (m.mark w)) W (λ w. ended_small (m.mark w)) in omega arith
-    where
-      zero_settled : (m : Machine) → Consistent B W m → settled (m.node 0) ≡ 0
-      zero_settled m g = ap settled g.bottom
 
   -- the number of claims, by those that were told that all blocks are claimed
   pub few_claims : (m : Machine) (n : ℕ) → Counts m n → m.claims ≤ B + W

@@ -139,9 +139,6 @@ module _ (B W : ℕ) (some : 0 < B) where
     pub unmarked : (v : ℕ) → W ≤ v → m.mark v ≡ none
     pub going : (v : ℕ) → W ≤ v → m.over v ≡ false
 
-  starts_ended : Ended start
-  starts_ended = record { stuck = λ v e. absurd (cc); empty = λ v e. absurd (cc); unmarked = λ v h. refl; going = λ v h. refl }
-
   still_stuck : (m : Machine) (e : Event) → Consistent B W m → Can B W m e → Ended m → (v : ℕ) → m.mark v ≡ gave_up
       → (i : ℕ) × ((after B W m e).node i ≡ held v)
   still_stuck m e g can s v h = let t = s.stuck v h in (t.0, held_on m e g can t.0 v (λ n. let f : gave_up ≡ none = sym h ∙ n in cc) t.1)
@@ -190,4 +187,5 @@ module _ (B W : ℕ) (some : 0 < B) where
   all_ended m (e ∷ es) g s can = all_ended (after B W m e) es (keeps_good B W some m e g can.0) (keeps_ended m e g can.0 s) can.1
 
   pub run_ended : (es : List Event) → Consistent B W start → CanRun B W start es → Ended (run B W start es)
-  run_ended es g can = all_ended start es g starts_ended can
+  run_ended es g can =
+      all_ended start es g (record { stuck = λ v e. absurd (cc); empty = λ v e. absurd (cc); unmarked = λ v h. refl; going = λ v h. refl }) can

@@ -32,11 +32,8 @@ module _ (B W : ℕ) (some : 0 < B) where
   pub both_up : (m : Machine) → Consistent B W m → (i : ℕ) → 0 < i → settled (m.node (2 * i)) ≡ 1 → settled (m.node (2 * i + 1)) ≡ 1 → m.node i ≢ untouched
   both_up m g i lo a b = by_place (m.node (2 * i)) refl (m.node (2 * i + 1)) refl a b
     where
-      up_left : m.node (2 * i) ≡ used → m.node i ≢ untouched
-      up_left e = let half : parent (2 * i) ≡ i = omega arith in subst (λ (k : ℕ). m.node k ≢ untouched) half (g.up (2 * i) (λ q. omega arith) e)
-
-      up_right : m.node (2 * i + 1) ≡ used → m.node i ≢ untouched
-      up_right e = let half : parent (2 * i + 1) ≡ i = omega arith in subst (λ (k : ℕ). m.node k ≢ untouched) half (g.up (2 * i + 1) (λ q. omega arith) e)
+      up : (k : ℕ) → parent k ≡ i → k ≢ 1 → m.node k ≡ used → m.node i ≢ untouched
+      up k half n e = subst (λ (j : ℕ). m.node j ≢ untouched) half (g.up k n e)
 
       sib : sibling (2 * i) ≡ 2 * i + 1
       sib = sibling_even (2 * i) (omega arith)
@@ -45,11 +42,11 @@ module _ (B W : ℕ) (some : 0 < B) where
           → settled (m.node (2 * i + 1)) ≡ 1 → m.node i ≢ untouched
       by_place untouched ex y ey p q = absurd (omega (arith, ap settled ex))
       by_place (held w) ex y ey p q = absurd (omega (arith, ap settled ex))
-      by_place used ex y ey p q = up_left ex
+      by_place used ex y ey p q = up (2 * i) (omega arith) (λ q. omega arith) ex
       by_place published ex y ey p q = let t = g.top (2 * i) ex in absurd (omega arith)
       by_place parked ex untouched ey p q = absurd (omega (arith, ap settled ey))
       by_place parked ex (held w) ey p q = absurd (omega (arith, ap settled ey))
-      by_place parked ex used ey p q = up_right ey
+      by_place parked ex used ey p q = up (2 * i + 1) (omega arith) (λ q. omega arith) ey
       by_place parked ex published ey p q = let t = g.top (2 * i + 1) ey in absurd (omega arith)
       by_place parked ex parked ey p q = absurd (g.pair (2 * i) ex (ap m.node sib ∙ ey))
 

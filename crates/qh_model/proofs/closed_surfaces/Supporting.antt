@@ -1,51 +1,31 @@
 -- Supporting triangles that close up miss no supporting plane and no extreme id: a point a little beyond the middle of
 -- a plane that they missed would be strictly below all of them.
-use Rattle.std.proofs.Common.{◌≡◌, ◌≢◌, ℕ, suc, ◌+◌, arith, refl, sym, ap, subst, ◌∙◌, ◌⊎◌, inl, inr, List, [], ◌∷◌, ⊎_elim}
+use Rattle.std.proofs.Common.{◌≡◌, ℕ, suc, arith, refl, sym, ap, subst, ◌∙◌, ◌⊎◌, inl, inr, List, [], ◌∷◌, ⊎_elim}
 use Rattle.std.proofs.lemmas.Int.{ints, by_lt_z}
-use Rattle.std.specs.Prelude.{ℤ, pos, negsuc, ◌+ℤ◌, ◌-ℤ◌, ◌*ℤ◌, neg_ℤ, ◌≤ℤ◌, ◌<ℤ◌}
+use Rattle.std.specs.Prelude.{ℤ, pos, ◌+ℤ◌, ◌-ℤ◌, ◌*ℤ◌, neg_ℤ, ◌≤ℤ◌, ◌<ℤ◌}
 use Rattle.qh_model.specs.contract.ClosedSurface.{Triple, IsClosedSurface}
 use Rattle.qh_model.specs.headline.{Extreme.Others, Predicates.cross, Predicates.vol, Predicates.AreInLine, Sets.In, Sets.Members}
 use Rattle.qh_model.specs.headline.{SupportingPlane.IsSupportingTriple, Vector.Vector, Vector.minus, Vector.dot}
-use Rattle.qh_model.specs.laws.ClosedFaceLaws.{AreSupporting, TriangleOfPlane, ClosedMissNoPlane, ClosedMissNoExtreme}
+use Rattle.qh_model.specs.laws.ClosedFaceLaws.{AreSupporting, ClosedMissNoPlane, ClosedMissNoExtreme}
 use Rattle.qh_model.specs.laws.{ClosedSurfaceLaws.IsCornerOf, FaceLaws.IsAlong, Separator.Separator}
 use Rattle.qh_model.proofs.algebra.{Integers.mul_neg, Integers.mul_one, Order.mul-le, Order.product_zero, Order.mul-pos, Order.mul-pos_neg}
 use Rattle.qh_model.proofs.algebra.{Order.mul-nonneg_nonpos, Order.zero_or_not, Order.le_less, Ring.ring, Signs.less_differ}
 use Rattle.qh_model.proofs.algebra.VectorIdentities.{vec, put, dotE, oppositeE, opposite, dot-opposite, dot_comm, in_line-vol, vol-first, vol-second, vol-third}
 use Rattle.qh_model.proofs.closed_surfaces.{Beyond.scaled, Beyond.beyond, Beyond.vol-beyond, Beyond.dot-past, Cancellation.none_below_and_beyond}
 use Rattle.qh_model.proofs.extremes.Directions.{positive_along, dot_along, along_or_opposite, square-positive, from_plane}
-use Rattle.qh_model.proofs.extremes.ExtremeIds.{Listed, listed_itself, listed_part, alternative_in, apart}
+use Rattle.qh_model.proofs.{Members.each_more, extremes.ExtremeIds.separated, surfaces.PerturbedInwards.bound}
 use Rattle.qh_model.proofs.polygons.PlaneTurns.{level_parallel}
 
 -- one of the list has P, or all have Q
 one_or_all : {X : Type 0} (P Q : X → Type 0) (xs : List X) → ((x : X) → In x xs → P x ⊎ Q x) → ((x : X) × In x xs × P x) ⊎ ((x : X) → In x xs → Q x)
 one_or_all P Q [] f = inr (λ x i. absurd i)
-one_or_all {X} P Q (x ∷ xs) f = go (f x (inl refl)) (one_or_all P Q xs (λ y i. f y (inr i)))
-  where
-    go : P x ⊎ Q x → ((y : X) × In y xs × P y) ⊎ ((y : X) → In y xs → Q y) → ((y : X) × In y (x ∷ xs) × P y) ⊎ ((y : X) → In y (x ∷ xs) → Q y)
-    go (inl p) r = inl (x, inl refl, p)
-    go (inr q) (inl r) = inl (r.0, inr r.1, r.2)
-    go (inr q) (inr r) = inr each
-      where
-        each : (y : X) → In y (x ∷ xs) → Q y
-        each y (inl e) = subst Q (sym e) q
-        each y (inr i) = r y i
+one_or_all P Q (x ∷ xs) f =
+    ⊎_elim (λ p. inl (x, inl refl, p)) (λ q. ⊎_elim (λ r. inl (r.0, inr r.1, r.2)) (λ r. inr (each_more Q x xs q r))
+    (one_or_all P Q xs (λ y i. f y (inr i)))) (f x (inl refl))
 
 -- a number above all of a list
 pub ceiling : {X : Type 0} (g : X → ℤ) (xs : List X) → (c : ℕ) × ((x : X) → In x xs → g x <ℤ pos c)
-ceiling g [] = (0, λ x i. absurd i)
-ceiling {X} g (x ∷ xs) = go (g x) refl (ceiling g xs)
-  where
-    go : (z : ℤ) → g x ≡ z → (c : ℕ) × ((y : X) → In y xs → g y <ℤ pos c) → (c : ℕ) × ((y : X) → In y (x ∷ xs) → g y <ℤ pos c)
-    go (pos n) e (c, h) = (suc n + c, each)
-      where
-        each : (y : X) → In y (x ∷ xs) → g y <ℤ pos (suc n + c)
-        each y (inl d) = omega (arith, ints, ap g d ∙ e)
-        each y (inr i) = omega (arith, ints, h y i)
-    go (negsuc n) e (c, h) = (c, each)
-      where
-        each : (y : X) → In y (x ∷ xs) → g y <ℤ pos c
-        each y (inl d) = omega (arith, ints, ap g d ∙ e)
-        each y (inr i) = h y i
+ceiling g xs = let b = bound g xs in (b.0, λ x i. (b.1 x i).0)
 
 -- ---- a plane of the set and a triangle
 module _ (at : ℕ → Vector) (A : ℕ → Type 0) (i j k : ℕ) (plane : IsSupportingTriple at A i j k) where
@@ -162,23 +142,17 @@ module _ (at : ℕ → Vector) (A : ℕ → Type 0) (i j k : ℕ) (plane : IsSup
 -- the law
 pub closed_miss_no_plane : ClosedMissNoPlane
 closed_miss_no_plane at ids ts closed supporting i j k plane =
-    go (one_or_all HasPlane HasOther ts (λ t r. spans_or_other at (Members ids) i j k plane t (supporting t r)))
-  where
-    HasPlane : Triple → Type 0
-    HasPlane = Spans at (Members ids) i j k plane
-
-    HasOther : Triple → Type 0
-    HasOther = IsOther at (Members ids) i j k plane
-
-    go : ((t : Triple) × In t ts × HasPlane t) ⊎ ((t : Triple) → In t ts → HasOther t) → TriangleOfPlane at ts i j k
-    go (inl (t, r, s)) = record { t = t; there = r; along = s.0; level = s.1 }
-    go (inr f) = absurd (none_other at (Members ids) i j k plane ts closed supporting f)
+    ⊎_elim (λ r. record { t = r.0; there = r.1; along = r.2.0; level = r.2.1 })
+    (λ f. absurd (none_other at (Members ids) i j k plane ts closed supporting f))
+    (one_or_all (Spans at (Members ids) i j k plane) (IsOther at (Members ids) i j k plane) ts
+    (λ t r. spans_or_other at (Members ids) i j k plane t (supporting t r)))
 
 -- ---- extreme ids
 -- the law
 pub closed_miss_no_extreme : ClosedMissNoExtreme
 closed_miss_no_extreme at ids ts closed supporting e extreme =
-    ⊎_elim (λ r. (r.0, r.1, r.2)) (λ f. absurd (none f (separator others))) (one_or_all On Below ts (λ t r. either t r (zero_or_not (height t))))
+    ⊎_elim (λ r. (r.0, r.1, r.2)) (λ f. absurd (none f (separated at ids e extreme))) (one_or_all On Below ts (λ t r.
+    ⊎_elim (λ z. inl z) (λ z. inr (le_less (height t) (pos 0) ((supporting t r).supports e extreme.0) z)) (zero_or_not (height t))))
   where
     height : Triple → ℤ
     height t = vol (at t.i) (at t.j) (at t.k) (at e)
@@ -192,10 +166,6 @@ closed_miss_no_extreme at ids ts closed supporting e extreme =
     -- the ids of the set but e
     Rest : ℕ → Type 0
     Rest = Others (Members ids) e
-
-    either : (t : Triple) → In t ts → (height t ≡ pos 0) ⊎ (¬ (height t ≡ pos 0)) → On t ⊎ Below t
-    either t r (inl z) = inl z
-    either t r (inr z) = inr (le_less (height t) (pos 0) ((supporting t r).supports e extreme.0) z)
 
     none : ((t : Triple) → In t ts → Below t) → Separator at Rest (at e) → ⊥
     none below s = none_below_and_beyond at ts closed s.w (at e) past below
@@ -216,9 +186,3 @@ closed_miss_no_extreme at ids ts closed supporting e extreme =
             corner (inr (inl q)) = other t.j (supporting t r).has_j (vol-second (at t.i) (at t.j) (at t.k)) q
             corner (inr (inr (inl q))) = other t.k (supporting t r).has_k (vol-third (at t.i) (at t.j) (at t.k)) q
             corner (inr (inr (inr x))) = absurd x
-
-    separator : (ys : List ℕ) × Listed Rest ys → Separator at Rest (at e)
-    separator (ys, l) = ⊎_elim (λ m. absurd (extreme.1 m)) (λ s. s) (alternative_in at Rest ys l (at e))
-
-    others : (ys : List ℕ) × Listed Rest ys
-    others = listed_part (Members ids) (λ l. l ≢ e) (apart e) ids (listed_itself ids)

@@ -90,6 +90,12 @@ listed_part A P D xs l = (
 pub apart : (i j : ℕ) → (j ≢ i) ⊎ (¬ (j ≢ i))
 apart i j = contrary (j ≡ i) (same_id j i)
 
+-- an extreme id of a list is separated from the others
+pub separated : (at : ℕ → Vector) (ids : List ℕ) (l : ℕ) → Extreme at (Members ids) l → Separator at (Others (Members ids) l) (at l)
+separated at ids l e =
+    let others = listed_part (Members ids) (λ j. j ≢ l) (apart l) ids (listed_itself ids) in
+    ⊎_elim (λ c. absurd (e.1 c)) (λ s. s) (alternative_in at (Others (Members ids) l) others.0 others.1 (at l))
+
 -- whether a member is extreme can be told
 extreme_or_not : (at : ℕ → Vector) (A : ℕ → Type 0) (xs : List ℕ) → Listed A xs → (i : ℕ)
     → (¬ (Combination at (Others A i) (at i))) ⊎ (¬ (¬ (Combination at (Others A i) (at i))))

@@ -1,12 +1,13 @@
 -- The edges of a solid: another face goes along each the other way, found by turning a plane about the edge.
-use Rattle.std.proofs.Common.{◌≡◌, ◌≢◌, ℕ, arith, refl, sym, subst, ◌∙◌, inl, inr, ⊎_elim, List, Bool, true, false}
+use Rattle.std.proofs.Common.{◌≡◌, ◌≢◌, ℕ, arith, sym, subst, ◌∙◌, inl, inr, ⊎_elim, List, Bool, true}
 use Rattle.std.proofs.lemmas.Int.{ints, by_lt_z}
 use native.Mathlib.Decide.{ℕ_discrete}
 use mathlib.Core.Logic.{dite}
-use Rattle.std.specs.Prelude.{ℤ, pos, negsuc, ◌-ℤ◌, ◌*ℤ◌, ◌≤ℤ◌, ◌<ℤ◌}
+use Rattle.std.specs.Prelude.{ℤ, pos, ◌-ℤ◌, ◌*ℤ◌, ◌≤ℤ◌, ◌<ℤ◌}
 use Rattle.qh_model.specs.{contract.IdSets.HasDistinctPoints, headline.Dimension.HasTetrahedron, headline.Polygon.Follows}
 use Rattle.qh_model.specs.headline.{Polygons.IsFacePolygon, Predicates.cross, Predicates.vol, Predicates.left, Predicates.AreInLine, Sets.In, Sets.Members}
 use Rattle.qh_model.specs.{headline.SupportingPlane.IsSupportingTriple, headline.Vector.Vector, headline.Vector.dot, laws.EdgeLaws.OtherFace}
+use Rattle.qh_model.proofs.Decisions.{test, told, holds, less_or_not}
 use Rattle.qh_model.proofs.algebra.{Integers.mul_comm, Order.mul-pos, Order.cancel-zero, Order.le_antisym, Order.neg-positive}
 use Rattle.qh_model.proofs.algebra.{Order.positive_le, Order.product_zero, Signs.less_differ, VectorIdentities.edge_product}
 use Rattle.qh_model.proofs.algebra.VectorIdentities.{vol-first, vol-second, vol-flip, vol-swap_last, left-flip, in_line-vol, in_line-left, in_line-twice}
@@ -18,21 +19,6 @@ use Rattle.qh_model.proofs.surfaces.VisibleFacets.{Least, least}
 -- turned about, and with the last two exchanged, a volume is the same
 vol-both : (u v x y : Vector) → vol v u y x ≡ vol u v x y
 vol-both u v x y = omega (arith, ints, vol-flip v u y x, vol-swap_last u v y x)
-
--- whether a number is below 0
-is_below : ℤ → Bool
-is_below (pos n) = false
-is_below (negsuc n) = true
-
-below_true : (z : ℤ) → z <ℤ pos 0 → is_below z ≡ true
-unfolding is_below
-below_true (pos n) h = absurd (omega (arith, ints))
-below_true (negsuc n) h = refl
-
-true_below : (z : ℤ) → is_below z ≡ true → z <ℤ pos 0
-unfolding is_below
-true_below (pos n) h = cc
-true_below (negsuc n) h = omega (arith, ints)
 
 -- of two points the one beyond the plane of the other and the line u v comes first, by their volumes with a and b
 gift_wrap : (u v a b p y : Vector) → pos 0 <ℤ vol u v a b → pos 0 <ℤ vol u v p y → pos 0 <ℤ (vol u v a p *ℤ vol u v b y -ℤ vol u v b p *ℤ vol u v a y)
@@ -79,7 +65,7 @@ module _ (at : ℕ → Vector) (ids : List ℕ) (d : HasDistinctPoints at (Membe
           (level solid.i solid.has_i) (level solid.j solid.has_j) (level solid.k solid.has_k)
 
   abbrev marked : ℕ → Bool
-  marked l = is_below (height l)
+  marked l = test (less_or_not (height l) (pos 0))
 
   -- the plane turned about the edge as far as the first member
   next : Next
@@ -89,10 +75,10 @@ module _ (at : ℕ → Vector) (ids : List ℕ) (d : HasDistinctPoints at (Membe
       (least marked (λ l. vol (at v) (at u) (at x.w) (at l)) (λ l. pos 0) ids positive)
     where
       positive : (g : ℕ) → In g ids → marked g ≡ true → pos 0 <ℤ vol (at v) (at u) (at x.w) (at g)
-      positive g m e = turned g (true_below (height g) e)
+      positive g m e = turned g (holds (less_or_not (height g) (pos 0)) e)
 
       none : ((g : ℕ) → In g ids → marked g ≡ true → ⊥) → ⊥
-      none f = some_below (λ l h r. f l h (below_true (height l) r))
+      none f = some_below (λ l h r. f l h (told (less_or_not (height l) (pos 0)) r))
 
       -- no member comes before the first by the volumes with x and with a first one
       from_both : (b : Least marked (λ l. vol (at v) (at u) (at x.w) (at l)) (λ l. pos 0) ids)
@@ -100,8 +86,8 @@ module _ (at : ℕ → Vector) (ids : List ℕ) (d : HasDistinctPoints at (Membe
       from_both b m = record {
         w = m.m;
         has_w = m.there;
-        low = true_below (height m.m) m.marked;
-        first = λ l h r. by_lt_z (pos 0) (vol (at v) (at u) (at m.m) (at l)) (λ s. absurd (m.least l h (below_true (height l) r)
+        low = holds (less_or_not (height m.m) (pos 0)) m.marked;
+        first = λ l h r. by_lt_z (pos 0) (vol (at v) (at u) (at m.m) (at l)) (λ s. absurd (m.least l h (told (less_or_not (height l) (pos 0)) r)
             (gift_wrap (at v) (at u) (at x.w) (at b.m) (at m.m) (at l) (positive b.m b.there b.marked) s))) (λ s. s);
       }
 

@@ -44,12 +44,9 @@ module _ (ap bp ab ay by py : ℤ) (product : ap *ℤ by -ℤ ay *ℤ bp ≡ ab 
 
   -- below or on both
   not_above_planes : pos 0 <ℤ ap → pos 0 ≤ℤ bp → ab <ℤ pos 0 → ay ≤ℤ pos 0 → pos 0 ≤ℤ by → py ≤ℤ pos 0
-  not_above_planes h k l m n = by_lt_z (pos 0) py (λ q. absurd (never q)) (λ q. q)
-    where
-      never : pos 0 <ℤ py → ⊥
-      never q =
-          let x = mul-nonneg ap by (positive_le ap h) n in let y = mul-nonpos_nonneg ay bp m k in let z = mul-neg_pos ab py l q in
-          omega (arith, ints, product, x, y, z)
+  not_above_planes h k l m n =
+      let x = mul-nonneg ap by (positive_le ap h) n in let y = mul-nonpos_nonneg ay bp m k in
+      by_lt_z (pos 0) py (λ q. absurd (omega (arith, ints, product, x, y, mul-neg_pos ab py l q))) (λ q. q)
 
   -- above both
   above_both_planes : pos 0 <ℤ ap → pos 0 ≤ℤ bp → ab ≤ℤ pos 0 → pos 0 <ℤ ay → by <ℤ pos 0 → pos 0 <ℤ py

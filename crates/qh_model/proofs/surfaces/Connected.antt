@@ -2,9 +2,10 @@
 use Rattle.qh_model.specs.contract.SoundSurface.{HasDistinctFacets, IsInner, IsStrict, IsStrictWhenPerturbed, IsSound, perturbed, towards}
 use Rattle.qh_model.specs.contract.Surface.{IsCorner, Side, Surface, HasTwin, IsWhole, start, end, rest, rise, Side.first, Side.second, Side.third}
 use Rattle.qh_model.specs.{contract.Weighted.Weighted, contract.Weighted.weighted_dot, contract.Weighted.plane_of, headline.Sets.In, steps.FarCorners.far}
-use Rattle.std.proofs.Common.{◌≡◌, ◌≢◌, ℕ, zero, suc, ◌+◌, arith, refl, ap, sym, ◌∙◌, subst, inl, inr, Bool, true, false}
+use Rattle.std.proofs.Common.{◌≡◌, ◌≢◌, ℕ, suc, ◌+◌, arith, refl, ap, sym, ◌∙◌, subst, inl, inr, Bool, true, false}
 use Rattle.std.proofs.lemmas.{Bool.and_parts, Bool.both_ways, Bool.not-true, Int.ints, Int.by_lt_z}
-use Rattle.std.specs.Prelude.{ℤ, pos, negsuc, ◌+ℤ◌, ◌*ℤ◌, neg_ℤ, ◌≤ℤ◌, ◌<ℤ◌, ◌&&◌, not}
+use Rattle.std.specs.Prelude.{ℤ, pos, ◌+ℤ◌, ◌*ℤ◌, neg_ℤ, ◌≤ℤ◌, ◌<ℤ◌, ◌&&◌, not}
+use Rattle.qh_model.proofs.Decisions.{test, told, holds, less_or_not}
 use Rattle.qh_model.proofs.algebra.{Order.mul-pos, Signs.not_less, Signs.less_one_way}
 use Rattle.qh_model.proofs.surfaces.Facets.{rise_side, rise_over, weak, middle, middle_on, middle_weak, middle_below, bends, plane-is}
 use Rattle.qh_model.proofs.surfaces.PerturbedInwards.{tilt, above-perturbed_all, Choice, choose, size, size_le, cube, scale}
@@ -15,26 +16,6 @@ abbrev pub placed : Surface → (ℕ → Weighted) → ℕ → Corners
 placed m at f = record { a = at (m.i f); b = at (m.j f); c = at (m.k f) }
 
 -- ---- connectedness over weighted points
--- is a number above 0?
-pub positive : ℤ → Bool
-positive (pos zero) = false
-positive (pos (suc n)) = true
-positive (negsuc n) = false
-
--- the test is right
-pub positive-is : (x : ℤ) → positive x ≡ true → pos 0 <ℤ x
-unfolding positive
-positive-is (pos zero) e = absurd (both_ways true (sym e) refl)
-positive-is (pos (suc n)) e = omega (arith, ints)
-positive-is (negsuc n) e = absurd (both_ways true (sym e) refl)
-
--- and finds all
-pub positive-true : (x : ℤ) → pos 0 <ℤ x → positive x ≡ true
-unfolding positive
-positive-true (pos zero) h = absurd (omega (arith, ints))
-positive-true (pos (suc n)) h = refl
-positive-true (negsuc n) h = absurd (omega (arith, ints))
-
 -- the facets that see p: a first one, and any set of facets that has it and, with a facet, each neighbour that sees p
 pub record Grown (m : Surface) (sees : ℕ → Bool) (c : ℕ → Bool) : Type 0 where
   pub f0 : ℕ
@@ -123,14 +104,15 @@ connected_at m at real o w n h d p sees up down c r f i e = reached (c f) refl
 -- ---- perturbed inwards
 -- does the facet see p?
 abbrev pub sees : Surface → (ℕ → Weighted) → Weighted → ℕ → Bool
-sees m home p f = positive (rise m home f p)
+sees m home p f = test (less_or_not (pos 0) (rise m home f p))
 
 -- THEOREM: the facets that p sees are all reached from one of them over sides
 pub connected : (m : Surface) (home : ℕ → Weighted) (o : Weighted) → IsWhole m → IsSound m home o
     → (p : Weighted) (c : ℕ → Bool) → Grown m (sees m home p) c → (f : ℕ) → In f m.live → pos 0 <ℤ rise m home f p → c f ≡ true
 connected m home o w s p c g f i q =
     connected_at m at home o w s.inner (l.strict n (omega arith)) s.distinct top (sees m home p)
-    (λ f j e. ch.up n (omega arith) f j (positive-is (rise m home f p) e)) perturbed_back c g f i (positive-true (rise m home f p) q)
+    (λ f j e. ch.up n (omega arith) f j (holds (less_or_not (pos 0) (rise m home f p)) e)) perturbed_back c g f i
+    (told (less_or_not (pos 0) (rise m home f p)) q)
   where
     l : IsStrictWhenPerturbed m home o
     l = s.lifted
@@ -149,7 +131,7 @@ connected m home o w s p c g f i q =
 
     perturbed_back : (f : ℕ) → In f m.live → pos 0 <ℤ rise m at f top → sees m home p f ≡ true
     perturbed_back f j e =
-        by_lt_z (pos 0) (rise m home f p) (positive-true (rise m home f p)) (λ k. absurd (less_one_way _ _ e (ch.down n (omega arith) f j k)))
+        by_lt_z (pos 0) (rise m home f p) (told (less_or_not (pos 0) (rise m home f p))) (λ k. absurd (less_one_way _ _ e (ch.down n (omega arith) f j k)))
 
 -- no corner is above a facet
 pub cert : (m : Surface) (home : ℕ → Weighted) (o : Weighted) → IsStrictWhenPerturbed m home o

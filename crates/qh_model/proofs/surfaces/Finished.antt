@@ -1,5 +1,5 @@
 -- A finished surface misses no extreme id and no supporting plane.
-use Rattle.std.proofs.Common.{◌↔◌, ◌≡◌, ◌≢◌, ℕ, arith, refl, sym, ap, subst, ◌∙◌, ◌⊎◌, inl, inr, List, [], ◌∷◌, ⊎_elim}
+use Rattle.std.proofs.Common.{◌↔◌, ◌≡◌, ◌≢◌, ℕ, arith, refl, sym, ap, subst, ◌∙◌, ◌⊎◌, inl, inr, List, [], ◌∷◌}
 use Rattle.std.proofs.lemmas.Int.{ints}
 use native.Mathlib.Decide.{ℕ_discrete}
 use mathlib.Core.Logic.{dite}
@@ -15,16 +15,10 @@ use Rattle.qh_model.proofs.algebra.{Order.mul-pos, Order.mul-nonneg_nonpos, Orde
 use Rattle.qh_model.proofs.algebra.{Ring.Expr.sub as less, Ring.Expr.mul, Signs.less_differ, Signs.equal_le, Signs.no_sum}
 use Rattle.qh_model.proofs.algebra.VectorIdentities.{vec, dotE, crossE, subE, put, VE, vol-first, in_line-vol, in_line-twice, vol-flip_last}
 use Rattle.qh_model.proofs.extremes.Directions.{at_least_along, normal_along, from_plane, vol_along, zero_along, square-positive}
-use Rattle.qh_model.proofs.extremes.ExtremeIds.{listed_itself, listed_part, apart, alternative_in}
+use Rattle.qh_model.proofs.extremes.ExtremeIds.{separated}
 use Rattle.qh_model.proofs.surfaces.{Closed.inner_area, Combinations.settled_is_combination, Combinations.level_is_combination}
 use Rattle.qh_model.proofs.surfaces.Determinants.{QE, aboveE, dot-together, above-together}
 use Rattle.qh_model.proofs.surfaces.{Facets.corner_test, Simplex.middle_is_below, SurfaceLaws.rise_is_vol}
-
--- ---- an extreme id is separated from the others
-separated : (at : ℕ → Vector) (ids : List ℕ) (l : ℕ) → Extreme at (Members ids) l → Separator at (Others (Members ids) l) (at l)
-separated at ids l e =
-    let others = listed_part (Members ids) (λ j. j ≢ l) (apart l) ids (listed_itself ids) in
-    ⊎_elim (λ c. absurd (e.1 c)) (λ s. s) (alternative_in at (Others (Members ids) l) others.0 others.1 (at l))
 
 -- ---- directions as planes
 -- the plane that measures along w

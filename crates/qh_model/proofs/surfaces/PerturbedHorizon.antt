@@ -7,11 +7,11 @@ use Rattle.std.proofs.lemmas.Bool.{and_parts}
 use native.Mathlib.Decide.{ℕ_discrete}
 use mathlib.Core.Logic.{dite}
 use Rattle.std.specs.Prelude.{ℤ, pos, ◌-ℤ◌, ◌*ℤ◌, neg_ℤ, ◌<ℤ◌, ◌&&◌}
-use Rattle.qh_model.proofs.Decisions.{test, told, holds}
+use Rattle.qh_model.proofs.Decisions.{test, told, holds, less_or_not}
 use Rattle.qh_model.proofs.algebra.{Order.mul-neg_neg, Order.neg-positive, Ring.ring, Ring.Expr.var, Ring.Expr.sub as less, Ring.Expr.mul, Ring.Expr.neg}
 use Rattle.qh_model.proofs.algebra.Signs.{less_one_way, equal_negative, opposite_positive, opposite_negative}
-use Rattle.qh_model.proofs.surfaces.{ConePlanes.Old, ConePlanes.apex_rise, ConePlanes.corner_below_cone, Connected.positive, Connected.positive-is}
-use Rattle.qh_model.proofs.surfaces.{Connected.positive-true, Determinants.above-turn, Determinants.swap24, Determinants.turned_first}
+use Rattle.qh_model.proofs.surfaces.{ConePlanes.Old, ConePlanes.apex_rise, ConePlanes.corner_below_cone}
+use Rattle.qh_model.proofs.surfaces.{Determinants.above-turn, Determinants.swap24, Determinants.turned_first}
 use Rattle.qh_model.proofs.surfaces.FacetSides.{side_next, start_next, end_next, from, from_is}
 use Rattle.qh_model.proofs.surfaces.Facets.{rise_over, corner_end, corner_rest, corner_test, ends_differ, rest_differs}
 use Rattle.qh_model.proofs.surfaces.{KeptSound.edge_once, KeptSound.side_once, PlanesThroughLine.line_product, VisibleFacets.Least, VisibleFacets.least}
@@ -78,7 +78,7 @@ horizon_next m home o c f s r = found (least mark p q m.live (λ g i e. p_pos g 
     w = rest m f s
 
     mark : ℕ → Bool
-    mark g = positive (rise m at g top) && test (corner_test m g v)
+    mark g = test (less_or_not (pos 0) (rise m at g top)) && test (corner_test m g v)
 
     out : ℕ → ℕ
     out g = end m g (from m g v)
@@ -93,14 +93,14 @@ horizon_next m home o c f s r = found (least mark p q m.live (λ g i e. p_pos g 
     q : ℕ → ℤ
     q g = neg_ℤ (round w (at (out g)))
 
-    parts : (g : ℕ) → mark g ≡ true → (positive (rise m at g top) ≡ true) × (test (corner_test m g v) ≡ true)
-    parts g = and_parts (positive (rise m at g top)) (test (corner_test m g v))
+    parts : (g : ℕ) → mark g ≡ true → (test (less_or_not (pos 0) (rise m at g top)) ≡ true) × (test (corner_test m g v) ≡ true)
+    parts g = and_parts (test (less_or_not (pos 0) (rise m at g top))) (test (corner_test m g v))
 
     seen : (g : ℕ) → mark g ≡ true → pos 0 <ℤ rise m at g top
-    seen g e = positive-is (rise m at g top) (parts g e).0
+    seen g e = holds (less_or_not (pos 0) (rise m at g top)) (parts g e).0
 
     marked : (g : ℕ) → pos 0 <ℤ rise m at g top → IsCorner m g v → mark g ≡ true
-    marked g a b = rw (positive-true (rise m at g top) a, told (corner_test m g v) b) refl
+    marked g a b = rw (told (less_or_not (pos 0) (rise m at g top)) a, told (corner_test m g v) b) refl
 
     starts : (g : ℕ) → mark g ≡ true → start m g (from m g v) ≡ v
     starts g e = from_is m g v (holds (corner_test m g v) (parts g e).1)

@@ -1,9 +1,10 @@
 -- Corners perturbed a very little towards an inner point, each by its own share: what was level is then strictly below.
 use Rattle.qh_model.specs.contract.{SoundSurface.IsInner, SoundSurface.perturbed, SoundSurface.towards, Surface.Surface, Surface.rise, Weighted.Weighted}
 use Rattle.qh_model.specs.{contract.Weighted.above, headline.Sets.In}
-use Rattle.std.proofs.Common.{◌≡◌, ℕ, zero, suc, ◌+◌, ◌≤◌, refl, List, [], ◌∷◌, arith, sym, subst, ◌⊎◌, inl, inr}
+use Rattle.std.proofs.Common.{◌≡◌, ℕ, zero, suc, ◌+◌, ◌≤◌, refl, List, [], ◌∷◌, arith, sym, subst}
 use Rattle.std.proofs.lemmas.Int.{ints}
 use Rattle.std.specs.Prelude.{ℤ, pos, negsuc, ◌+ℤ◌, ◌-ℤ◌, ◌*ℤ◌, neg_ℤ, ◌≤ℤ◌, ◌<ℤ◌}
+use Rattle.qh_model.proofs.Members.{each_more}
 use Rattle.qh_model.proofs.algebra.Order.{mul-nonneg, mul-nonneg_nonpos, mul-pos, mul-pos_neg}
 use Rattle.qh_model.proofs.algebra.Ring.{Expr, ring, Expr.var, Expr.con, Expr.add, Expr.sub as less, Expr.mul}
 use Rattle.qh_model.proofs.surfaces.Determinants.{above_of, quad, QE, aboveE, put4}
@@ -42,27 +43,15 @@ size_le (negsuc n) = (omega (arith, ints), omega (arith, ints))
 abbrev Bounded : {X : Type 0} → (X → ℤ) → List X → Type 0
 Bounded {X} r xs = (m : ℕ) × ((f : X) → In f xs → (r f <ℤ pos m) × (neg_ℤ (r f) <ℤ pos m))
 
--- with one more member
-bound_more : {X : Type 0} (r : X → ℤ) (x : X) (xs : List X) → Bounded r xs → Bounded r (x ∷ xs)
-bound_more {X} r x xs low = (suc (size (r x)) + low.0, of_all)
-  where
-    Below : ℤ → ℕ → Type 0
-    Below y n = (y <ℤ pos n) × (neg_ℤ y <ℤ pos n)
-
-    here : (y : ℤ) (s m : ℕ) → (y ≤ℤ pos s) × (neg_ℤ y ≤ℤ pos s) → Below y (suc s + m)
-    here y s m h = (omega (arith, ints, h.0), omega (arith, ints, h.1))
-
-    there : (y : ℤ) (s m : ℕ) → Below y m → Below y (suc s + m)
-    there y s m h = (omega (arith, ints, h.0), omega (arith, ints, h.1))
-
-    of_all : (f : X) → (f ≡ x) ⊎ In f xs → Below (r f) (suc (size (r x)) + low.0)
-    of_all f (inl e) = subst (λ t. Below (r t) (suc (size (r x)) + low.0)) (sym e) (here (r x) (size (r x)) low.0 (size_le (r x)))
-    of_all f (inr i) = there (r f) (size (r x)) low.0 (low.1 f i)
-
 -- there is one
 pub bound : {X : Type 0} (r : X → ℤ) (xs : List X) → Bounded r xs
 bound r [] = (zero, λ f i. absurd i)
-bound r (x ∷ xs) = bound_more r x xs (bound r xs)
+bound r (x ∷ xs) =
+    let low = bound r xs in let own = size_le (r x) in let m : ℕ = suc (size (r x)) + low.0 in (
+      m,
+      each_more (λ f. (r f <ℤ pos m) × (neg_ℤ (r f) <ℤ pos m)) x xs (omega (arith, ints, own.0), omega (arith, ints, own.1))
+          (λ f i. let h = low.1 f i in (omega (arith, ints, h.0), omega (arith, ints, h.1))),
+    )
 
 -- a large enough share
 pub share : (b x : ℤ) (k : ℕ) → b <ℤ pos k → x <ℤ pos 0 → (b +ℤ pos k *ℤ x) <ℤ pos 0

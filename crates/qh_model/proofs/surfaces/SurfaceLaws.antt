@@ -3,8 +3,9 @@ use Rattle.qh_model.specs.{contract.Surface.rise, contract.Weighted.above, headl
 use Rattle.qh_model.specs.laws.SurfaceLaws.{CornersAreSettled, AddedIsSettled, RiseIsVol, WalkFindsAll, SettledStayUnseen, HorizonGoesOn, HorizonIsKnown}
 use Rattle.std.proofs.Common.{ℕ, refl, [], inl, inr}
 use Rattle.std.specs.Prelude.{pos}
+use Rattle.qh_model.proofs.Decisions.{told, holds, less_or_not}
 use Rattle.qh_model.proofs.algebra.{Ring.ring, Ring.Expr.con, VectorIdentities.vec, VectorIdentities.volE, VectorIdentities.put, VectorIdentities.VE}
-use Rattle.qh_model.proofs.surfaces.Connected.{positive-is, positive-true, connected, cert}
+use Rattle.qh_model.proofs.surfaces.Connected.{connected, cert}
 use Rattle.qh_model.proofs.surfaces.{Determinants.QE, Determinants.aboveE, Horizon.edge_next, Horizon.edge_prev, Horizon.edge_known_by_start}
 use Rattle.qh_model.proofs.surfaces.{Horizon.edge_known_by_end, Rewired.replaced, Unseen.settled_kept, Unseen.apex_settled}
 
@@ -24,9 +25,9 @@ pub walk_finds_all : WalkFindsAll
 walk_finds_all m home o w z p c g = connected m home o w z p c (record {
   f0 = g.f0;
   live = g.live;
-  sees_p = positive-true (rise m home g.f0 p) g.seen;
+  sees_p = told (less_or_not (pos 0) (rise m home g.f0 p)) g.seen;
   has = g.has;
-  grows = λ f i s a b. g.grows f i s a (positive-is (rise m home (m.over f s) p) b);
+  grows = λ f i s a b. g.grows f i s a (holds (less_or_not (pos 0) (rise m home (m.over f s) p)) b);
 })
 
 -- the law

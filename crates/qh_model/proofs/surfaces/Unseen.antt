@@ -4,10 +4,11 @@ use Rattle.qh_model.specs.{contract.Weighted.Weighted, headline.Sets.In, laws.Ho
 use Rattle.std.proofs.Common.{◌≡◌, ℕ, refl, sym, ◌∙◌, ◌⊎◌, inl, inr, Bool, true, ⊎_elim}
 use Rattle.std.proofs.lemmas.{Bool.and_parts, Int.by_lt_z}
 use Rattle.std.specs.Prelude.{pos, ◌≤ℤ◌, ◌<ℤ◌, ◌&&◌}
+use Rattle.qh_model.proofs.Decisions.{told, holds, less_or_not}
 use Rattle.qh_model.proofs.algebra.Signs.{not_less, equal_le, equal_nonpos}
 use Rattle.qh_model.proofs.surfaces.Cone.{KeptOf, ConeOf, Replaced, cone_rise, kept_rise, cone_inside}
-use Rattle.qh_model.proofs.surfaces.{ConePlanes.apex_blind, ConePlanes.apex_seen, Connected.Grown, Connected.positive, Connected.positive-is}
-use Rattle.qh_model.proofs.surfaces.{Connected.positive-true, Connected.sees, Connected.connected, Connected.cert, Determinants.above-third, Facets.corner_rest}
+use Rattle.qh_model.proofs.surfaces.{ConePlanes.apex_blind, ConePlanes.apex_seen, Connected.Grown}
+use Rattle.qh_model.proofs.surfaces.{Connected.sees, Connected.connected, Connected.cert, Determinants.above-third, Facets.corner_rest}
 
 -- THEOREM: then q sees no kept facet, if it saw a removed one
 pub dropped_stay_unseen : (m : Surface) (home : ℕ → Weighted) (o : Weighted) → IsWhole m → IsSound m home o
@@ -17,27 +18,27 @@ dropped_stay_unseen m home o w z p q f0 i0 sp sq unseen f i blind =
     by_lt_z (pos 0) (rise m home f q) (λ k. absurd (not_less (pos 0) (rise m home f p) (by_p f (connected m home o w z q c grown f i k)) blind)) (λ k. k)
   where
     c : ℕ → Bool
-    c g = positive (rise m home g p) && positive (rise m home g q)
+    c g = sees m home p g && sees m home q g
 
     by_p : (g : ℕ) → c g ≡ true → pos 0 <ℤ rise m home g p
-    by_p g e = positive-is (rise m home g p) (and_parts (positive (rise m home g p)) (positive (rise m home g q)) e).0
+    by_p g e = holds (less_or_not (pos 0) (rise m home g p)) (and_parts (sees m home p g) (sees m home q g) e).0
 
     joined : (g : ℕ) → pos 0 <ℤ rise m home g p → pos 0 <ℤ rise m home g q → c g ≡ true
-    joined g a b = rw (positive-true (rise m home g p) a, positive-true (rise m home g q) b) refl
+    joined g a b = rw (told (less_or_not (pos 0) (rise m home g p)) a, told (less_or_not (pos 0) (rise m home g q)) b) refl
 
     horizon : (g : ℕ) → In g m.live → (s : Side) → c g ≡ true → pos 0 <ℤ rise m home (m.over g s) q → rise m home (m.over g s) p ≤ℤ pos 0 → ⊥
     horizon g j s e k l =
         let far_blind = cert m home o z.lifted g (m.over g s) j (w g j s).live (far m g s) (corner_rest m (m.over g s) (m.back g s)) in
-        let sees_q = positive-is (rise m home g q) (and_parts (positive (rise m home g p)) (positive (rise m home g q)) e).1 in
+        let sees_q = holds (less_or_not (pos 0) (rise m home g q)) (and_parts (sees m home p g) (sees m home q g) e).1 in
         not_less _ _ (apex_seen m home w g j s p q (by_p g e) l far_blind sees_q k) (unseen g j s (by_p g e) l)
 
-    grows : (g : ℕ) → In g m.live → (s : Side) → c g ≡ true → positive (rise m home (m.over g s) q) ≡ true → c (m.over g s) ≡ true
+    grows : (g : ℕ) → In g m.live → (s : Side) → c g ≡ true → sees m home q (m.over g s) ≡ true → c (m.over g s) ≡ true
     grows g j s e k =
-        let kq = positive-is (rise m home (m.over g s) q) k in
+        let kq = holds (less_or_not (pos 0) (rise m home (m.over g s) q)) k in
         by_lt_z (pos 0) (rise m home (m.over g s) p) (λ kp. joined (m.over g s) kp kq) (λ kp. absurd (horizon g j s e kq kp))
 
     grown : Grown m (sees m home q) c
-    grown = record { f0 = f0; live = i0; sees_p = positive-true (rise m home f0 q) sq; has = joined f0 sp sq; grows = grows }
+    grown = record { f0 = f0; live = i0; sees_p = told (less_or_not (pos 0) (rise m home f0 q)) sq; has = joined f0 sp sq; grows = grows }
 
 module _ {m m' : Surface} {home : ℕ → Weighted} {p : ℕ} (r : Replaced m m' home p) where
   -- THEOREM: what no facet sees stays so

@@ -1,8 +1,9 @@
 -- The facets that see a point hang together: no group of them is cut off from a first one.
 use Rattle.qh_model.specs.{contract.Weighted.Weighted, contract.Weighted.above, contract.Weighted.weighted_dot, headline.Sets.In}
-use Rattle.std.proofs.Common.{◌≡◌, refl, List, [], ◌∷◌, arith, ap, sym, ◌∙◌, Bool, true, false, ◌⊎◌, inl, inr, subst}
+use Rattle.std.proofs.Common.{◌≡◌, refl, List, [], ◌∷◌, arith, ap, sym, ◌∙◌, Bool, true, false, ◌⊎◌, inl, inr, ⊎_elim, subst}
 use Rattle.std.proofs.lemmas.Int.{ints, by_lt_z}
 use Rattle.std.specs.Prelude.{ℤ, pos, ◌+ℤ◌, ◌-ℤ◌, ◌*ℤ◌, neg_ℤ, ◌≤ℤ◌, ◌<ℤ◌}
+use Rattle.qh_model.proofs.Members.{each_more}
 use Rattle.qh_model.proofs.algebra.Order.{mul-nonneg_nonpos, mul-nonpos, mul-pos, cancel-pos, mul-neg_pos, neg-positive, product_zero, positive_le, negative_le}
 use Rattle.qh_model.proofs.algebra.{Ring.ring, Ring.Expr.var, Ring.Expr.add, Ring.Expr.sub as less, Ring.Expr.mul, Ring.Expr.neg, Signs.not_less}
 use Rattle.qh_model.proofs.surfaces.{CramersRule.cramer, Determinants.above-turn, Determinants.above-flip, PlanesThroughLine.line_product}
@@ -55,20 +56,12 @@ crosses u v a b y p h k = subst (λ z. pos 0 <ℤ z) (sym product) (neg-positive
         (turned (above u v a p) (above u v b y) (above u v a y) (above u v b p) ∙ ap neg_ℤ (line_product u v a b p y))
 
 -- ---- a least element by cross products
--- m is met after g
-abbrev IsAfter : {X : Type 0} (P Q : X → ℤ) → X → X → Type 0
-IsAfter P Q m g = pos 0 <ℤ (P m *ℤ Q g -ℤ Q m *ℤ P g)
-
 -- a marked member that is met after no marked one
 pub record Least {X : Type 0} (W : X → Bool) (P Q : X → ℤ) (xs : List X) : Type 0 where
   pub m : X
   pub there : In m xs
   pub marked : W m ≡ true
   pub least : (g : X) → In g xs → W g ≡ true → pos 0 <ℤ (P m *ℤ Q g -ℤ Q m *ℤ P g) → ⊥
-
--- nothing is before itself
-same_not_less : (p q : ℤ) → pos 0 <ℤ (p *ℤ q -ℤ q *ℤ p) → ⊥
-same_not_less p q h = omega (arith, ints)
 
 -- m after x and x after g give m after g
 chain : (pm qm px qx pg qg : ℤ) → pos 0 <ℤ pm → pos 0 <ℤ px → pos 0 <ℤ pg → pos 0 <ℤ (pm *ℤ qx -ℤ qm *ℤ px)
@@ -82,11 +75,6 @@ chain pm qm px qx pg qg hm hx hg h k =
         ring (pm ∷ qm ∷ px ∷ qx ∷ pg ∷ qg ∷ []) (mul (var 2) (less (mul (var 0) (var 5)) (mul (var 1) (var 4))))
         (add (mul (var 0) (less (mul (var 2) (var 5)) (mul (var 3) (var 4)))) (mul (var 4) (less (mul (var 0) (var 3)) (mul (var 1) (var 2))))) refl
 
--- what holds of the first and of the rest holds of all
-of_all : {X : Type 0} (R : X → Type 0) (x : X) (xs : List X) → R x → ((g : X) → In g xs → R g) → (g : X) → In g (x ∷ xs) → R g
-of_all R x xs p q g (inl e) = subst R (sym e) p
-of_all R x xs p q g (inr i) = q g i
-
 -- a marked member with none before it, or no marked one
 pub least : {X : Type 0} (W : X → Bool) (P Q : X → ℤ) (xs : List X) → ((g : X) → In g xs → W g ≡ true → pos 0 <ℤ P g)
     → ((g : X) → In g xs → W g ≡ true → ⊥) ⊎ Least W P Q xs
@@ -95,16 +83,16 @@ least {X} W P Q (x ∷ xs) h = split (W x) refl (least W P Q xs (λ g i e. h g (
   where
     -- g is not marked, or m is not after it
     NotAfter : X → X → Type 0
-    NotAfter m g = W g ≡ true → IsAfter P Q m g → ⊥
+    NotAfter m g = W g ≡ true → pos 0 <ℤ (P m *ℤ Q g -ℤ Q m *ℤ P g) → ⊥
 
     kept : (l : Least W P Q xs) → NotAfter l.m x → Least W P Q (x ∷ xs)
-    kept l n = record { m = l.m; there = inr l.there; marked = l.marked; least = of_all (NotAfter l.m) x xs n l.least }
+    kept l n = record { m = l.m; there = inr l.there; marked = l.marked; least = each_more (NotAfter l.m) x xs n l.least }
 
     new : W x ≡ true → ((g : X) → In g xs → NotAfter x g) → Least W P Q (x ∷ xs)
-    new e n = record { m = x; there = inl refl; marked = e; least = of_all (NotAfter x) x xs (λ w. same_not_less (P x) (Q x)) n }
+    new e n = record { m = x; there = inl refl; marked = e; least = each_more (NotAfter x) x xs (λ w k. omega (arith, ints, k)) n }
 
     split : (b : Bool) → W x ≡ b → ((g : X) → In g xs → W g ≡ true → ⊥) ⊎ Least W P Q xs → ((g : X) → In g (x ∷ xs) → W g ≡ true → ⊥) ⊎ Least W P Q (x ∷ xs)
-    split false e (inl n) = inl (of_all (λ g. W g ≡ true → ⊥) x xs (λ w. cc) n)
+    split false e (inl n) = inl (each_more (λ g. W g ≡ true → ⊥) x xs (λ w. cc) n)
     split false e (inr l) = inr (kept l (λ w. cc))
     split true e (inl n) = inr (new e (λ g i w k. n g i w))
     split true e (inr l) =
@@ -144,18 +132,16 @@ pub record Earlier {X : Type 0} (at : X → Corners) (live : List X) (W : X → 
 
 -- the neighbour that is met before sees p as well
 sees_too : (fp gy fy gp : ℤ) → pos 0 <ℤ (fp *ℤ gy -ℤ fy *ℤ gp) → pos 0 <ℤ fp → fy <ℤ pos 0 → gy ≤ℤ pos 0 → pos 0 <ℤ gp
-sees_too fp gy fy gp h hf hy hg = by_lt_z (pos 0) gp (λ q. q) (λ q. absurd (never q))
-  where
-    never : gp ≤ℤ pos 0 → ⊥
-    never q =
-        let a = mul-nonneg_nonpos fp gy (positive_le fp hf) hg in let b = mul-nonpos fy gp (negative_le fy hy) q in
-        omega (arith, ints, h, a, b)
+sees_too fp gy fy gp h hf hy hg =
+    by_lt_z (pos 0) gp (λ q. q) (λ q. absurd (omega (arith, ints, h, mul-nonneg_nonpos fp gy (positive_le fp hf) hg, mul-nonpos fy gp (negative_le fy hy) q)))
 
 module _ {X : Type 0} (at : X → Corners) (live : List X) (W : X → Bool) (n y p : Weighted) (hp : pos 0 <ℤ weighted_dot n p)
     (hy : weighted_dot n y ≡ pos 0) where
   -- each marked facet has one that is met before
   earlier_one : (f : X) → Cut at live W n y p f → Earlier at live W y p f
-  earlier_one f c = over_one (leaves n (at f) y p c.below hp hy c.under_a c.under_b c.under_c)
+  earlier_one f c =
+      ⊎_elim (λ k. over_side (at f).a (at f).b (at f).c c.ab k) (λ t. ⊎_elim (λ k. over_side (at f).b (at f).c (at f).a c.bc k)
+      (λ k. over_side (at f).c (at f).a (at f).b c.ca k) t) (leaves n (at f) y p c.below hp hy c.under_a c.under_b c.under_c)
     where
       -- over a side beyond which p lies
       over_side : (u v t : Weighted) (o : Over at live W y p f u v t) → pos 0 <ℤ above u v p y → Earlier at live W y p f
@@ -163,16 +149,8 @@ module _ {X : Type 0} (at : X → Corners) (live : List X) (W : X → Bool) (n y
           let e : pos 0 <ℤ after (at f) (at o.g) y p = rw (o.at_f p, o.at_f y, o.at_g y, o.at_g p) (crosses u v t o.b y p o.bends k) in
           record { g = o.g; live_g = o.live_g; marked = o.joined (sees_too _ _ _ (over (at o.g) p) e c.sees c.below o.under); earlier = e }
 
-      over_one : (pos 0 <ℤ above (at f).a (at f).b p y) ⊎ (pos 0 <ℤ above (at f).b (at f).c p y) ⊎ (pos 0 <ℤ above (at f).c (at f).a p y)
-          → Earlier at live W y p f
-      over_one (inl k) = over_side (at f).a (at f).b (at f).c c.ab k
-      over_one (inr (inl k)) = over_side (at f).b (at f).c (at f).a c.bc k
-      over_one (inr (inr k)) = over_side (at f).c (at f).a (at f).b c.ca k
-
   -- nothing is marked
   pub none_cut_off : ((f : X) → In f live → W f ≡ true → Cut at live W n y p f) → (f : X) → In f live → W f ≡ true → ⊥
-  none_cut_off h = none (least W (λ f. over (at f) p) (λ f. over (at f) y) live (λ g i w. (h g i w).sees))
-    where
-      none : ((g : X) → In g live → W g ≡ true → ⊥) ⊎ Least W (λ f. over (at f) p) (λ f. over (at f) y) live → (f : X) → In f live → W f ≡ true → ⊥
-      none (inl k) = k
-      none (inr l) = λ f i w. let e = earlier_one l.m (h l.m l.there l.marked) in l.least e.g e.live_g e.marked e.earlier
+  none_cut_off h f i w =
+      ⊎_elim (λ k. k f i w) (λ l. let e = earlier_one l.m (h l.m l.there l.marked) in l.least e.g e.live_g e.marked e.earlier)
+      (least W (λ f. over (at f) p) (λ f. over (at f) y) live (λ g i w. (h g i w).sees))
