@@ -9,42 +9,24 @@ use Rattle.qh_model.specs.headline.{Combination.IsBalanced, Combination.Combinat
 use Rattle.qh_model.specs.laws.{CombinationLaws.CombinationOrSeparator, CombinationLaws.NeverBoth, Separator.Separator}
 
 -- ---- four terms
+-- four weighted members with the weight and the totals of a list
 record Four {A : Type 0} (xs : List A) (ts : List (ℕ × A)) : Type 0 where
-  a : A
-  b : A
-  c : A
-  d : A
-  has_a : In a xs
-  has_b : In b xs
-  has_c : In c xs
-  has_d : In d xs
-  w1 : ℕ
-  w2 : ℕ
-  w3 : ℕ
-  w4 : ℕ
-  weighs : weight ts ≡ w1 + w2 + w3 + w4
-  sums : (g : A → ℤ) → total g ts ≡ pos w1 *ℤ g a +ℤ pos w2 *ℤ g b +ℤ pos w3 *ℤ g c +ℤ pos w4 *ℤ g d
+  p : ℕ × A
+  q : ℕ × A
+  r : ℕ × A
+  s : ℕ × A
+  has_p : In p.1 xs
+  has_q : In q.1 xs
+  has_r : In r.1 xs
+  has_s : In s.1 xs
+  weighs : weight ts ≡ p.0 + q.0 + r.0 + s.0
+  sums : (g : A → ℤ) → total g ts ≡ pos p.0 *ℤ g p.1 +ℤ pos q.0 *ℤ g q.1 +ℤ pos r.0 *ℤ g r.1 +ℤ pos s.0 *ℤ g s.1
 
--- made of four weighted members
+-- made of them
 four_of : {A : Type 0} {xs : List A} {ts : List (ℕ × A)} (p q r s : ℕ × A) → In p.1 xs → In q.1 xs → In r.1 xs → In s.1 xs
     → weight ts ≡ p.0 + q.0 + r.0 + s.0
     → ((g : A → ℤ) → total g ts ≡ pos p.0 *ℤ g p.1 +ℤ pos q.0 *ℤ g q.1 +ℤ pos r.0 *ℤ g r.1 +ℤ pos s.0 *ℤ g s.1) → Four xs ts
-four_of p q r s has_p has_q has_r has_s weighs sums = record {
-  a = p.1;
-  b = q.1;
-  c = r.1;
-  d = s.1;
-  has_a = has_p;
-  has_b = has_q;
-  has_c = has_r;
-  has_d = has_s;
-  w1 = p.0;
-  w2 = q.0;
-  w3 = r.0;
-  w4 = s.0;
-  weighs = weighs;
-  sums = sums;
-}
+four_of p q r s a b c d e f = record { p = p; q = q; r = r; s = s; has_p = a; has_q = b; has_r = c; has_s = d; weighs = e; sums = f }
 
 -- at most four terms are four, with weights 0 for those that lack
 four : {A : Type 0} (xs : List A) (ts : List (ℕ × A)) → Among xs ts → count ts ≤ 4 → 0 < weight ts → Four xs ts
@@ -70,18 +52,18 @@ total_from d g P e (t ∷ ts) =
 -- balanced differences are a convex combination
 combination_of : (at : ℕ → Vector) (ids : List ℕ) (p : Vector) → Balanced ℕ 3 (toward at p) ids → Combination at (Members ids) p
 combination_of at ids p m = record {
-  a = q.a;
-  b = q.b;
-  c = q.c;
-  d = q.d;
-  has_a = q.has_a;
-  has_b = q.has_b;
-  has_c = q.has_c;
-  has_d = q.has_d;
-  w1 = q.w1;
-  w2 = q.w2;
-  w3 = q.w3;
-  w4 = q.w4;
+  a = q.p.1;
+  b = q.q.1;
+  c = q.r.1;
+  d = q.s.1;
+  has_a = q.has_p;
+  has_b = q.has_q;
+  has_c = q.has_r;
+  has_d = q.has_s;
+  w1 = q.p.0;
+  w2 = q.q.0;
+  w3 = q.r.0;
+  w4 = q.s.0;
   some_weight = omega (arith, q.weighs, m.heavy);
   x = along (pos 1, (pos 0, (pos 0, tt))) p.x (λ i. (at i).x) (λ i. omega (arith, ints));
   y = along (pos 0, (pos 1, (pos 0, tt))) p.y (λ i. (at i).y) (λ i. omega (arith, ints));
@@ -91,7 +73,8 @@ combination_of at ids p m = record {
     q : Four ids m.terms
     q = four ids m.terms m.among m.few m.heavy
 
-    along : (u : V 3) (P : ℤ) (g : ℕ → ℤ) → ((i : ℕ) → vdot 3 u (toward at p i) ≡ g i -ℤ P) → IsBalanced q.w1 q.w2 q.w3 q.w4 P (g q.a) (g q.b) (g q.c) (g q.d)
+    along : (u : V 3) (P : ℤ) (g : ℕ → ℤ) → ((i : ℕ) → vdot 3 u (toward at p i) ≡ g i -ℤ P)
+        → IsBalanced q.p.0 q.q.0 q.r.0 q.s.0 P (g q.p.1) (g q.q.1) (g q.r.1) (g q.s.1)
     along u P g e = ap (λ t. pos t *ℤ P) (sym q.weighs) ∙ (omega (arith, ints, total_from (λ i. vdot 3 u (toward at p i)) g P e m.terms, m.sums u)) ∙ q.sums g
 
 -- a negative scalar product of the difference is an order of scalar products

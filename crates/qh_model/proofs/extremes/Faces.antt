@@ -1,5 +1,5 @@
 -- Faces and dimensions of sets and of their extremes.
-use Rattle.std.proofs.Common.{◌≡◌, ◌≢◌, ℕ, arith, sym, ◌∙◌, ◌⊎◌, inl, inr, List}
+use Rattle.std.proofs.Common.{◌≡◌, ◌≢◌, ℕ, arith, sym, ◌∙◌, ◌⊎◌, inl, inr, ⊎_elim, List}
 use Rattle.std.proofs.lemmas.Int.{ints, by_lt_z}
 use Rattle.std.specs.Prelude.{ℤ, pos, ◌+ℤ◌, ◌*ℤ◌, ◌<ℤ◌}
 use Rattle.qh_model.proofs.algebra.{Integers.ring_rules, Order.le_less, Order.zero_or_not, VectorIdentities.vol-linear}
@@ -32,30 +32,19 @@ on_plane d e c h k = omega (arith, ints)
 pub face_combination : (at : ℕ → Vector) (A : ℕ → Type 0) (xs : List ℕ) → Listed A xs → (i j k : ℕ) → Supports at A i j k
     → (p : Vector) → vol (at i) (at j) (at k) p ≡ pos 0 → Combination at A p → Combination at (OnPlane at A i j k) p
 face_combination at A xs listed i j k supports p on mixed =
-    let (ys, q) = listed_part A (λ t. vol a b c (at t) ≡ pos 0) (λ t. zero_or_not (vol a b c (at t))) xs listed in
-    by_cases (alternative_in at (OnPlane at A i j k) ys q p)
+    let (ys, q) = listed_part A (λ t. vol (at i) (at j) (at k) (at t) ≡ pos 0) (λ t. zero_or_not (vol (at i) (at j) (at k) (at t))) xs listed in
+    ⊎_elim (λ m. m) (λ w. absurd (no_combination_by 2 (pair n w.w) (blend n w.w) (blend_is n w.w) at A p
+    (λ t h. lower w t h (zero_or_not (vol (at i) (at j) (at k) (at t)))) mixed)) (alternative_in at (OnPlane at A i j k) ys q p)
   where
-    a : Vector
-    a = at i
-
-    b : Vector
-    b = at j
-
-    c : Vector
-    c = at k
-
     n : Vector
-    n = cross a b c
+    n = cross (at i) (at j) (at k)
 
     lower : (w : Separator at (OnPlane at A i j k) p) → (t : ℕ) → A t
-        → (vol a b c (at t) ≡ pos 0) ⊎ (¬ (vol a b c (at t) ≡ pos 0)) → Less 2 (pair n w.w (at t)) (pair n w.w p)
-    lower w t h (inl e) = inr (on_plane _ _ _ (sym e ∙ vol-linear a b c (at t)) (sym on ∙ vol-linear a b c p), inl (w.past t (h, e)))
-    lower w t h (inr off) = inl (omega (arith, ints, vol-linear a b c (at t), le_less _ _ (supports t h) off, sym on ∙ vol-linear a b c p))
-
-    by_cases : Combination at (OnPlane at A i j k) p ⊎ Separator at (OnPlane at A i j k) p → Combination at (OnPlane at A i j k) p
-    by_cases (inl q) = q
-    by_cases (inr w) =
-        absurd (no_combination_by 2 (pair n w.w) (blend n w.w) (blend_is n w.w) at A p (λ t h. lower w t h (zero_or_not (vol a b c (at t)))) mixed)
+        → (vol (at i) (at j) (at k) (at t) ≡ pos 0) ⊎ (¬ (vol (at i) (at j) (at k) (at t) ≡ pos 0)) → Less 2 (pair n w.w (at t)) (pair n w.w p)
+    lower w t h (inl e) =
+        inr (on_plane _ _ _ (sym e ∙ vol-linear (at i) (at j) (at k) (at t)) (sym on ∙ vol-linear (at i) (at j) (at k) p), inl (w.past t (h, e)))
+    lower w t h (inr off) =
+        inl (omega (arith, ints, vol-linear (at i) (at j) (at k) (at t), le_less _ _ (supports t h) off, sym on ∙ vol-linear (at i) (at j) (at k) p))
 
 -- an extreme of a face is extreme
 face_up : (at : ℕ → Vector) (ids : List ℕ) (i j k : ℕ) → Supports at (Members ids) i j k

@@ -40,18 +40,10 @@ either_way at A i j k s u v w hu hv hw z n (inr h) = spanned at A i j k s u w v 
 -- the law
 pub planes_of_extremes : PlanesOfExtremes
 planes_of_extremes at ids d i j k t =
-    let (ys, q) = listed_part (Members ids) (λ l. vol a b c (at l) ≡ pos 0) (λ l. zero_or_not (vol a b c (at l))) ids (listed_itself ids) in
+    let (ys, q) = listed_part (Members ids) (λ l. vol (at i) (at j) (at k) (at l) ≡ pos 0)
+    (λ l. zero_or_not (vol (at i) (at j) (at k) (at l))) ids (listed_itself ids) in
     done (triangle_of at F (Extreme at F) (λ l f. combination_of_extremes at F ys q (λ x y fx fy e. d x y fx.0 fy.0 e) l f) own)
   where
-    a : Vector
-    a = at i
-
-    b : Vector
-    b = at j
-
-    c : Vector
-    c = at k
-
     F : ℕ → Type 0
     F = OnPlane at (Members ids) i j k
 
@@ -60,16 +52,17 @@ planes_of_extremes at ids d i j k t =
       i = i;
       j = j;
       k = k;
-      has_i = (t.has_i, vol-first a b c);
-      has_j = (t.has_j, vol-second a b c);
-      has_k = (t.has_k, vol-third a b c);
+      has_i = (t.has_i, vol-first (at i) (at j) (at k));
+      has_j = (t.has_j, vol-second (at i) (at j) (at k));
+      has_k = (t.has_k, vol-third (at i) (at j) (at k));
       area = t.area;
     }
 
     done : HasTriangle at (Extreme at F) → SpannedByExtremes at (Members ids) i j k
     done h = either_way at (Members ids) i j k t.supports h.i h.j h.k (up h.i h.has_i) (up h.j h.has_j) (up h.k h.has_k) h.has_i.0.1 h.area
-        (normal_along (cross a b c) (at h.i) (at h.j) (at h.k) t.area h.area (from_plane a b c (at h.i) (at h.j) h.has_i.0.1 ∙ h.has_j.0.1)
-        (from_plane a b c (at h.i) (at h.k) h.has_i.0.1 ∙ h.has_k.0.1))
+        (normal_along (cross (at i) (at j) (at k)) (at h.i) (at h.j) (at h.k) t.area h.area
+        (from_plane (at i) (at j) (at k) (at h.i) (at h.j) h.has_i.0.1 ∙ h.has_j.0.1)
+        (from_plane (at i) (at j) (at k) (at h.i) (at h.k) h.has_i.0.1 ∙ h.has_k.0.1))
       where
         up : (l : ℕ) → Extreme at F l → Extreme at (Members ids) l
         up l e = ((extremes_of_face at ids i j k t.supports l).0 e).0

@@ -2,6 +2,7 @@
 use Rattle.std.proofs.Common.{◌≡◌, ◌≢◌, ℕ, arith, refl, sym, ap, subst, ◌∙◌, ◌⊎◌, inl, inr, List}
 use Rattle.std.proofs.lemmas.Int.{ints, by_lt_z}
 use native.Mathlib.Decide.{ℕ_discrete}
+use mathlib.Core.Logic.{dite}
 use Rattle.std.specs.Prelude.{ℤ, pos, ◌*ℤ◌, ◌≤ℤ◌, ◌<ℤ◌}
 use Rattle.qh_model.specs.{contract.IdSets.HasDistinctPoints, headline.Extreme.Extreme, headline.Polygon.Follows}
 use Rattle.qh_model.specs.headline.{Polygons.IsFacePolygon, Predicates.cross, Predicates.vol, Predicates.left, Predicates.AreInLine, Sets.Members}
@@ -10,7 +11,7 @@ use Rattle.qh_model.specs.laws.FaceLaws.{SpannedByExtremes}
 use Rattle.qh_model.proofs.algebra.Order.{mul-nonneg, mul-nonneg_nonpos, mul-pos_neg, mul-neg_neg, cancel-nonpos, zero_or_not, positive_le}
 use Rattle.qh_model.proofs.algebra.VectorIdentities.{opposite, dot-opposite, vol-first, vol-second, vol-third, left-linear, in_line-left, in_line-twice}
 use Rattle.qh_model.proofs.{algebra.VectorIdentities.in_line-last, combinations.Alternatives.all_lower}
-use Rattle.qh_model.proofs.extremes.{Directions.square-positive, Directions.in_line-flip, ExtremeIds.Listed, ExtremeIds.listed_itself, ExtremeIds.listed_part}
+use Rattle.qh_model.proofs.extremes.{Directions.square-positive, Directions.in_line-flip, ExtremeIds.listed_itself, ExtremeIds.listed_part}
 use Rattle.qh_model.proofs.extremes.{ExtremeIds.combination_of_extremes, Faces.extremes_of_face, SpanningTriples.planes_of_extremes}
 use Rattle.qh_model.proofs.polygons.{Neighbours.follows_members, PlaneTurns.level_volume}
 
@@ -74,27 +75,27 @@ module _ (at : ℕ → Vector) (ids : List ℕ) (d : HasDistinctPoints at (Membe
 
   -- there is a third
   pub third : Third at (Members ids) i j k u v
-  third = from_spanned (planes_of_extremes at ids d i j k way.triple)
+  third = record { w = f.0; member = on f.0 f.1; not_u = f.2; not_v = f.3; turns = to_left f.0 (on f.0 f.1) f.2 f.3 }
     where
-      from_spanned : SpannedByExtremes at (Members ids) i j k → Third at (Members ids) i j k u v
-      from_spanned s = from_witness (other_of_three s.u s.v s.w u v xy yz xz)
-        where
-          xy : s.u ≢ s.v
-          xy e = s.area (subst (λ t. AreInLine (at s.u) (at t) (at s.w)) e (in_line-twice (at s.u) (at s.w)))
+      s : SpannedByExtremes at (Members ids) i j k
+      s = planes_of_extremes at ids d i j k way.triple
 
-          yz : s.v ≢ s.w
-          yz e = s.area (subst (λ t. AreInLine (at s.u) (at s.v) (at t)) e (in_line-last (at s.u) (at s.v)))
+      xy : s.u ≢ s.v
+      xy e = s.area (subst (λ t. AreInLine (at s.u) (at t) (at s.w)) e (in_line-twice (at s.u) (at s.w)))
 
-          xz : s.u ≢ s.w
-          xz e = s.area (subst (λ t. AreInLine (at s.u) (at s.v) (at t)) e (in_line-flip (at s.u) (at s.v) (at s.u) (in_line-twice (at s.u) (at s.v))))
+      yz : s.v ≢ s.w
+      yz e = s.area (subst (λ t. AreInLine (at s.u) (at s.v) (at t)) e (in_line-last (at s.u) (at s.v)))
 
-          on : (w : ℕ) → (w ≡ s.u) ⊎ (w ≡ s.v) ⊎ (w ≡ s.w) → OnPlane at (Extreme at (Members ids)) i j k w
-          on w (inl e) = subst (OnPlane at (Extreme at (Members ids)) i j k) (sym e) (s.has_u, (s.same s.u).1 (vol-first (at s.u) (at s.v) (at s.w)))
-          on w (inr (inl e)) = subst (OnPlane at (Extreme at (Members ids)) i j k) (sym e) (s.has_v, (s.same s.v).1 (vol-second (at s.u) (at s.v) (at s.w)))
-          on w (inr (inr e)) = subst (OnPlane at (Extreme at (Members ids)) i j k) (sym e) (s.has_w, (s.same s.w).1 (vol-third (at s.u) (at s.v) (at s.w)))
+      xz : s.u ≢ s.w
+      xz e = s.area (subst (λ t. AreInLine (at s.u) (at s.v) (at t)) e (in_line-flip (at s.u) (at s.v) (at s.u) (in_line-twice (at s.u) (at s.v))))
 
-          from_witness : (w : ℕ) × ((w ≡ s.u) ⊎ (w ≡ s.v) ⊎ (w ≡ s.w)) × (w ≢ u) × (w ≢ v) → Third at (Members ids) i j k u v
-          from_witness f = record { w = f.0; member = on f.0 f.1; not_u = f.2; not_v = f.3; turns = to_left f.0 (on f.0 f.1) f.2 f.3 }
+      on : (w : ℕ) → (w ≡ s.u) ⊎ (w ≡ s.v) ⊎ (w ≡ s.w) → OnPlane at (Extreme at (Members ids)) i j k w
+      on w (inl e) = subst (OnPlane at (Extreme at (Members ids)) i j k) (sym e) (s.has_u, (s.same s.u).1 (vol-first (at s.u) (at s.v) (at s.w)))
+      on w (inr (inl e)) = subst (OnPlane at (Extreme at (Members ids)) i j k) (sym e) (s.has_v, (s.same s.v).1 (vol-second (at s.u) (at s.v) (at s.w)))
+      on w (inr (inr e)) = subst (OnPlane at (Extreme at (Members ids)) i j k) (sym e) (s.has_w, (s.same s.w).1 (vol-third (at s.u) (at s.v) (at s.w)))
+
+      f : (w : ℕ) × ((w ≡ s.u) ⊎ (w ≡ s.v) ⊎ (w ≡ s.w)) × (w ≢ u) × (w ≢ v)
+      f = other_of_three s.u s.v s.w u v xy yz xz
 
   -- the square of the normal
   pub square : pos 0 <ℤ dot n n
@@ -107,8 +108,12 @@ module _ (at : ℕ → Vector) (ids : List ℕ) (d : HasDistinctPoints at (Membe
 
   -- no member of the plane lies to the right
   pub not_right : (l : ℕ) → OnPlane at (Members ids) i j k l → pos 0 ≤ℤ left n (at u) (at v) (at l)
-  not_right l h = from_witness (listed_part (Members ids) (λ x. vol (at i) (at j) (at k) (at x) ≡ pos 0)
-      (λ x. zero_or_not (vol (at i) (at j) (at k) (at x))) ids (listed_itself ids))
+  not_right l h =
+      let (ys, s) = listed_part (Members ids) (λ x. vol (at i) (at j) (at k) (at x) ≡ pos 0)
+      (λ x. zero_or_not (vol (at i) (at j) (at k) (at x))) ids (listed_itself ids) in
+      let m = combination_of_extremes at F ys s (λ x y fx fy e. d x y fx.0 fy.0 e) l h in
+      by_lt_z (left n (at u) (at v) (at l)) (pos 0) (λ r. absurd (all_lower at (Extreme at F) (at l) (opposite c) m
+      (lower m.a m.has_a r) (lower m.b m.has_b r) (lower m.c m.has_c r) (lower m.d m.has_d r))) (λ r. r)
     where
       F : ℕ → Type 0
       F = OnPlane at (Members ids) i j k
@@ -117,14 +122,10 @@ module _ (at : ℕ → Vector) (ids : List ℕ) (d : HasDistinctPoints at (Membe
       c = cross_product n (minus (at v) (at u))
 
       extreme : (x : ℕ) → OnPlane at (Extreme at (Members ids)) i j k x → pos 0 ≤ℤ left n (at u) (at v) (at x)
-      extreme x e = test (ℕ_discrete x u) (ℕ_discrete x v)
-        where
-          test : Dec (x ≡ u) → Dec (x ≡ v) → pos 0 ≤ℤ left n (at u) (at v) (at x)
-          test (yes p) b =
-              let line = in_line-flip (at u) (at v) (at u) (in_line-twice (at u) (at v)) in
-              omega (arith, ints, ap (λ t. left n (at u) (at v) (at t)) p ∙ in_line-left n (at u) (at v) (at u) line)
-          test (no a) (yes p) = omega (arith, ints, ap (λ t. left n (at u) (at v) (at t)) p ∙ in_line-left n (at u) (at v) (at v) (in_line-last (at u) (at v)))
-          test (no a) (no b) = positive_le _ (to_left x e a b)
+      extreme x e = dite (ℕ_discrete x u) (λ p. let line = in_line-flip (at u) (at v) (at u) (in_line-twice (at u) (at v)) in
+          omega (arith, ints, ap (λ t. left n (at u) (at v) (at t)) p ∙ in_line-left n (at u) (at v) (at u) line)) (λ a. dite (ℕ_discrete x v)
+          (λ p. omega (arith, ints, ap (λ t. left n (at u) (at v) (at t)) p ∙ in_line-left n (at u) (at v) (at v) (in_line-last (at u) (at v))))
+          (λ b. positive_le _ (to_left x e a b)))
 
       -- along the opposite of c all extremes are lower than what lies to the right
       lower : (x : ℕ) → Extreme at F x → left n (at u) (at v) (at l) <ℤ pos 0 → dot (opposite c) (at x) <ℤ dot (opposite c) (at l)
@@ -136,9 +137,3 @@ module _ (at : ℕ → Vector) (ids : List ℕ) (d : HasDistinctPoints at (Membe
         r,
         extreme x ((extremes_of_face at ids i j k way.triple.supports x).0 e),
       ))
-
-      from_witness : (ys : List ℕ) × Listed F ys → pos 0 ≤ℤ left n (at u) (at v) (at l)
-      from_witness (ys, s) =
-          let m = combination_of_extremes at F ys s (λ x y fx fy e. d x y fx.0 fy.0 e) l h in
-          by_lt_z (left n (at u) (at v) (at l)) (pos 0) (λ r. absurd (all_lower at (Extreme at F) (at l) (opposite c) m
-          (lower m.a m.has_a r) (lower m.b m.has_b r) (lower m.c m.has_c r) (lower m.d m.has_d r))) (λ r. r)

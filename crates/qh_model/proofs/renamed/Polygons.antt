@@ -28,29 +28,15 @@ module _ {at at' : ℕ → Vector} {A B : ℕ → Type 0} {f g : ℕ → ℕ} (r
       of : (i : ℕ) → In i q → A i
       of i = (p.members i).0
 
+      place : (i k : ℕ) → k ≡ f i → A i → at i ≡ at' k
+      place i k e a = sym (ap at' e ∙ r.point i a)
+
       turns : (u v : ℕ) → Follows u v (map f q) → TurnsLeft at' m (map f q) u v
-      turns u v h w i not_u not_v = subst (λ z. pos 0 <ℤ z) (λ z. left (same z) (place_u z) (place_v z) (place_w z)) turned
-        where
-          old : (a : ℕ) × (b : ℕ) × Follows a b q × (u ≡ f a) × (v ≡ f b)
-          old = of_follows_map f u v q h
-
-          last : (c : ℕ) × In c q × (w ≡ f c)
-          last = of_map f q w i
-
-          ends : In old.0 q × In old.1 q
-          ends = follows_members old.0 old.1 q old.2
-
-          place_u : at old.0 ≡ at' u
-          place_u = sym (ap at' old.3 ∙ r.point old.0 (of old.0 ends.0))
-
-          place_v : at old.1 ≡ at' v
-          place_v = sym (ap at' old.4 ∙ r.point old.1 (of old.1 ends.1))
-
-          place_w : at last.0 ≡ at' w
-          place_w = sym (ap at' last.2 ∙ r.point last.0 (of last.0 last.1))
-
-          turned : pos 0 <ℤ left n (at old.0) (at old.1) (at last.0)
-          turned = p.round old.0 old.1 old.2 last.0 last.1 (λ t. not_u (last.2 ∙ ap f t ∙ sym old.3)) (λ t. not_v (last.2 ∙ ap f t ∙ sym old.4))
+      turns u v h w i not_u not_v =
+          let (a, b, follows, is_a, is_b) = of_follows_map f u v q h in let (c, has, is_c) = of_map f q w i in
+          let ends = follows_members a b q follows in
+          subst (λ z. pos 0 <ℤ z) (λ z. left (same z) (place a u is_a (of a ends.0) z) (place b v is_b (of b ends.1) z) (place c w is_c (of c has) z))
+          (p.round a b follows c has (λ t. not_u (is_c ∙ ap f t ∙ sym is_a)) (λ t. not_v (is_c ∙ ap f t ∙ sym is_b)))
 
   -- a supporting triple by its names
   triple_renamed : (i j k : ℕ) → IsSupportingTriple at A i j k → IsSupportingTriple at' B (f i) (f j) (f k)

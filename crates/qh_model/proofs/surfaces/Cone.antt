@@ -1,11 +1,11 @@
 -- A surface whose facets that see an id are replaced by its cone over the horizon.
 use Rattle.qh_model.specs.contract.SoundSurface.{IsInner, IsStrictWhenPerturbed, IsSound, IsStrict, perturbed, towards}
+use Rattle.qh_model.specs.contract.BoardMachine.{put}
 use Rattle.qh_model.specs.contract.Surface.{IsCorner, Side, Surface, IsWhole, end, rise, start}
 use Rattle.qh_model.specs.{contract.Weighted.Weighted, headline.Sets.In, steps.FarCorners.far}
 use Rattle.std.proofs.Common.{◌≡◌, ◌≢◌, ℕ, ◌+◌, ◌≤◌, refl, arith, ap, sym, ◌∙◌, subst, ◌⊎◌, inl, inr, ⊎_elim}
-use native.Mathlib.Decide.{ℕ_discrete}
 use Rattle.std.specs.Prelude.{pos, ◌≤ℤ◌, ◌<ℤ◌}
-use Rattle.qh_model.proofs.{algebra.Signs.not_less, algebra.Signs.equal_negative, surfaces.ConePlanes.Old}
+use Rattle.qh_model.proofs.{algebra.Signs.not_less, algebra.Signs.equal_negative, board.Updates.put_here, board.Updates.put_else, surfaces.ConePlanes.Old}
 use Rattle.qh_model.proofs.surfaces.{ConePlanes.apex_rise, ConePlanes.apex_inner, ConePlanes.corner_below_cone, Connected.cert, Facets.corner_start}
 use Rattle.qh_model.proofs.surfaces.{Facets.corner_end, Facets.corner_rest, Facets.side_rise, PerturbedInwards.Choice, PerturbedInwards.choose}
 
@@ -71,31 +71,19 @@ old_or_apex {m} {m'} {home} {p} r f' l i c = from (r.origin f' i) c
     from (inr n) (inr (inr e)) = inr (e ∙ n.k_is)
 
 -- ---- the shares
-share_of : (k s : ℕ) {P : Type 0} → Dec P → ℕ
-share_of k s (yes e) = k
-share_of k s (no e) = s
-
 -- the shares, with that of the new corner
 pub with_share : (h : ℕ → ℕ) (p k : ℕ) → ℕ → ℕ
-with_share h p k l = share_of k (h l) (ℕ_discrete l p)
+with_share h p k = put h p k
 
 -- the new corner's share
 share_p : (h : ℕ → ℕ) (p k : ℕ) → with_share h p k p ≡ k
-unfolding with_share share_of
-share_p h p k = own (ℕ_discrete p p)
-  where
-    own : (d : Dec (p ≡ p)) → share_of k (h p) d ≡ k
-    own (yes e) = refl
-    own (no n) = absurd (n refl)
+unfolding with_share
+share_p h p k = put_here h p k
 
 -- the others keep theirs
 share_other : (h : ℕ → ℕ) (p k l : ℕ) → l ≢ p → with_share h p k l ≡ h l
-unfolding with_share share_of
-share_other h p k l a = other (ℕ_discrete l p)
-  where
-    other : (d : Dec (l ≡ p)) → share_of k (h l) d ≡ h l
-    other (yes e) = absurd (a e)
-    other (no n) = refl
+unfolding with_share
+share_other h p k = put_else h p k
 
 -- ---- what is kept
 module _ {m m' : Surface} {home : ℕ → Weighted} {o : Weighted} {p : ℕ} (w : IsWhole m) (q : IsSound m home o)
