@@ -1,13 +1,13 @@
 -- Points to the left of all sides of a closed cycle: they are not extreme, so what is left without them has the polygon.
-use Rattle.std.proofs.Common.{◌≡◌, ◌≢◌, ℕ, List, [], ◌∷◌, arith, ap, sym, subst, ◌∙◌, refl, inl, inr, ⊎_elim, Bool, true, false}
-use Rattle.std.proofs.lemmas.{Bool.cases_Bool, Int.ints, Int.by_lt_z}
+use Rattle.std.proofs.Common.{◌≡◌, ◌≢◌, ℕ, List, [], ◌∷◌, arith, ap, sym, subst, ◌∙◌, refl, inl, inr, ⊎_elim, Bool, true}
+use Rattle.std.proofs.lemmas.{Bool.false_from_ne_true, Bool.and_parts, Int.ints, Int.by_lt_z}
 use Rattle.std.specs.List.Sorted.{IsStrictlyIncreasing}
-use Rattle.std.specs.Prelude.{ℤ, pos, ◌+ℤ◌, ◌*ℤ◌, ◌≤ℤ◌, ◌<ℤ◌, ◌&&◌, not, filter}
+use Rattle.std.specs.Prelude.{ℤ, pos, ◌+ℤ◌, ◌*ℤ◌, ◌≤ℤ◌, ◌<ℤ◌, not, filter}
 use Rattle.qh_model.proofs.algebra.{Order.mul-pos_neg, Order.mul-nonpos, Order.negative_le, Signs.less_differ, VectorIdentities.dot-minus}
 use Rattle.qh_model.proofs.{algebra.VectorIdentities.left-turn, extremes.Dimensions.triangle_of}
 use Rattle.qh_model.proofs.extremes.ExtremeIds.{members_are_combinations, combination_within, alternative_in, listed_itself}
 use Rattle.qh_model.proofs.{hulls.ExtremeParts.part_set, hulls.SameSets.extremes_of_part, lists.Filters.in_filter}
-use Rattle.qh_model.specs.headline.{Combination.Combination, Dimension.HasTriangle, Extreme.Extreme, Extreme.Others, Polygon.IsPolygon, Predicates.place}
+use Rattle.qh_model.specs.headline.{Dimension.HasTriangle, Extreme.Extreme, Extreme.Others, Polygon.IsPolygon, Predicates.place}
 use Rattle.qh_model.specs.headline.{Predicates.left, Sets.In, Sets.Members, Vector.Vector, Vector.dot}
 use Rattle.qh_model.specs.laws.Separator.{Separator}
 use Rattle.qh_polygon.proofs.PlaneDirections.{bracket, bracket-fan}
@@ -23,15 +23,7 @@ not_beyond tv tu uv a b c e htu huv htv ha hb hc =
     let x : pos 0 ≤ℤ (tv *ℤ b) = mul-nonpos tv b htv (negative_le b hb) in
     let y : (tu *ℤ c) <ℤ pos 0 = mul-pos_neg tu c htu hc in
     let z : (uv *ℤ a) <ℤ pos 0 = mul-pos_neg uv a huv ha in
-    against (tv *ℤ b) (tu *ℤ c) (uv *ℤ a) e x y z
-  where
-    against : (x y z : ℤ) → x ≡ y +ℤ z → pos 0 ≤ℤ x → y <ℤ pos 0 → z <ℤ pos 0 → ⊥
-    against x y z e h k l = omega (arith, ints)
-
--- what holds of both holds of each
-both : (b c : Bool) → (b && c) ≡ true → (b ≡ true) × (c ≡ true)
-both true c e = (refl, e)
-both false c e = cc
+    omega (arith, ints)
 
 module _ (n : Vector) (at : ℕ → Vector) (A : ℕ → Type 0) (flat : IsFlat n at A) (p : ℕ) (e : Extreme at A p) where
   -- the turn from u over v to p
@@ -56,7 +48,9 @@ module _ (n : Vector) (at : ℕ → Vector) (A : ℕ → Type 0) (flat : IsFlat 
 
   -- an extreme id is in no triangle of others
   no_triangle : (t u v : ℕ) → A t → A u → A v → pos 0 <ℤ to_left t u → pos 0 <ℤ to_left u v → to_left t v ≤ℤ pos 0 → ⊥
-  no_triangle t u v it iu iv tu uv tv = ⊎_elim combined separated (alternative_in at (Members corners) corners (listed_itself corners) (at p))
+  no_triangle t u v it iu iv tu uv tv =
+      ⊎_elim (λ c. e.1 (combination_within at (Members corners) (Others A p) (at p) c other)) separated
+      (alternative_in at (Members corners) corners (listed_itself corners) (at p))
     where
       corners : List ℕ
       corners = t ∷ u ∷ v ∷ []
@@ -66,9 +60,6 @@ module _ (n : Vector) (at : ℕ → Vector) (A : ℕ → Type 0) (flat : IsFlat 
       other j (inr (inl q)) = subst (Others A p) (sym q) (iu, begins_apart u v uv)
       other j (inr (inr (inl q))) = subst (Others A p) (sym q) (iv, ends_apart u v uv)
       other j (inr (inr (inr q))) = absurd q
-
-      combined : Combination at (Members corners) (at p) → ⊥
-      combined c = e.1 (combination_within at (Members corners) (Others A p) (at p) c other)
 
       separated : Separator at (Members corners) (at p) → ⊥
       separated s =
@@ -88,7 +79,7 @@ module _ (n : Vector) (at : ℕ → Vector) (A : ℕ → Type 0) (flat : IsFlat 
       → pos 0 <ℤ to_left t u → is_left_along turn p u r t ≡ true → ⊥
   no_way turn told t u [] it iu ir tu h = omega (arith, ints, left-swap n (at t) (at u) (at p), tu, told u t iu it h)
   no_way turn told t u (v ∷ r) it iu ir tu h =
-      let b = both _ _ h in let iv = ir v (inl refl) in
+      let b = and_parts _ _ h in let iv = ir v (inl refl) in
       by_lt_z (pos 0) (to_left t v) (λ tv. no_way turn told t v r it iv (λ x m. ir x (inr m)) tv b.1)
       (λ tv. no_triangle t u v it iu iv tu (told u v iu iv b.0) tv)
 
@@ -98,7 +89,7 @@ module _ (n : Vector) (at : ℕ → Vector) (A : ℕ → Type 0) (flat : IsFlat 
   not_inside turn told (t ∷ []) all h =
       let tp = told t t (all t (inl refl)) (all t (inl refl)) h in omega (arith, ints, left-swap n (at t) (at t) (at p), tp, tp)
   not_inside turn told (t ∷ u ∷ r) all h =
-      let b = both _ _ h in let it = all t (inl refl) in let iu = all u (inr (inl refl)) in
+      let b = and_parts _ _ h in let it = all t (inl refl) in let iu = all u (inr (inl refl)) in
       no_way turn told t u r it iu (λ x m. all x (inr (inr m))) (told t u it iu b.0) b.1
 
 -- ---- what a cycle of a planar set leaves
@@ -109,16 +100,14 @@ module _ (pts : List Vector) (ids cycle : List ℕ) (n : Vector) (h : IsPlanarSe
 
   -- an extreme id passes
   passes : (i : ℕ) → Extreme (place pts) (Members ids) i → outside i ≡ true
-  passes i e = ⊎_elim (λ q. absurd (inner q)) (λ q. ap not q) (cases_Bool (is_inside (turn_of pts n) cycle i))
+  passes i e = ap not (false_from_ne_true (is_inside (turn_of pts n) cycle i)
+      (not_inside n (place pts) (Members ids) flat i e (turn_of pts n) told cycle within))
     where
       flat : IsFlat n (place pts) (Members ids)
       flat = flat_of pts ids n h
 
       told : (u v : ℕ) → In u ids → In v ids → is_left (turn_of pts n u v i) ≡ true → pos 0 <ℤ left n (place pts u) (place pts v) (place pts i)
       told u v iu iv q = is_left-yes _ (sym (turns_agree pts n (Members ids) flat u v i iu iv e.0) ∙ q)
-
-      inner : is_inside (turn_of pts n) cycle i ≡ true → ⊥
-      inner q = not_inside n (place pts) (Members ids) flat i e (turn_of pts n) told cycle within q
 
   -- so it is left
   pub extreme_left : (i : ℕ) → Extreme (place pts) (Members ids) i → In i (filter outside ids)

@@ -53,11 +53,7 @@ pub fan_sign : (ac hb ab hc bc ha : ℤ) → ac *ℤ hb ≡ ab *ℤ hc +ℤ bc *
 fan_sign ac hb ab hc bc ha e p q r h k =
     let x : pos 0 ≤ℤ (ab *ℤ hc) = mul-nonneg ab hc h (omega (arith, ints)) in
     let y : pos 0 ≤ℤ (bc *ℤ ha) = mul-nonneg bc ha k (omega (arith, ints)) in
-    let z : pos 0 ≤ℤ (hb *ℤ ac) = rw (mul_comm hb ac, e) (sum (ab *ℤ hc) (bc *ℤ ha) x y) in
-    cancel-nonneg hb ac q z
-  where
-    sum : (x y : ℤ) → pos 0 ≤ℤ x → pos 0 ≤ℤ y → pos 0 ≤ℤ (x +ℤ y)
-    sum x y h k = omega (arith, ints)
+    cancel-nonneg hb ac q (rw (mul_comm hb ac, e) (omega (arith, ints)))
 
 -- the same, strictly where the first turn is
 pub fan_sign_left : (ac hb ab hc bc ha : ℤ) → ac *ℤ hb ≡ ab *ℤ hc +ℤ bc *ℤ ha → pos 0 <ℤ ha → pos 0 <ℤ hb → pos 0 <ℤ hc
@@ -65,8 +61,4 @@ pub fan_sign_left : (ac hb ab hc bc ha : ℤ) → ac *ℤ hb ≡ ab *ℤ hc +ℤ
 fan_sign_left ac hb ab hc bc ha e p q r h k =
     let x : pos 0 <ℤ (ab *ℤ hc) = mul-pos ab hc h r in
     let y : pos 0 ≤ℤ (bc *ℤ ha) = mul-nonneg bc ha k (omega (arith, ints)) in
-    let z : pos 0 <ℤ (hb *ℤ ac) = rw (mul_comm hb ac, e) (sum (ab *ℤ hc) (bc *ℤ ha) x y) in
-    cancel-pos hb ac q z
-  where
-    sum : (x y : ℤ) → pos 0 <ℤ x → pos 0 ≤ℤ y → pos 0 <ℤ (x +ℤ y)
-    sum x y h k = omega (arith, ints)
+    cancel-pos hb ac q (rw (mul_comm hb ac, e) (omega (arith, ints)))

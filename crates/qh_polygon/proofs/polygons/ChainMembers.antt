@@ -3,7 +3,7 @@ use Rattle.std.proofs.Common.{◌≡◌, ℕ, refl, List, [], ◌∷◌, arith, 
 use Rattle.std.proofs.lemmas.Int.{ints, by_lt_z}
 use Rattle.std.specs.Prelude.{ℤ, pos, ◌≤ℤ◌, ◌<ℤ◌}
 use Rattle.qh_model.specs.headline.Sets.{In, Once}
-use Rattle.qh_model.proofs.algebra.{Order.le_antisym, Signs.not_less}
+use Rattle.qh_model.proofs.algebra.{Order.le_antisym, Signs.less_differ, Signs.not_less}
 use Rattle.qh_polygon.proofs.polygons.{Cycles.bottom, TurnLaws.HasOnLeft, TurnLaws.IsChain, TurnLaws.chain_top}
 
 -- ---- what a stack says of its members
@@ -51,18 +51,12 @@ module _ (turn : ℕ → ℕ → ℕ → ℤ) (key : ℕ → ℤ) (A : ℕ → T
   pub chain-below : (t : ℕ) (s : List ℕ) → IsChain turn key A t s → (v : ℕ) → In v s → key v <ℤ key t
   chain-below t [] g v i = absurd i
   chain-below t (r ∷ s) g v (inl e) = subst (λ x. key x <ℤ key t) (sym e) g.1
-  chain-below t (r ∷ s) g v (inr i) = less_less (key v) (key r) (key t) (chain-below r s g.4 v i) g.1
-    where
-      less_less : (a b c : ℤ) → a <ℤ b → b <ℤ c → a <ℤ c
-      less_less a b c h k = omega (arith, ints)
+  chain-below t (r ∷ s) g v (inr i) = let l = chain-below r s g.4 v i in let k = g.1 in omega (arith, ints)
 
   -- each stands once
   pub chain-once : (t : ℕ) (s : List ℕ) → IsChain turn key A t s → Once (t ∷ s)
   chain-once t [] g = (λ i. i, tt)
-  chain-once t (r ∷ s) g = (λ i. self (key t) (chain-below t (r ∷ s) g t i), chain-once r s g.4)
-    where
-      self : (a : ℤ) → a <ℤ a → ⊥
-      self a h = omega (arith, ints)
+  chain-once t (r ∷ s) g = (λ i. less_differ _ _ (chain-below t (r ∷ s) g t i) refl, chain-once r s g.4)
 
   -- the last is least
   pub chain-bottom : (t : ℕ) (s : List ℕ) → IsChain turn key A t s → A (bottom t s) × Least (bottom t s)

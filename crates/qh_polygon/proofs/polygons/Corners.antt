@@ -29,18 +29,12 @@ corner_eq n q r t x =
 -- nonnegative terms, not both zero
 beats_sign : (wx wr f g : ℤ) → wr -ℤ wx ≡ f +ℤ g → pos 0 ≤ℤ f → pos 0 ≤ℤ g → ((f ≡ pos 0) → (g ≡ pos 0) → ⊥) → wx <ℤ wr
 beats_sign wx wr f g e p q h =
-    by_lt_z (pos 0) f (λ k. one wx wr f g e k q) (λ k. by_lt_z (pos 0) g (λ l. omega (arith, ints))
+    by_lt_z (pos 0) f (λ k. omega (arith, ints)) (λ k. by_lt_z (pos 0) g (λ l. omega (arith, ints))
     (λ l. absurd (h (le_antisym f (pos 0) k p) (le_antisym g (pos 0) l q))))
-  where
-    one : (wx wr f g : ℤ) → wr -ℤ wx ≡ f +ℤ g → pos 0 <ℤ f → pos 0 ≤ℤ g → wx <ℤ wr
-    one wx wr f g e p q = omega (arith, ints)
 
 -- with both turns zero, x is no other point
 apart : (ac hb ab hc bc ha : ℤ) → ac *ℤ hb ≡ ab *ℤ hc +ℤ bc *ℤ ha → ac ≡ pos 0 → bc ≡ pos 0 → pos 0 <ℤ ab → hc ≡ pos 0
-apart ac hb ab hc bc ha e p q h = cancel-zero ab hc h (none (ab *ℤ hc) hb ha (rw (p, q) at e))
-  where
-    none : (x hb ha : ℤ) → pos 0 *ℤ hb ≡ x +ℤ pos 0 *ℤ ha → x ≡ pos 0
-    none x hb ha e = omega (arith, ints)
+apart ac hb ab hc bc ha e p q h = cancel-zero ab hc h (let f = rw (p, q) at e in omega (arith, ints, f))
 
 -- an inner corner of a chain
 pub inner : (n h : Vector) (at : ℕ → Vector) (A : ℕ → Type 0) → IsFlat n at A → IsKeyed h at A → (q r t : ℕ) → A q → A r → A t
@@ -65,10 +59,8 @@ greatest_corner h at A keyed m am le =
 
 -- a corner is extreme
 pub corner_extreme : (at : ℕ → Vector) (A : ℕ → Type 0) (m : ℕ) → Corner at A m → Extreme at A m
-corner_extreme at A m c = (c.member, λ x. all_lower at (Others A m) (at m) c.w x (past x.a x.has_a) (past x.b x.has_b) (past x.c x.has_c) (past x.d x.has_d))
-  where
-    past : (j : ℕ) → Others A m j → dot c.w (at j) <ℤ dot c.w (at m)
-    past j o = c.beats j o.0 o.1
+corner_extreme at A m c = let past : (j : ℕ) → Others A m j → dot c.w (at j) <ℤ dot c.w (at m) = (λ j o. c.beats j o.0 o.1) in
+    (c.member, λ x. all_lower at (Others A m) (at m) c.w x (past x.a x.has_a) (past x.b x.has_b) (past x.c x.has_c) (past x.d x.has_d))
 
 -- ---- what is beyond two ends of an edge
 -- two directions of a plane, by their heights along h and w
@@ -117,10 +109,7 @@ lined : (n h : Vector) (at : ℕ → Vector) (A : ℕ → Type 0) → IsFlat n a
     → height_of h at u <ℤ height_of h at m → height_of h at m <ℤ height_of h at v → turn_about n at u v m ≡ pos 0 → ⊥
 lined n h at A flat u v m au av c nu nv um mv z =
     core n h c.w at A flat u v m au av c.member um mv (c.beats u au nu) (c.beats v av nv)
-    (subst (λ t. (t *ℤ dot (cross_product h c.w) n) ≤ℤ pos 0) (sym z) (none (dot (cross_product h c.w) n)))
-  where
-    none : (x : ℤ) → (pos 0 *ℤ x) ≤ℤ pos 0
-    none x = omega (arith, ints)
+    (subst (λ t. (t *ℤ dot (cross_product h c.w) n) ≤ℤ pos 0) (sym z) (omega (arith, ints)))
 
 module _ (n h : Vector) (at : ℕ → Vector) (A : ℕ → Type 0) (flat : IsFlat n at A) (keyed : IsKeyed h at A) where
   -- a turn that is zero, with its ends exchanged

@@ -1,11 +1,11 @@
 -- The list that goes round the extremes, from a rising list and its turn.
-use Rattle.std.proofs.Common.{◌≡◌, ℕ, List, [], ◌∷◌, ◌++◌, arith, ap, sym, subst, inl, inr, ⊎_elim}
+use Rattle.std.proofs.Common.{ℕ, List, [], ◌∷◌, ◌++◌, arith, ap, sym, subst, inl, inr, ⊎_elim}
 use Rattle.std.proofs.lemmas.Int.{ints}
-use Rattle.std.specs.Prelude.{ℤ, ◌≤ℤ◌, ◌<ℤ◌, ◌↔◌}
+use Rattle.std.specs.Prelude.{◌≤ℤ◌, ◌<ℤ◌, ◌↔◌}
 use Rattle.qh_model.specs.headline.{Extreme.Extreme, Polygon.TurnsLeft, Sets.In, Sets.Once, Vector.Vector}
 use Rattle.qh_model.proofs.{algebra.VectorIdentities.opposite, lists.Joined.in_append, lists.Joined.of_append, lists.Joined.once_append}
 use Rattle.qh_model.proofs.polygons.Cycles.{AroundCycle, cycle_map}
-use Rattle.qh_polygon.proofs.polygons.Chain.{Passed, passed-before, passed-in, in-passed, IsChained, chain-good}
+use Rattle.qh_polygon.proofs.polygons.Chain.{IsChained, chain-good}
 use Rattle.qh_polygon.proofs.polygons.{Cycles.cycle-rotate, TurnLaws.RisesBy, TurnLaws.IsChain}
 use Rattle.qh_polygon.proofs.polygons.Turns.{IsFlat, IsKeyed, turn_about, height_of, turn_laws}
 use Rattle.qh_polygon.proofs.polygons.TwoChains.{keyed_opposite, Chains, ring_members, ring_once, ring_round}
@@ -17,42 +17,6 @@ pub record GoesRound (n : Vector) (at : ℕ → Vector) (A : ℕ → Type 0) (q 
   pub once : Once q
   pub round : AroundCycle (TurnsLeft at n q) q
 
--- a chain over a set is one over the same set told otherwise
-chain_same : (turn : ℕ → ℕ → ℕ → ℤ) (key : ℕ → ℤ) (D E : ℕ → Type 0) → ((x : ℕ) → D x → E x) → ((x : ℕ) → E x → D x)
-    → (t : ℕ) (s : List ℕ) → IsChain turn key D t s → IsChain turn key E t s
-chain_same turn key D E f g t [] k = (f t k.0, λ x e. k.1 x (g x e))
-chain_same turn key D E f g t (r ∷ s) k = (f t k.0, k.1, λ x e. k.2 x (g x e), k.3, chain_same turn key D E f g r s k.4)
-
--- a chain over the members of A
-record Half (n h : Vector) (at : ℕ → Vector) (A : ℕ → Type 0) (c : List ℕ) : Type 0 where
-  top : ℕ
-  rest : List ℕ
-  is : c ≡ top ∷ rest
-  good : IsChain (turn_about n at) (height_of h at) A top rest
-  greatest : (x : ℕ) → A x → height_of h at x ≤ℤ height_of h at top
-
--- the chain of a rising list of the members
-half_of : (n h : Vector) (at : ℕ → Vector) (A : ℕ → Type 0) → IsFlat n at A → IsKeyed h at A → (x₀ : ℕ) (xs : List ℕ)
-    → ((x : ℕ) → In x (x₀ ∷ xs) ↔ A x) → RisesBy (height_of h at) x₀ xs
-    → Half n h at A (chain (turn_about n at) [] (x₀ ∷ xs))
-half_of n h at A flat keyed x₀ xs l r =
-    record {
-      top = c.top;
-      rest = c.rest;
-      is = c.is;
-      good = chain_same (turn_about n at) (height_of h at) (Passed (λ x. x ≡ x₀) xs) A into from c.top c.rest c.good;
-      greatest = λ x a. c.greatest x (from x a);
-    }
-  where
-    c : IsChained (turn_about n at) (height_of h at) (Passed (λ x. x ≡ x₀) xs) (chain (turn_about n at) [] (x₀ ∷ xs))
-    c = chain-good (turn_about n at) (height_of h at) A (turn_laws n h at A flat keyed) x₀ xs (λ x i. (l x).0 i) r
-
-    into : (x : ℕ) → Passed (λ x. x ≡ x₀) xs x → A x
-    into x p = (l x).0 (⊎_elim (λ i. inr i) (λ e. inl e) (in-passed (λ x. x ≡ x₀) xs x p))
-
-    from : (x : ℕ) → A x → Passed (λ x. x ≡ x₀) xs x
-    from x a = ⊎_elim (λ e. passed-before (λ x. x ≡ x₀) xs x e) (λ i. passed-in (λ x. x ≡ x₀) xs x i) ((l x).1 a)
-
 -- the two chains close
 closes : (n h : Vector) (at : ℕ → Vector) (A : ℕ → Type 0) → IsFlat n at A → IsKeyed h at A → (p q : ℕ) → A p → A q
     → height_of h at p <ℤ height_of h at q → height_of (opposite h) at q <ℤ height_of (opposite h) at p
@@ -63,8 +27,7 @@ closes : (n h : Vector) (at : ℕ → Vector) (A : ℕ → Type 0) → IsFlat n 
 closes n h at A flat keyed p q ap aq l l' m [] z r g k g' k' = absurd (omega (arith, ints, g.1 p ap, k q aq))
 closes n h at A flat keyed p q ap aq l l' m (a ∷ s) z [] g k g' k' = absurd (omega (arith, ints, l', g'.1 q aq, k' p ap))
 closes n h at A flat keyed p q ap aq l l' m (a ∷ s) z (b ∷ r) g k g' k' =
-    let c : Chains n h at A m (a ∷ s) z (b ∷ r) =
-    record { flat = flat; keyed = keyed; lower = g; upper = g'; last = k; first = k'; p = p; q = q; is_p = ap; is_q = aq; apart = l } in
+    let c : Chains n h at A m (a ∷ s) z (b ∷ r) = record { flat = flat; keyed = keyed; lower = g; upper = g'; last = k; first = k' } in
     record { members = ring_members n h at A m a s z b r c; once = ring_once n h at A m a s z b r c; round = ring_round n h at A m a s z b r c }
 
 -- a rising list, and one that rises the other way round, over the same members
@@ -78,11 +41,11 @@ goes_round n h at A flat keyed p q ap aq l l' x₀ xs y₀ ys i j r r' =
     (subst (λ v. GoesRound n at A (joined (lo.top ∷ lo.rest) v)) (sym up.is)
     (closes n h at A flat keyed p q ap aq l l' lo.top lo.rest up.top up.rest lo.good lo.greatest up.good up.greatest))
   where
-    lo : Half n h at A (chain (turn_about n at) [] (x₀ ∷ xs))
-    lo = half_of n h at A flat keyed x₀ xs i r
+    lo : IsChained (turn_about n at) (height_of h at) A (chain (turn_about n at) [] (x₀ ∷ xs))
+    lo = chain-good (turn_about n at) (height_of h at) A (turn_laws n h at A flat keyed) x₀ xs i r
 
-    up : Half n (opposite h) at A (chain (turn_about n at) [] (y₀ ∷ ys))
-    up = half_of n (opposite h) at A flat (keyed_opposite h at A keyed) y₀ ys j r'
+    up : IsChained (turn_about n at) (height_of (opposite h) at) A (chain (turn_about n at) [] (y₀ ∷ ys))
+    up = chain-good (turn_about n at) (height_of (opposite h) at) A (turn_laws n (opposite h) at A flat (keyed_opposite h at A keyed)) y₀ ys j r'
 
 -- a turned list has the same members
 pub in-rotate : (xs ys : List ℕ) (x : ℕ) → In x (xs ++ ys) → In x (ys ++ xs)

@@ -1,34 +1,26 @@
 -- A cycle that is turned to its least begins with its least.
-use Rattle.std.proofs.Common.{◌≡◌, ℕ, suc, ◌<◌, ◌≤◌, List, [], ◌∷◌, ◌++◌, length, get_or, take, drop, arith, ap, sym, subst, inr, drop-cons, length-append}
-use Rattle.std.proofs.{Common.length-drop, Common.length-take, lemmas.List.take-append-drop}
+use Rattle.std.proofs.Common.{◌≡◌, ℕ, zero, suc, ◌<◌, ◌≤◌, List, [], ◌∷◌, ◌++◌, length, get_or, take, drop, arith, sym, subst, inr, drop-cons}
+use Rattle.std.proofs.{lemmas.List.take-append-drop}
 use Rattle.qh_model.specs.headline.{Extreme.Extreme, Polygon.IsPolygon, Polygon.TurnsLeft, Sets.In, Sets.BeginsWithLeast, Vector.Vector}
 use Rattle.qh_model.proofs.{Members.in_at, polygons.Cycles.round_holds}
 use Rattle.qh_polygon.proofs.polygons.GoesRound.{GoesRound, goes_round-rotate, in-rotate}
 
--- the empty list begins with its least
-empty : (xs : List ℕ) → length xs ≡ 0 → BeginsWithLeast xs
-empty [] e = tt
-empty (x ∷ xs) e = absurd (omega arith)
-
 -- the least stands at m
 pub least_first : (xs : List ℕ) (m : ℕ) → (0 < length xs → m < length xs)
     → ((k : ℕ) → k < length xs → get_or xs m 0 ≤ get_or xs k 0) → BeginsWithLeast (drop m xs ++ take m xs)
-least_first [] m p h = empty (drop m [] ++ take m []) (simp (length-append, length-drop, length-take) (omega arith))
-least_first (x ∷ xs) m p h = subst BeginsWithLeast (sym first) (λ v i. all v (subst (In v) (sym first) (inr i)))
-  where
-    first : drop m (x ∷ xs) ++ take m (x ∷ xs) ≡ get_or (x ∷ xs) m 0 ∷ (drop (suc m) (x ∷ xs) ++ take m (x ∷ xs))
-    first = ap (λ t. t ++ take m (x ∷ xs)) (drop-cons (x ∷ xs) m 0 (p (omega arith)))
-
-    all : (v : ℕ) → In v (drop m (x ∷ xs) ++ take m (x ∷ xs)) → get_or (x ∷ xs) m 0 ≤ v
-    all v i = let r = in_at (x ∷ xs) v
-        (subst (In v) (take-append-drop m (x ∷ xs)) (in-rotate (drop m (x ∷ xs)) (take m (x ∷ xs)) v i)) in
-        subst (λ t. get_or (x ∷ xs) m 0 ≤ t) r.2 (h r.0 r.1)
+least_first [] zero p h = tt
+least_first [] (suc m) p h = tt
+least_first (x ∷ xs) m p h = let first = drop-cons (x ∷ xs) m 0 (p (omega arith)) in
+    rw first (λ v i. let r = in_at (x ∷ xs) v
+    (subst (In v) (take-append-drop m (x ∷ xs)) (in-rotate (drop m (x ∷ xs)) (take m (x ∷ xs)) v (rw first (inr i)))) in
+    subst (λ t. get_or (x ∷ xs) m 0 ≤ t) r.2 (h r.0 r.1))
 
 -- what goes round the extremes is their polygon once it is turned to its least, which stands at m
 pub polygon_of : (n : Vector) (at : ℕ → Vector) (A : ℕ → Type 0) (xs : List ℕ) (m : ℕ) (turned : List ℕ) → GoesRound n at A xs
     → (0 < length xs → m < length xs) → ((k : ℕ) → k < length xs → get_or xs m 0 ≤ get_or xs k 0)
     → turned ≡ drop m xs ++ take m xs → IsPolygon at (Extreme at A) n turned
 polygon_of n at A xs m turned r p h e =
+    let round = goes_round-rotate n at A (take m xs) (drop m xs) (subst (GoesRound n at A) (sym (take-append-drop m xs)) r) in
     subst (IsPolygon at (Extreme at A) n) (sym e)
     (record {
       members = round.members;
@@ -36,6 +28,3 @@ polygon_of n at A xs m turned r p h e =
       round = round_holds (TurnsLeft at n (drop m xs ++ take m xs)) (drop m xs ++ take m xs) round.round;
       least = least_first xs m p h;
     })
-  where
-    round : GoesRound n at A (drop m xs ++ take m xs)
-    round = goes_round-rotate n at A (take m xs) (drop m xs) (subst (GoesRound n at A) (sym (take-append-drop m xs)) r)

@@ -53,16 +53,15 @@ module _ (n : Vector) (at : ℕ → Vector) (A : ℕ → Type 0) (q : List ℕ) 
 pub cycle_polygon : (n : Vector) (at : ℕ → Vector) (A : ℕ → Type 0) (u : ℕ) (r : List ℕ) → ((x : ℕ) → A x ↔ In x (u ∷ r))
     → HasThird (u ∷ r) → Once (u ∷ r) → BeginsWithLeast (u ∷ r) → AroundCycle (TurnsLeft at n (u ∷ r)) (u ∷ r)
     → IsPolygon at (Extreme at A) n (u ∷ r)
-cycle_polygon n at A u r l third once least h = record {
-  members = λ x. (λ i. corner_extreme at A x (corner x i), λ e. (l x).0 e.0);
-  once = once;
-  round = round_holds (TurnsLeft at n (u ∷ r)) (u ∷ r) h;
-  least = least;
-}
-  where
-    corner : (x : ℕ) → In x (u ∷ r) → Corner at A x
-    corner = let p = last_way (TurnsLeft at n (u ∷ r)) u r u h in
-        corners_along n at A (u ∷ r) l third p.0 u r u (λ x i. (l x).1 i) p.1 h
+cycle_polygon n at A u r l third once least h =
+    let p = last_way (TurnsLeft at n (u ∷ r)) u r u h in
+    let corner = corners_along n at A (u ∷ r) l third p.0 u r u (λ x i. (l x).1 i) p.1 h in
+    record {
+      members = λ x. (λ i. corner_extreme at A x (corner x i), λ e. (l x).0 e.0);
+      once = once;
+      round = round_holds (TurnsLeft at n (u ∷ r)) (u ∷ r) h;
+      least = least;
+    }
 
 -- a way from u to v, where all others are the one before u and the one after v
 pub side_of : (n : Vector) (at : ℕ → Vector) (q : List ℕ) (p u v s : ℕ) → ((x : ℕ) → In x q → x ≢ u → x ≢ v → (x ≡ p) ⊎ (x ≡ s))

@@ -26,24 +26,15 @@ unfolding place_code
 place_code-height p h =
     height p.x p.y p.z (biased p.x) (biased p.y) (biased p.z) (omega (arith, ints, h.x)) (omega (arith, ints, h.y)) (omega (arith, ints, h.z))
 
--- equal heights, equal numbers
-same_height : (a b : ℕ) (x y c : ℤ) → pos a ≡ x +ℤ c → pos b ≡ y +ℤ c → x ≡ y → a ≡ b
-same_height a b x y c e f h = omega (arith, ints)
-
--- lower numbers, lower heights
-less_height : (a b : ℕ) (x y c : ℤ) → pos a ≡ x +ℤ c → pos b ≡ y +ℤ c → a < b → x <ℤ y
-less_height a b x y c e f h = omega (arith, ints)
-
 -- a place of a lower number is lower
 pub place_code-less : (p q : Vector) → IsPlace p → IsPlace q → place_code p < place_code q → dot order p <ℤ dot order q
-place_code-less p q h k l = less_height (place_code p) (place_code q) _ _ _ (place_code-height p h) (place_code-height q k) l
+place_code-less p q h k l = let a = place_code-height p h in let b = place_code-height q k in omega (arith, ints, a, b, l)
 
 -- ids of distinct points have different heights
 pub keyed_of : (pts : List Vector) (ids : List ℕ) → All (HasKey pts) ids → HasDistinctPoints (place pts) (λ x. In x ids)
     → IsKeyed order (place pts) (λ x. In x ids)
 keyed_of pts ids k d = record {
   same = λ i j mi mj e.
-      let ki = All-In (HasKey pts) ids i k mi in
-      let kj = All-In (HasKey pts) ids j k mj in
-      d i j mi mj (place_code-same _ _ ki.place_in kj.place_in (same_height _ _ _ _ _ (place_code-height _ ki.place_in) (place_code-height _ kj.place_in) e));
+      let p = (All-In (HasKey pts) ids i k mi).place_in in let q = (All-In (HasKey pts) ids j k mj).place_in in
+      let a = place_code-height _ p in let b = place_code-height _ q in d i j mi mj (place_code-same _ _ p q (omega (arith, ints, a, b, e)));
 }

@@ -1,5 +1,5 @@
 -- Ids in one plane: they are flat across their normal, and three of them, so at least two, are not in line.
-use Rattle.std.proofs.Common.{◌≡◌, ◌≢◌, ℕ, ◌<◌, List, [], ◌∷◌, length, arith, ap, sym, ◌∙◌, refl, ◌⊎◌, inl, inr, ⊎_elim}
+use Rattle.std.proofs.Common.{◌≡◌, ◌≢◌, ℕ, ◌<◌, List, [], ◌∷◌, length, arith, ap, sym, ◌∙◌, refl, inl, inr, ⊎_elim}
 use Rattle.std.proofs.lemmas.Int.{ints}
 use Rattle.std.specs.Prelude.{pos, neg_ℤ}
 use Rattle.qh_model.proofs.algebra.{Ring.ring, Ring.Expr.con, Ring.Expr.sub as less, Ring.Expr.neg, Signs.opposite_zero}
@@ -37,20 +37,18 @@ module _ (pts : List Vector) (ids : List ℕ) (n : Vector) (p : IsPlanarSet pts 
 
   -- the way from i to a member is across the normal
   across : (l : ℕ) → In l ids → dot n (minus (place pts l) (place pts p.i)) ≡ pos 0
-  across l m = ⊎_elim (λ e. ap (λ v. dot v (minus (place pts l) (place pts p.i))) e ∙ zero_c)
-      (λ e. ap (λ v. dot v (minus (place pts l) (place pts p.i))) e ∙ opposite_zero _ _ (negated c (minus (place pts l) (place pts p.i))) zero_c) p.normal
-    where
-      zero_c : dot c (minus (place pts l) (place pts p.i)) ≡ pos 0
-      zero_c = sym (vol-dot (place pts p.i) (place pts p.j) (place pts p.k) (place pts l)) ∙ p.plane l m
+  across l m =
+      let v = minus (place pts l) (place pts p.i) in
+      let zero_c : dot c v ≡ pos 0 = sym (vol-dot (place pts p.i) (place pts p.j) (place pts p.k) (place pts l)) ∙ p.plane l m in
+      ⊎_elim (λ e. ap (λ u. dot u v) e ∙ zero_c) (λ e. ap (λ u. dot u v) e ∙ opposite_zero _ _ (negated c v) zero_c) p.normal
 
   -- the normal is not zero
   some : n ≢ origin
-  some h = by_cases p.normal
-    where
-      by_cases : (n ≡ c) ⊎ (n ≡ minus origin c) → ⊥
-      by_cases (inl e) = p.area (sym e ∙ h)
-      by_cases (inr e) = let o : minus origin c ≡ origin = sym e ∙ h in
-          p.area (vector_path c origin (omega (arith, ints, ap (λ v. v.x) o)) (omega (arith, ints, ap (λ v. v.y) o)) (omega (arith, ints, ap (λ v. v.z) o)))
+  some h = elim p.normal [
+    | inl e ↦ p.area (sym e ∙ h)
+    | inr e ↦ (let o : minus origin c ≡ origin = sym e ∙ h in
+        p.area (vector_path c origin (omega (arith, ints, ap (λ v. v.x) o)) (omega (arith, ints, ap (λ v. v.y) o)) (omega (arith, ints, ap (λ v. v.z) o))))
+  ]
 
   -- the ids are flat across the normal
   pub flat_of : IsFlat n (place pts) (λ x. In x ids)

@@ -58,11 +58,8 @@ round_keys : (pts : List Vector) (ids keys : List ℕ) (n : Vector) → Every (I
     → All (HasKey pts) ids → HasDistinctPoints (place pts) (λ x. In x ids) → IsFlat n (place pts) (λ x. In x ids)
     → GoesRound n (place pts) (λ x. In x ids) (joined (chain (turn_about n (place pts)) [] (ids_in keys))
     (chain (turn_about n (place pts)) [] (reverse (ids_in keys))))
-round_keys pts ids [] n t r l m k d flat = absurd (omega arith)
-round_keys pts ids (a ∷ []) n t r l m k d flat = absurd (omega arith)
 round_keys pts ids (a ∷ b ∷ ks) n t r l m k d flat =
     let up = rises_of pts ids a (b ∷ ks) d t r in
-    let R : List ℕ = ids_in (a ∷ b ∷ ks) in
     subst (λ v. GoesRound n (place pts) (λ x. In x ids)
     (joined (chain (turn_about n (place pts)) [] (ids_in (a ∷ b ∷ ks))) (chain (turn_about n (place pts)) [] v)))
     (sym (reverse-turned_onto (ids_in (a ∷ b ∷ ks))))
@@ -72,6 +69,7 @@ round_keys pts ids (a ∷ b ∷ ks) n t r l m k d flat =
       λ i. in-turned_onto (ids_in (a ∷ b ∷ ks)) [] x (inl ((m x).1 i)),
     ))
     up (falls_back order (place pts) (a % ROOM) (ids_in (b ∷ ks)) [] up tt))
+round_keys pts ids keys n t r l m k d flat = absurd (omega arith)
 
 -- the polygon, before it is turned to its least id
 pub round_sorted : (pts : List Vector) (ids sorted : List ℕ) (n : Vector) → AreByPlace pts ids sorted
@@ -79,6 +77,7 @@ pub round_sorted : (pts : List Vector) (ids sorted : List ℕ) (n : Vector) → 
     → 1 < length ids → IsFlat n (place pts) (λ x. In x ids)
     → GoesRound n (place pts) (λ x. In x ids) (joined (chain (turn_of pts n) [] sorted) (chain (turn_of pts n) [] (reverse sorted)))
 round_sorted pts ids sorted n b k r d l flat =
+    let long : 1 < length b.keys = (let e = length_permutation (map (key_at pts) ids) b.keys b.same in let f = length-map ids (key_at pts) in omega arith) in
     subst (GoesRound n (place pts) (λ x. In x ids)) (joined-same pts n (λ x. In x ids) sorted flat (sorted-only pts ids sorted b k))
     (subst (λ v. GoesRound n (place pts) (λ x. In x ids)
     (joined (chain (turn_about n (place pts)) [] v) (chain (turn_about n (place pts)) [] (reverse v)))) (sym b.is)
@@ -87,9 +86,6 @@ round_sorted pts ids sorted n b k r d l flat =
       λ i. sorted-only pts ids sorted b k x (subst (λ v. In x v) (sym b.is) i),
       λ i. subst (λ v. In x v) b.is (sorted-all pts ids sorted b k x i),
     )) k d flat))
-  where
-    long : 1 < length b.keys
-    long = let e = length_permutation (map (key_at pts) ids) b.keys b.same in let f = length-map ids (key_at pts) in omega arith
 
 -- each sorted id is an index
 pub sorted_indices : (pts : List Vector) (ids sorted : List ℕ) → AreByPlace pts ids sorted → All (HasKey pts) ids

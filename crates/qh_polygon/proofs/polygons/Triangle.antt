@@ -1,7 +1,7 @@
 -- The polygon of three points that are not in line.
-use Rattle.std.proofs.Common.{◌≡◌, ◌≢◌, ℕ, ◌<◌, List, [], ◌∷◌, arith, ap, sym, subst, ◌∙◌, inl, inr, Bool, true, false, cond, refl, length, get_or}
+use Rattle.std.proofs.Common.{◌≡◌, ◌≢◌, ℕ, ◌<◌, List, [], ◌∷◌, arith, ap, sym, subst, ◌∙◌, inl, inr, true, false, cond, refl, length, get_or}
 use Rattle.std.proofs.{Math.Nat.ne_of_lt, lemmas.Grind.common_steps, lemmas.Int.ints}
-use Rattle.std.specs.Prelude.{ℤ, pos, neg_ℤ, ◌*ℤ◌, ◌≤ℤ◌, ◌<ℤ◌, ◌↔◌}
+use Rattle.std.specs.Prelude.{ℤ, pos, ◌*ℤ◌, ◌<ℤ◌, ◌↔◌}
 use Rattle.qh_model.proofs.algebra.{Integers.zero_mul, Order.cancel-zero, Order.le_less}
 use Rattle.qh_model.proofs.algebra.VectorIdentities.{vector_path, left-dot, left-turn, left-flip, in_line-twice, in_line-last, dot_comm}
 use Rattle.qh_model.proofs.extremes.Directions.{Parallel, parallel_normal, in_line-flip, square-positive}
@@ -16,6 +16,7 @@ use Rattle.qh_polygon.specs.{contract.PlanarSets.IsPlanarSet, steps.Chains.is_le
 pub left_triangle : (n : Vector) (at : ℕ → Vector) (A : ℕ → Type 0) (a b c : ℕ) → ((x : ℕ) → A x ↔ In x (a ∷ b ∷ c ∷ []))
     → a < b → a < c → b ≢ c → pos 0 <ℤ left n (at a) (at b) (at c) → IsPolygon at (Extreme at A) n (a ∷ b ∷ c ∷ [])
 left_triangle n at A a b c l ab ac bc h =
+    let hb = subst (λ t. pos 0 <ℤ t) (left-turn n (at a) (at b) (at c)) h in let hc = subst (λ t. pos 0 <ℤ t) (left-turn n (at b) (at c) (at a)) hb in
     cycle_polygon n at A a (b ∷ c ∷ []) l (third_of a b c [] (ne_of_lt ab) (ne_of_lt ac) bc)
     (grind (arith, common_steps, ab, ac, bc)) (λ v i. grind (arith, common_steps, i, ab, ac)) (
       side_of n at (a ∷ b ∷ c ∷ []) c a b c (λ x i u v. grind (arith, common_steps, i, u, v)) hc h,
@@ -24,18 +25,8 @@ left_triangle n at A a b c l ab ac bc h =
         side_of n at (a ∷ b ∷ c ∷ []) b c a b (λ x i u v. grind (arith, common_steps, i, u, v)) hb hc,
       ),
     )
-  where
-    hb : pos 0 <ℤ left n (at b) (at c) (at a)
-    hb = subst (λ t. pos 0 <ℤ t) (left-turn n (at a) (at b) (at c)) h
-
-    hc : pos 0 <ℤ left n (at c) (at a) (at b)
-    hc = subst (λ t. pos 0 <ℤ t) (left-turn n (at b) (at c) (at a)) hb
 
 -- ---- three ids of a planar set turn one way or the other
--- a point twice is in line with any other
-in_line-back : (a b : Vector) → AreInLine a b a
-in_line-back a b = in_line-flip a b a (in_line-twice a b)
-
 -- no turn about the normal of the plane: the three are in line
 turn_zero : (n a b c : Vector) → pos 0 <ℤ dot n n → dot n (minus b a) ≡ pos 0 → dot n (minus c a) ≡ pos 0 → left n a b c ≡ pos 0 → AreInLine a b c
 turn_zero n a b c s p q z =
@@ -66,51 +57,35 @@ module _ (pts : List Vector) (n : Vector) (i j k : ℕ) (h : IsPlanarSet pts (i 
           (λ e. ne_of_lt ij (h.set.distinct i j (inl refl) (inr (inl refl)) (same_point (place pts i) (place pts j) e)))
 
       each : (x : ℕ) → In x (i ∷ j ∷ k ∷ []) → AreInLine (place pts i) (place pts j) (place pts x)
-      each x (inl e) = subst (λ t. AreInLine (place pts i) (place pts j) (place pts t)) (sym e) (in_line-back (place pts i) (place pts j))
+      each x (inl e) = subst (λ t. AreInLine (place pts i) (place pts j) (place pts t)) (sym e)
+          (in_line-flip (place pts i) (place pts j) (place pts i) (in_line-twice (place pts i) (place pts j)))
       each x (inr (inl e)) = subst (λ t. AreInLine (place pts i) (place pts j) (place pts t)) (sym e) (in_line-last (place pts i) (place pts j))
       each x (inr (inr (inl e))) = subst (λ t. AreInLine (place pts i) (place pts j) (place pts t)) (sym e) line
       each x (inr (inr (inr m))) = absurd m
 
   -- so one order of them is their polygon
   pub triangle_polygon : IsPolygon (place pts) (Extreme (place pts) (Members (i ∷ j ∷ k ∷ []))) n (triangle (turn_of pts n) i j k)
-  triangle_polygon = by_side (is_left (turn_of pts n i j k))
-      (sym (turns_agree pts n (λ x. In x (i ∷ j ∷ k ∷ [])) flat i j k (inl refl) (inr (inl refl)) (inr (inr (inl refl)))))
-    where
-      ik : i < k
-      ik = omega arith
-
-      turned : (x y : ℤ) → x ≡ neg_ℤ y → y ≤ℤ pos 0 → (y ≡ pos 0 → ⊥) → pos 0 <ℤ x
-      turned x y e l ne = flipped x y e (le_less y (pos 0) l ne)
-        where
-          flipped : (x y : ℤ) → x ≡ neg_ℤ y → y <ℤ pos 0 → pos 0 <ℤ x
-          flipped x y e l = omega (arith, ints)
-
-      by_side : (b : Bool) → is_left (left n (place pts i) (place pts j) (place pts k)) ≡ b
-          → IsPolygon (place pts) (Extreme (place pts) (Members (i ∷ j ∷ k ∷ []))) n (cond b (i ∷ j ∷ k ∷ []) (i ∷ k ∷ j ∷ []))
-      by_side true e = left_triangle n (place pts) (Members (i ∷ j ∷ k ∷ [])) i j k (λ x. (λ m. m, λ m. m)) ij ik (ne_of_lt jk) (is_left-yes _ e)
-      by_side false e = left_triangle n (place pts) (Members (i ∷ j ∷ k ∷ [])) i k j
-          (λ x. (λ m. grind (arith, m), λ m. grind (arith, m))) ik ij (λ q. ne_of_lt jk (sym q))
-          (turned _ _ (left-flip n (place pts i) (place pts k) (place pts j)) (is_left-no _ e) turns)
+  triangle_polygon =
+      let ik : i < k = omega arith in let at = place pts in
+      elim (is_left (turn_of pts n i j k)) as (λ b. is_left (left n (at i) (at j) (at k)) ≡ b
+      → IsPolygon at (Extreme at (Members (i ∷ j ∷ k ∷ []))) n (cond b (i ∷ j ∷ k ∷ []) (i ∷ k ∷ j ∷ []))) [
+        | true ↦ λ e. left_triangle n at (Members (i ∷ j ∷ k ∷ [])) i j k (λ x. (λ m. m, λ m. m)) ij ik (ne_of_lt jk) (is_left-yes _ e)
+        | false ↦ λ e. left_triangle n at (Members (i ∷ j ∷ k ∷ [])) i k j
+            (λ x. (λ m. grind (arith, m), λ m. grind (arith, m))) ik ij (λ q. ne_of_lt jk (sym q))
+            (let l = le_less _ _ (is_left-no _ e) turns in omega (arith, ints, left-flip n (at i) (at k) (at j), l))
+      ] (sym (turns_agree pts n (λ x. In x (i ∷ j ∷ k ∷ [])) flat i j k (inl refl) (inr (inl refl)) (inr (inr (inl refl)))))
 
 -- ---- the same of a list of three
 three_ids : (ids : List ℕ) (i j k : ℕ) → length ids ≡ 3 → i ≡ get_or ids 0 i → j ≡ get_or ids 1 j → k ≡ get_or ids 2 k → ids ≡ i ∷ j ∷ k ∷ []
-three_ids [] i j k l p q r = absurd (omega arith)
-three_ids (a ∷ []) i j k l p q r = absurd (omega arith)
-three_ids (a ∷ b ∷ []) i j k l p q r = absurd (omega arith)
 three_ids (a ∷ b ∷ c ∷ []) i j k l p q r = cc
-three_ids (a ∷ b ∷ c ∷ d ∷ ids) i j k l p q r = absurd (omega arith)
+three_ids ids i j k l p q r = absurd (omega arith)
 
 -- the polygon of a planar set of three, as the code reads it
 pub polygon_of_three : (pts : List Vector) (ids : List ℕ) (n : Vector) (i j k : ℕ) (q : List ℕ) → length ids ≡ 3
     → i ≡ get_or ids 0 i → j ≡ get_or ids 1 j → k ≡ get_or ids 2 k
     → q ≡ triangle (turn_of pts n) i j k → IsPlanarSet pts ids n → IsPolygon (place pts) (Extreme (place pts) (Members ids)) n q
 polygon_of_three pts ids n i j k q l pi pj pk e h =
+    let is = three_ids ids i j k l pi pj pk in let set = subst (λ t. IsPlanarSet pts t n) is h in
     subst (λ t. IsPolygon (place pts) (Extreme (place pts) (Members t)) n q) (sym is)
     (subst (IsPolygon (place pts) (Extreme (place pts) (Members (i ∷ j ∷ k ∷ []))) n) (sym e)
     (triangle_polygon pts n i j k set (set.set.rising 0 (omega arith)) (set.set.rising 1 (omega arith))))
-  where
-    is : ids ≡ i ∷ j ∷ k ∷ []
-    is = three_ids ids i j k l pi pj pk
-
-    set : IsPlanarSet pts (i ∷ j ∷ k ∷ []) n
-    set = subst (λ t. IsPlanarSet pts t n) is h
