@@ -32,8 +32,7 @@ chosen : (b d : Bool) (p q : Progress) (ws : List Word) (x y : Option ReadFault)
     → lack (judged (cond b p q) ws) ≡ cond d x y
 chosen true true p q ws x y e f g = f
 chosen false false p q ws x y e f g = g
-chosen true false p q ws x y e f g = cc
-chosen false true p q ws x y e f g = cc
+chosen b d p q ws x y e f g = cc
 
 -- a test before or behind the choice of the earlier fault
 either : (b : Bool) (x : Option ReadFault) (f : ReadFault) → cond b x (Some f) ≡ option_or (cond b None (Some f)) x
@@ -85,11 +84,11 @@ counts trailing ws (pos n) = tested (nat_le 1 (cap n) && nat_le (cap n) POINT_LI
 asked : (p : Progress) (next : ℤ → Progress) (fault : ℤ → List Word → Option ReadFault) → Asks p next
     → ((z : ℤ) (ws : List Word) → lack (judged (next (capped z)) ws) ≡ fault z ws) → (ws : List Word) → lack (judged p ws) ≡ next_number_fault fault ws
 asked p next fault asks rest [] = asks.lacks
-asked p next fault asks rest (w ∷ ws) = one (number_of w.text)
-  where
-    one : (o : Option ℤ) → lack (judged (after p (is_off w) (option_map capped o) w.line) ws) ≡ number_fault fault o w.line ws
-    one None = ap (λ (q : Progress). lack (judged q ws)) (asks.bad (is_off w) w.line) ∙ fallen (faults.BadNumber w.line) ws
-    one (Some z) = ap (λ (q : Progress). lack (judged q ws)) (asks.good (is_off w) (capped z) w.line) ∙ rest z ws
+asked p next fault asks rest (w ∷ ws) =
+    elim (number_of w.text) as (λ o. lack (judged (after p (is_off w) (option_map capped o) w.line) ws) ≡ number_fault fault o w.line ws) [
+      | None ↦ ap (λ (q : Progress). lack (judged q ws)) (asks.bad (is_off w) w.line) ∙ fallen (faults.BadNumber w.line) ws
+      | Some z ↦ ap (λ (q : Progress). lack (judged q ws)) (asks.good (is_off w) (capped z) w.line) ∙ rest z ws
+    ]
 
 heads : (a b : ℤ) (ws : List Word) → lack (judged (headed (capped a) (capped b)) ws) ≡ headed_fault a b ws
 heads a b ws =
@@ -113,11 +112,8 @@ counts_lack =
 
 off_lacks : (ws : List Word) → lack (judged wants_keyword ws) ≡ off_words_fault ws
 off_lacks [] = refl
-off_lacks (w ∷ ws) = tested (is_off w)
-  where
-    tested : (b : Bool) → lack (judged (after wants_keyword b (option_map capped (number_of w.text)) w.line) ws) ≡ cond b (counts_fault ws) (Some faults.NotOff)
-    tested true = counts_lack ws
-    tested false = fallen faults.NotOff ws
+off_lacks (w ∷ ws) = elim (is_off w) as (λ b. lack (judged (after wants_keyword b (option_map capped (number_of w.text)) w.line) ws)
+    ≡ cond b (counts_fault ws) (Some faults.NotOff)) [ true ↦ counts_lack ws | false ↦ fallen faults.NotOff ws ]
 
 -- bytes within the limit have the fault of their words
 within : (bs : List ℕ) (fault : Option ReadFault) → length bs ≤ BYTE_LIMIT → cond (nat_lt BYTE_LIMIT (length bs)) (Some faults.Big) fault ≡ fault

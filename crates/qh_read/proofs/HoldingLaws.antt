@@ -18,10 +18,7 @@ held_of form s = record { form = form; progress = judged (started form) s.words;
 -- a word is under way
 abbrev solid : Token → Type 0
 solid Empty = ⊥
-solid (Sign minus) = Unit {0}
-solid (Digits minus n) = Unit {0}
-solid (Keyword letters) = Unit {0}
-solid Other = Unit {0}
+solid t = Unit {0}
 
 solid_cond : (b : Bool) (x y : Token) → solid x → solid y → solid (cond b x y)
 solid_cond true x y h k = h
@@ -50,17 +47,11 @@ solid_by (c ∷ w) t h = solid_by w (grown t c) (solid_grown t c)
 
 ended_solid : (p : Progress) (t : Token) (n : ℕ) → solid t → word_ended p t n ≡ after p (is_keyword t) (value_of t) n
 ended_solid p Empty n h = absurd h
-ended_solid p (Sign minus) n h = refl
-ended_solid p (Digits minus k) n h = refl
-ended_solid p (Keyword letters) n h = refl
-ended_solid p Other n h = refl
+ended_solid p t n h = refl
 
 begun_solid : (h : Held) (t : Token) (c : ℕ) → solid t → held_begun h t c ≡ record h { token = grown t c }
 begun_solid h Empty c s = absurd s
-begun_solid h (Sign minus) c s = refl
-begun_solid h (Digits minus k) c s = refl
-begun_solid h (Keyword letters) c s = refl
-begun_solid h Other c s = refl
+begun_solid h t c s = refl
 
 word_ends : (p : Progress) (ws : List Word) (n : ℕ) (w : List ℕ) → judged p (ws ++ ended n w) ≡ word_ended (judged p ws) (grown_by Empty w) n
 word_ends p ws n [] = ap (judged p) (append-nil ws)
@@ -85,10 +76,7 @@ begins ws n b (a ∷ w) c =
 -- a digit goes on with a word, or begins one
 digit_begun : (h : Held) (t : Token) (c : ℕ) → is_ascii_digit c ≡ true → held_begun h t c ≡ record h { token = grown t c }
 digit_begun h Empty c e = ap (λ (b : Bool). cond (b || c == 43 || c == 45 || c == 46) (record h { token = grown Empty c }) (record h { comment = true })) e
-digit_begun h (Sign minus) c e = refl
-digit_begun h (Digits minus n) c e = refl
-digit_begun h (Keyword letters) c e = refl
-digit_begun h Other c e = refl
+digit_begun h t c e = refl
 
 digit_marked : (form : Form) (h : Held) (c : ℕ) → is_ascii_digit c ≡ true → held_marked form h c ≡ record h { token = grown h.token c }
 digit_marked Qhull h c e = digit_begun h h.token c e

@@ -85,20 +85,15 @@ module _ (form : Form) (parts : List ℕ → List (List ℕ)) (Plain : List ℕ 
 
   total : (bs : List ℕ) (s : Lexed) → Valid Plain s → closed (lexed form s bs) ≡ s.words ++ rest parts s.line s.comment s.under_way (lines_of bs)
   total [] s v = ap (λ t. s.words ++ t) (line_ends s.line s.comment s.under_way v.clean v.plain v.quiet ∙ sym (append-nil _))
-  total (c ∷ cs) s v = total cs (next form s c) (good s c v).valid ∙ at_line (lines_of cs) (some_line cs)
-    where
-      at_line : (ls : List (List ℕ)) → 0 < length ls
-          → (next form s c).words ++ rest parts (next form s c).line (next form s c).comment (next form s c).under_way ls
-          ≡ s.words ++ rest parts s.line s.comment s.under_way (cond (c == 10) ([] ∷ ls) (onto_first c ls))
-      at_line [] h = absurd (omega arith)
-      at_line (l ∷ ls) h = (good s c v).same l ls
+  total (c ∷ cs) s v = total cs (next form s c) (good s c v).valid
+      ∙ (let n = next form s c in elim (lines_of cs) as (λ ls. 0 < length ls → n.words ++ rest parts n.line n.comment n.under_way ls
+      ≡ s.words ++ rest parts s.line s.comment s.under_way (cond (c == 10) ([] ∷ ls) (onto_first c ls)))
+      [ [] ↦ λ h. absurd (omega arith) | l ∷ ls ↦ λ h. (good s c v).same l ls ] (some_line cs))
 
   pub lexed_whole : (bs : List ℕ) → closed (lexed form start bs) ≡ words_from parts 1 (lines_of bs)
-  lexed_whole bs = total bs start (record { clean = tt; plain = none; quiet = λ q. refl }) ∙ whole (lines_of bs) (some_line bs)
-    where
-      whole : (ls : List (List ℕ)) → 0 < length ls → rest parts 1 false [] ls ≡ words_from parts 1 ls
-      whole [] h = absurd (omega arith)
-      whole (l ∷ ls) h = refl
+  lexed_whole bs = total bs start (record { clean = tt; plain = none; quiet = λ q. refl })
+      ∙ elim (lines_of bs) as (λ ls. 0 < length ls → rest parts 1 false [] ls ≡ words_from parts 1 ls)
+      [ [] ↦ λ h. absurd (omega arith) | l ∷ ls ↦ λ h. refl ] (some_line bs)
 
 -- ---- a point file
 -- the words of a line

@@ -39,11 +39,8 @@ blank_ends : (n : ℕ) (w : List ℕ) (c : ℕ) (l : List ℕ) → Clear is_blan
 blank_ends n w c l h d e =
     ap (λ (t : List ℕ). on_line n (words_of t)) (hash_later w (c ∷ l) d ∙ ap (λ (t : Bool). w ++ cond t [] (c ∷ before_hash l)) (blank_plain c e))
     ∙ ap (λ t. on_line n (filter is_word t)) (split_clear is_blank w c (before_hash l) h e)
-    ∙ first w
-  where
-    first : (w : List ℕ) → on_line n (filter is_word (w ∷ slice_split is_blank (before_hash l))) ≡ ended n w ++ on_line n (line_words l)
-    first [] = refl
-    first (b ∷ w) = refl
+    ∙ elim w as (λ u. on_line n (filter is_word (u ∷ slice_split is_blank (before_hash l))) ≡ ended n u ++ on_line n (line_words l))
+    [ [] ↦ refl | b ∷ u ↦ refl ]
 
 -- a byte begins a comment, or goes on with a word or begins one
 marks : (ws : List Word) (n : ℕ) (w : List ℕ) (c : ℕ) → let s : Lexed = record { words = ws; line = n; comment = false; under_way = w } in

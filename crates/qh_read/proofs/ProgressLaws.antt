@@ -56,12 +56,11 @@ pub record Filled (ws : List Word) (k : ℕ) (t u : List ℤ) : Type 0 where
 -- a coordinate that was taken is in range, and told apart
 in_range : (next : List ℤ → Progress) (ws : List Word) (t u : List ℤ) (line : ℕ) (z : ℤ) → filled_in (judged (took next t line (capped z)) ws) ≡ Some u
     → (capped z ≡ z) × IsCoordinate z × (filled_in (judged (next (t ++ capped z ∷ [])) ws) ≡ Some u)
-in_range next ws t u line z h = tested (is_coordinate (capped z)) refl h
-  where
-    tested : (b : Bool) → is_coordinate (capped z) ≡ b → filled_in (judged (cond b (next (t ++ capped z ∷ [])) (fails (faults.Range line))) ws) ≡ Some u
-        → (capped z ≡ z) × IsCoordinate z × (filled_in (judged (next (t ++ capped z ∷ [])) ws) ≡ Some u)
-    tested false c h = cc (ap filled_in (stays (faults.Range line) ws))
-    tested true c h = let l = in_limit z c in (l.0, l.1, h)
+in_range next ws t u line z h =
+    elim (is_coordinate (capped z)) as (λ b. is_coordinate (capped z) ≡ b
+    → filled_in (judged (cond b (next (t ++ capped z ∷ [])) (fails (faults.Range line))) ws) ≡ Some u
+    → (capped z ≡ z) × IsCoordinate z × (filled_in (judged (next (t ++ capped z ∷ [])) ws) ≡ Some u))
+    [ true ↦ λ c k. let l = in_limit z c in (l.0, l.1, k) | false ↦ λ c k. cc (ap filled_in (stays (faults.Range line) ws)) ] refl h
 
 -- one coordinate before others
 filled_more : (w : Word) (ws : List Word) (k : ℕ) (t u : List ℤ) (z : ℤ) → number_of w.text ≡ Some z → capped z ≡ z → IsCoordinate z
@@ -179,18 +178,13 @@ pub record Numbered (next : ℤ → Progress) (ws : List Word) (u : List ℤ) : 
 
 pub numbered : (p : Progress) (next : ℤ → Progress) → Asks p next → (ws : List Word) (u : List ℤ) → filled_in (judged p ws) ≡ Some u → Numbered next ws u
 numbered p next asks [] u h = cc (asks.none)
-numbered p next asks (w ∷ ws) u h = one (number_of w.text) refl h
-  where
-    one : (o : Option ℤ) → number_of w.text ≡ o → filled_in (judged (after p (is_off w) (option_map capped o) w.line) ws) ≡ Some u → Numbered next (w ∷ ws) u
-    one None e h = cc (ap (λ (q : Progress). filled_in (judged q ws)) (asks.bad (is_off w) w.line) ∙ ap filled_in (stays (faults.BadNumber w.line) ws))
-    one (Some z) e h = record {
-      w = w;
-      rest = ws;
-      z = z;
-      are = refl;
-      number = e;
-      filled = sym (ap (λ (q : Progress). filled_in (judged q ws)) (asks.good (is_off w) (capped z) w.line)) ∙ h;
-    }
+numbered p next asks (w ∷ ws) u h =
+    elim (number_of w.text) as (λ o. number_of w.text ≡ o → filled_in (judged (after p (is_off w) (option_map capped o) w.line) ws) ≡ Some u
+    → Numbered next (w ∷ ws) u) [
+      | None ↦ λ e h. cc (ap (λ (q : Progress). filled_in (judged q ws)) (asks.bad (is_off w) w.line) ∙ ap filled_in (stays (faults.BadNumber w.line) ws))
+      | Some z ↦ λ e h. let filled = sym (ap (λ (q : Progress). filled_in (judged q ws)) (asks.good (is_off w) (capped z) w.line)) ∙ h in
+          record { w = w; rest = ws; z = z; are = refl; number = e; filled = filled }
+    ] refl h
 
 -- ---- a point file
 three : (z : ℤ) → is_three (capped z) ≡ true → z ≡ pos 3
@@ -233,14 +227,12 @@ made ws u first second header =
     let file = header.counted.file in
     let all : u ≡ file.filled.more = file.filled.all in
     let last : second.rest ≡ file.front = file.are ∙ ap (λ (x : List Word). file.front ++ x) (file.last refl) ∙ append-nil file.front in
-    let words : ws ≡ first.w ∷ second.w ∷ file.front =
-    first.are ∙ ap (λ (x : List Word). first.w ∷ x) (second.are ∙ ap (λ (x : List Word). second.w ∷ x) last) in
-    let are : numbers (first.w ∷ second.w ∷ file.front) ≡ map Some (first.z ∷ second.z ∷ u) = cc (first.number, second.number, file.filled.are, all) in
+    let words : ws ≡ first.w ∷ second.w ∷ file.front = cc (first.are, second.are, last) in
     record {
       first = first.z;
       second = second.z;
       n = header.counted.n;
-      are = ap numbers words ∙ are;
+      are = cc (words, first.number, second.number, file.filled.are, all);
       header = header.header header.counted.n header.counted.is;
       some = header.counted.some;
       few = header.counted.few;

@@ -23,13 +23,12 @@ others (c ∷ cs) = others cs
 
 digits : (cs : List ℕ) (minus : Bool) (n : ℕ) → grown_by (Digits minus (cap n)) cs ≡ cond (are_digits cs) (Digits minus (cap (read_digits n cs))) Other
 digits [] minus n = refl
-digits (c ∷ cs) minus n = at (digits cs minus (10 * n + (c - 48))) (is_ascii_digit c)
-  where
-    at : grown_by (Digits minus (cap (10 * n + (c - 48)))) cs ≡ cond (are_digits cs) (Digits minus (cap (read_digits (10 * n + (c - 48)) cs))) Other
-        → (b : Bool) → grown_by (cond b (Digits minus (cap (10 * cap n + (c - 48)))) Other) cs
-        ≡ cond (b && are_digits cs) (Digits minus (cap (read_digits (10 * n + (c - 48)) cs))) Other
-    at more true = ap (λ k. grown_by (Digits minus k) cs) (omega arith) ∙ more
-    at more false = others cs
+digits (c ∷ cs) minus n = let m = 10 * n + (c - 48) in
+    elim (is_ascii_digit c) as (λ b. grown_by (cond b (Digits minus (cap (10 * cap n + (c - 48)))) Other) cs
+    ≡ cond (b && are_digits cs) (Digits minus (cap (read_digits m cs))) Other) [
+      | true ↦ ap (λ k. grown_by (Digits minus k) cs) (omega arith) ∙ digits cs minus m
+      | false ↦ others cs
+    ]
 
 shown_value : (b minus : Bool) (n : ℕ) → value_of (cond b (Digits minus (cap n)) Other) ≡ option_map (λ k. signed minus (cap k)) (cond b (Some n) None)
 shown_value true minus n = refl
@@ -37,16 +36,14 @@ shown_value false minus n = refl
 
 magnitude : (minus : Bool) (cs : List ℕ) → value_of (grown_by (Sign minus) cs) ≡ option_map (λ k. signed minus (cap k)) (magnitude_of cs)
 magnitude minus [] = refl
-magnitude minus (c ∷ cs) = at (is_ascii_digit c) refl
-  where
-    at : (b : Bool) → is_ascii_digit c ≡ b → value_of (grown_by (cond b (Digits minus (c - 48)) Other) cs)
-        ≡ option_map (λ k. signed minus (cap k)) (cond (b && are_digits cs) (Some (read_digits (10 * 0 + (c - 48)) cs)) None)
-    at true e =
-        let few : c - 48 ≤ 9 = digit_small c e in
-        let same : c - 48 ≡ cap (10 * 0 + (c - 48)) = omega arith in
-        ap (λ k. value_of (grown_by (Digits minus k) cs)) same ∙ ap value_of (digits cs minus (10 * 0 + (c - 48)))
-        ∙ shown_value (are_digits cs) minus (read_digits (10 * 0 + (c - 48)) cs)
-    at false e = ap value_of (others cs)
+magnitude minus (c ∷ cs) = let m = 10 * 0 + (c - 48) in
+    elim (is_ascii_digit c) as (λ b. is_ascii_digit c ≡ b → value_of (grown_by (cond b (Digits minus (c - 48)) Other) cs)
+    ≡ option_map (λ k. signed minus (cap k)) (cond (b && are_digits cs) (Some (read_digits m cs)) None)) [
+      | true ↦ λ e. let few : c - 48 ≤ 9 = digit_small c e in
+          ap (λ k. value_of (grown_by (Digits minus k) cs)) (omega arith) ∙ ap value_of (digits cs minus m)
+          ∙ shown_value (are_digits cs) minus (read_digits m cs)
+      | false ↦ λ e. ap value_of (others cs)
+    ] refl
 
 plain : (o : Option ℕ) → option_map (λ k. signed false (cap k)) o ≡ option_map capped (option_map pos o)
 plain None = refl
@@ -75,9 +72,8 @@ no_number (c ∷ cs) letters = at (no_number cs) (c == 70) (letters == 1) (lette
 
 -- a byte that begins no number begins none with letters of the keyword either
 plain_start : (a b : Bool) (t : Token) (cs : List ℕ) → value_of (grown_by (cond a t (cond b (Keyword 1) Other)) cs) ≡ value_of (grown_by (cond a t Other) cs)
-plain_start true b t cs = refl
 plain_start false true t cs = no_number cs 1 ∙ sym (ap value_of (others cs))
-plain_start false false t cs = refl
+plain_start a b t cs = refl
 
 pub value-number : (w : List ℕ) → value_of (grown_by Empty w) ≡ option_map capped (number_of w)
 value-number [] = refl
@@ -97,44 +93,27 @@ other_word cs = ap is_keyword (others cs)
 
 digits_word : (cs : List ℕ) (minus : Bool) (n : ℕ) → is_keyword (grown_by (Digits minus n) cs) ≡ false
 digits_word [] minus n = refl
-digits_word (c ∷ cs) minus n = at (digits_word cs minus (cap (10 * n + (c - 48)))) (is_ascii_digit c)
-  where
-    at : is_keyword (grown_by (Digits minus (cap (10 * n + (c - 48)))) cs) ≡ false → (b : Bool)
-        → is_keyword (grown_by (cond b (Digits minus (cap (10 * n + (c - 48)))) Other) cs) ≡ false
-    at rest true = rest
-    at rest false = other_word cs
+digits_word (c ∷ cs) minus n = let m = cap (10 * n + (c - 48)) in
+    elim (is_ascii_digit c) as (λ b. is_keyword (grown_by (cond b (Digits minus m) Other) cs) ≡ false) [ true ↦ digits_word cs minus m | false ↦ other_word cs ]
 
 signed_word : (cs : List ℕ) (minus : Bool) → is_keyword (grown_by (Sign minus) cs) ≡ false
 signed_word [] minus = refl
-signed_word (c ∷ cs) minus = at (is_ascii_digit c)
-  where
-    at : (b : Bool) → is_keyword (grown_by (cond b (Digits minus (c - 48)) Other) cs) ≡ false
-    at true = digits_word cs minus (c - 48)
-    at false = other_word cs
+signed_word (c ∷ cs) minus = elim (is_ascii_digit c) as (λ b. is_keyword (grown_by (cond b (Digits minus (c - 48)) Other) cs) ≡ false)
+    [ true ↦ digits_word cs minus (c - 48) | false ↦ other_word cs ]
 
 after_off : (w : List ℕ) → is_keyword (grown_by (Keyword 3) w) ≡ bytes_eq w []
 after_off [] = refl
-after_off (c ∷ w) = at (c == 70)
-  where
-    at : (b : Bool) → is_keyword (grown_by (cond b Other Other) w) ≡ false
-    at true = other_word w
-    at false = other_word w
+after_off (c ∷ w) = elim (c == 70) as (λ b. is_keyword (grown_by (cond b Other Other) w) ≡ false) [ true ↦ other_word w | false ↦ other_word w ]
 
 after_of : (w : List ℕ) → is_keyword (grown_by (Keyword 2) w) ≡ bytes_eq w (70 ∷ [])
 after_of [] = refl
-after_of (c ∷ w) = at (c == 70)
-  where
-    at : (b : Bool) → is_keyword (grown_by (cond b (Keyword 3) Other) w) ≡ (b && bytes_eq w [])
-    at true = after_off w
-    at false = other_word w
+after_of (c ∷ w) = elim (c == 70) as (λ b. is_keyword (grown_by (cond b (Keyword 3) Other) w) ≡ (b && bytes_eq w []))
+    [ true ↦ after_off w | false ↦ other_word w ]
 
 after_o : (w : List ℕ) → is_keyword (grown_by (Keyword 1) w) ≡ bytes_eq w (70 ∷ 70 ∷ [])
 after_o [] = refl
-after_o (c ∷ w) = at (c == 70)
-  where
-    at : (b : Bool) → is_keyword (grown_by (cond b (Keyword 2) Other) w) ≡ (b && bytes_eq w (70 ∷ []))
-    at true = after_of w
-    at false = other_word w
+after_o (c ∷ w) = elim (c == 70) as (λ b. is_keyword (grown_by (cond b (Keyword 2) Other) w) ≡ (b && bytes_eq w (70 ∷ [])))
+    [ true ↦ after_of w | false ↦ other_word w ]
 
 -- the token of a word tells whether it is the keyword
 pub keyword-off : (w : List ℕ) → is_keyword (grown_by Empty w) ≡ bytes_eq w (codes "OFF")
@@ -144,11 +123,9 @@ keyword-off (c ∷ w) = at (c == 43) (c == 45) (is_ascii_digit c) (c == 79) refl
     at : (a b d o : Bool) → (c == 43) ≡ a → (c == 45) ≡ b → is_ascii_digit c ≡ d → (c == 79) ≡ o
         → is_keyword (grown_by (cond a (Sign false) (cond b (Sign true) (cond d (Digits false (c - 48)) (cond o (Keyword 1) Other)))) w)
         ≡ (o && bytes_eq w (70 ∷ 70 ∷ []))
-    at true b d true p q r s = absurd (grind (arith, nat_tests))
     at true b d false p q r s = signed_word w false
-    at false true d true p q r s = absurd (grind (arith, nat_tests))
     at false true d false p q r s = signed_word w true
-    at false false true true p q r s = absurd (grind (arith, nat_tests))
     at false false true false p q r s = digits_word w false (c - 48)
     at false false false true p q r s = after_o w
     at false false false false p q r s = other_word w
+    at a b d true p q r s = absurd (grind (arith, nat_tests))
