@@ -51,22 +51,11 @@ volume_is : (at : ℕ → Vector) (m : Surface) (q : Vector) (n : ℕ) (fs : Lis
     ≡ live_sum (λ k. vol (at (m.i (n + k))) (at (m.j (n + k))) (at (m.k (n + k))) q) fs
 volume_is at m q n [] = refl
 volume_is at m q n (f ∷ fs) =
+    let value : ℕ → ℤ = (λ g. vol (at (m.i g)) (at (m.j g)) (at (m.k g)) q) in
+    let here : n ≡ n + 0 = omega arith in let shift : (k : ℕ) → n + 1 + k ≡ n + suc k = (λ k. omega arith) in
     elim f.live as (λ b. signed_volume at (triples_from m (cond b (n ∷ live_from (n + 1) fs) (live_from (n + 1) fs))) q
-    ≡ cond b (value n) (pos 0) +ℤ rest) [ true ↦ refl | false ↦ (omega (arith, ints)) ]
-    ∙ (λ i. cond f.live (value (here n i)) (pos 0)
-    +ℤ (volume_is at m q (n + 1) fs ∙ ap (λ v. live_sum v fs) (λ j k. value (shift n k j))) i)
-  where
-    value : ℕ → ℤ
-    value g = vol (at (m.i g)) (at (m.j g)) (at (m.k g)) q
-
-    rest : ℤ
-    rest = signed_volume at (triples_from m (live_from (n + 1) fs)) q
-
-    here : (n : ℕ) → n ≡ n + 0
-    here n = omega arith
-
-    shift : (n k : ℕ) → n + 1 + k ≡ n + suc k
-    shift n k = omega arith
+    ≡ cond b (value n) (pos 0) +ℤ signed_volume at (triples_from m (live_from (n + 1) fs)) q) [ true ↦ refl | false ↦ (omega (arith, ints)) ]
+    ∙ (λ i. cond f.live (value (here i)) (pos 0) +ℤ (volume_is at m q (n + 1) fs ∙ ap (λ v. live_sum v fs) (λ j k. value (shift k j))) i)
 
 -- and from the first place
 volume_is_sum : (at : ℕ → Vector) (fs : List StoredFacet) (q : Vector)

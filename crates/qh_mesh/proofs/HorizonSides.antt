@@ -105,20 +105,12 @@ module _ (old cleared : List StoredFacet) (vs : List ℕ) (r : Removed old clear
   module _ (free : List ℕ) (s : IsSurface old free) (a : AreFacets old vs) where
     -- a listed facet and those across its sides are in the list
     pub sides_inside : All (HasSidesInside cleared) vs
-    sides_inside = All-of (HasSidesInside cleared) vs each
-      where
-        across : (f : ℕ) → In f vs → (t : Side) → facet_of (outer_of (facet_at cleared f) t) < length cleared
-        across f i t = let e = edge_of f t in
-            let live = (s.twins e (subst (IsLive old) (sym (edge-facet f t)) (All-In (IsLive old) vs f a.live i))).live in
-            rw (gone f (in_listed vs f i), r.len, ← twin-is old f t) (live_inside old (facet_of (twin_of old e)) live)
-
-        each : (f : ℕ) → In f vs → HasSidesInside cleared f
-        each f i = record {
-          facet = rw r.len (live_inside old f (All-In (IsLive old) vs f a.live i));
-          ij = across f i first;
-          jk = across f i second;
-          ki = across f i third;
-        }
+    sides_inside = All-of (HasSidesInside cleared) vs (λ f i.
+        let live = All-In (IsLive old) vs f a.live i in
+        let across : (t : Side) → facet_of (outer_of (facet_at cleared f) t) < length cleared = (λ t. let e = edge_of f t in
+        let twin = (s.twins e (subst (IsLive old) (sym (edge-facet f t)) live)).live in
+        rw (gone f (in_listed vs f i), r.len, ← twin-is old f t) (live_inside old (facet_of (twin_of old e)) twin)) in
+        record { facet = rw r.len (live_inside old f live); ij = across first; jk = across second; ki = across third })
 
     -- what is noted of a side of a listed facet, and that it is open where the facet across stays
     noted : (e : ℕ) → In e (sides_of vs) → (edge_side cleared e ≡ edge_side old e) × (is_open cleared (edge_side cleared e) ≡ leaves old vs e)

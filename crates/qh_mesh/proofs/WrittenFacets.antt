@@ -63,20 +63,14 @@ module _ (fs : List StoredFacet) (e v : ℕ) (l : e / 3 < length fs) where
 pub joined_more : (old fs : List StoredFacet) (hs : List FacetSide) (made : List ℕ) (k : ℕ) → let o = (side_at hs k).outer in
     Joined old fs hs made k → o / 3 < length old → ((j : ℕ) → j < k → (side_at hs j).outer ≢ o)
     → Joined old (set fs (o / 3) (with_twin (facet_at fs (o / 3)) (side_of_edge o) (edge_of (slice_index made k) first))) hs made (k + 1)
-joined_more old fs hs made k s l n = record {
-  len = length-set fs (o / 3) (turned fs o v l') ∙ s.len;
-  same = λ f. bare_same fs o v l' f ∙ s.same f;
-  count = let c = sum_by-set (λ t. cond (is_live t) 1 0) fs (o / 3) (turned fs o v l') no_facet l' in let d = s.count in omega arith;
-  outer = below_next (λ j. twin_of (joined fs o v l') (side_at hs j).outer ≡ edge_of (slice_index made j) first) k
-      (λ j h. twin_elsewhere fs o v l' (side_at hs j).outer (λ e. n j h (sym e)) ∙ s.outer j h) (twin_here fs o v l');
-  others = λ e h. twin_elsewhere fs o v l' e (h k (omega arith)) ∙ s.others e (λ j g. h j (omega arith));
-}
-  where
-    o : ℕ
-    o = (side_at hs k).outer
-
-    v : ℕ
-    v = edge_of (slice_index made k) first
-
-    l' : (side_at hs k).outer / 3 < length fs
-    l' = let e = s.len in omega arith
+joined_more old fs hs made k s l n =
+    let o = (side_at hs k).outer in let v = edge_of (slice_index made k) first in
+    let l' : (side_at hs k).outer / 3 < length fs = (let e = s.len in omega arith) in
+    record {
+      len = length-set fs (o / 3) (turned fs o v l') ∙ s.len;
+      same = λ f. bare_same fs o v l' f ∙ s.same f;
+      count = let c = sum_by-set (λ t. cond (is_live t) 1 0) fs (o / 3) (turned fs o v l') no_facet l' in let d = s.count in omega arith;
+      outer = below_next (λ j. twin_of (joined fs o v l') (side_at hs j).outer ≡ edge_of (slice_index made j) first) k
+          (λ j h. twin_elsewhere fs o v l' (side_at hs j).outer (λ e. n j h (sym e)) ∙ s.outer j h) (twin_here fs o v l');
+      others = λ e h. twin_elsewhere fs o v l' e (h k (omega arith)) ∙ s.others e (λ j g. h j (omega arith));
+    }
