@@ -98,20 +98,16 @@ module _ (pts : List Vector) (ids cycle : List ℕ) (n : Vector) (h : IsPlanarSe
   abbrev outside : ℕ → Bool
   outside = is_outside (turn_of pts n) cycle
 
-  -- an extreme id passes
-  passes : (i : ℕ) → Extreme (place pts) (Members ids) i → outside i ≡ true
-  passes i e = ap not (false_from_ne_true (is_inside (turn_of pts n) cycle i)
-      (not_inside n (place pts) (Members ids) flat i e (turn_of pts n) told cycle within))
+  -- an extreme id passes, so it is left
+  pub extreme_left : (i : ℕ) → Extreme (place pts) (Members ids) i → In i (filter outside ids)
+  extreme_left i e = in_filter outside ids i e.0 (ap not (false_from_ne_true (is_inside (turn_of pts n) cycle i)
+      (not_inside n (place pts) (Members ids) flat i e (turn_of pts n) told cycle within)))
     where
       flat : IsFlat n (place pts) (Members ids)
       flat = flat_of pts ids n h
 
       told : (u v : ℕ) → In u ids → In v ids → is_left (turn_of pts n u v i) ≡ true → pos 0 <ℤ left n (place pts u) (place pts v) (place pts i)
       told u v iu iv q = is_left-yes _ (sym (turns_agree pts n (Members ids) flat u v i iu iv e.0) ∙ q)
-
-  -- so it is left
-  pub extreme_left : (i : ℕ) → Extreme (place pts) (Members ids) i → In i (filter outside ids)
-  extreme_left i e = in_filter outside ids i e.0 (passes i e)
 
 -- ---- a part of a planar set with all extreme ids
 module _ (pts : List Vector) (ids part : List ℕ) (n : Vector) (h : IsPlanarSet pts ids n) (rising : IsStrictlyIncreasing part)
@@ -120,20 +116,17 @@ module _ (pts : List Vector) (ids part : List ℕ) (n : Vector) (h : IsPlanarSet
   abbrev at : ℕ → Vector
   at = place pts
 
-  -- three of them are not in line
-  triangle : HasTriangle at (Members part)
-  triangle =
-      let mixes = members_are_combinations at ids h.set.distinct in
-      let t = triangle_of at (Members ids) (Extreme at (Members ids)) mixes (planar_triangle pts ids n h) in
-      record { i = t.i; j = t.j; k = t.k; has_i = extremes t.i t.has_i; has_j = extremes t.j t.has_j; has_k = extremes t.k t.has_k; area = t.area }
-
-  -- it is flat, too
+  -- it is flat, too: three of it are not in line
   pub outer_flat : IsFlatSet pts part n
   outer_flat =
+      let mixes = members_are_combinations at ids h.set.distinct in
+      let t = triangle_of at (Members ids) (Extreme at (Members ids)) mixes (planar_triangle pts ids n h) in
       let flat = flat_of pts ids n h in
+      let p : HasTriangle at (Members part) =
+      record { i = t.i; j = t.j; k = t.k; has_i = extremes t.i t.has_i; has_j = extremes t.j t.has_j; has_k = extremes t.k t.has_k; area = t.area } in
       record {
         set = part_set pts ids part h.set rising within;
-        two = two_of_triangle at part triangle;
+        two = two_of_triangle at part p;
         some = flat.some;
         even = λ i j mi mj. flat.even i j (within i mi) (within j mj);
       }

@@ -21,15 +21,14 @@ pub first_two : (ids : List ℕ) (i j : ℕ) → 1 < length ids → i ≡ get_or
 first_two ids i j h p q =
     record { two = h; first = sym (get_or_default_zero ids 0 i (omega arith)) ∙ sym p; second = sym (get_or_default_zero ids 1 j h) ∙ sym q }
 
+-- the first two are members
+ends : (ids : List ℕ) (i j : ℕ) → AreFirstTwo ids i j → In i ids × In j ids
+ends ids i j t = let h = t.two in (listed ids 0 i (omega arith) t.first, listed ids 1 j h t.second)
+
 -- the first two are a segment
 two : (ids : List ℕ) (i j : ℕ) → AreFirstTwo ids i j → IsStrictlyIncreasing ids → HasSegment (Members ids)
-two ids i j t r = record {
-  i = i;
-  j = j;
-  has_i = listed ids 0 i (let h = t.two in omega arith) t.first;
-  has_j = listed ids 1 j t.two t.second;
-  differ = λ e. ne_of_lt (r 0 t.two) (t.first ∙ e ∙ sym t.second);
-}
+two ids i j t r = let e = ends ids i j t in
+    record { i = i; j = j; has_i = e.0; has_j = e.1; differ = λ q. ne_of_lt (r 0 t.two) (t.first ∙ q ∙ sym t.second) }
 
 -- all in line with the first two: a segment
 pub segment : (pts : List Vector) (ids : List ℕ) (i j : ℕ) → AreFirstTwo ids i j → Each (IsInLine pts i j) ids
@@ -47,16 +46,8 @@ segment pts ids i j t h s =
 
 -- the first off their line makes a triangle
 three : (pts : List Vector) (ids : List ℕ) (i j k : ℕ) → AreFirstTwo ids i j → IsFirstNot (IsInLine pts i j) ids k → HasTriangle (place pts) (Members ids)
-three pts ids i j k t f =
-    record {
-      i = i;
-      j = j;
-      k = k;
-      has_i = listed ids 0 i (let h = t.two in omega arith) t.first;
-      has_j = listed ids 1 j t.two t.second;
-      has_k = listed ids f.at k f.within f.is;
-      area = f.not;
-    }
+three pts ids i j k t f = let e = ends ids i j t in
+    record { i = i; j = j; k = k; has_i = e.0; has_j = e.1; has_k = listed ids f.at k f.within f.is; area = f.not }
 
 -- one off the line of the first two, and all in the plane of the three: a polygon
 pub flat : (pts : List Vector) (ids : List ℕ) (i j k : ℕ) → AreFirstTwo ids i j → IsFirstNot (IsInLine pts i j) ids k
@@ -73,18 +64,5 @@ flat pts ids i j k t f h =
 -- one off the plane of three: a solid
 pub solid : (pts : List Vector) (ids : List ℕ) (i j k l : ℕ) → AreFirstTwo ids i j → IsFirstNot (IsInLine pts i j) ids k
     → IsFirstNot (IsInPlane pts i j k) ids l → IsDimension (place pts) (Members ids) 3
-solid pts ids i j k l t f g =
-    inl (
-      refl,
-      record {
-        i = i;
-        j = j;
-        k = k;
-        l = l;
-        has_i = listed ids 0 i (let h = t.two in omega arith) t.first;
-        has_j = listed ids 1 j t.two t.second;
-        has_k = listed ids f.at k f.within f.is;
-        has_l = listed ids g.at l g.within g.is;
-        volume = g.not;
-      },
-    )
+solid pts ids i j k l t f g = let e = ends ids i j t in let third = listed ids f.at k f.within f.is in let last = listed ids g.at l g.within g.is in
+    inl (refl, record { i = i; j = j; k = k; l = l; has_i = e.0; has_j = e.1; has_k = third; has_l = last; volume = g.not })

@@ -78,35 +78,21 @@ module _ (turn : ℕ → ℕ → ℕ → ℤ) (key : ℕ → ℤ) (A : ℕ → T
       inr (subst Inside (sym e) (record { q = q; t = t; is_q = chain_top turn key A q s g.4.4; is_t = g.0; before = g.4.1; after = g.1; sharp = g.3 }))
   inside t (r ∷ s) g v (inr i) = inside r s g.4 v i
 
-  -- an edge of the rest is an edge of the whole
-  span-more : (e t : ℕ) (s : List ℕ) → Span e s → Span e (t ∷ s)
-  span-more e t s p = record {
-    u = p.u;
-    v = p.v;
-    has_u = inr p.has_u;
-    has_v = inr p.has_v;
-    is_u = p.is_u;
-    is_v = p.is_v;
-    before = p.before;
-    after = p.after;
-    edge = p.edge;
-  }
-
   -- what is no member lies under an edge
-  pub span : ((x y : ℕ) → A x → A y → key x ≡ key y → x ≡ y) → (t : ℕ) (s : List ℕ) → IsChain turn key A t s → (e : ℕ)
-      → A e → (In e (t ∷ s) → ⊥) → key e <ℤ key t → Span e (t ∷ s)
-  span same t [] g e ae out lt = absurd (not_less (key e) (key t) lt (g.1 e ae))
-  span same t (r ∷ s) g e ae out lt =
-      by_lt_z (key e) (key r) (λ l. span-more e t (r ∷ s) (span same r s g.4 e ae (λ i. out (inr i)) l)) (λ k. by_lt_z (key r) (key e)
+  pub span : ((x y : ℕ) → A x → A y → key x ≡ key y → x ≡ y) → (t : ℕ) (s all : List ℕ) → IsChain turn key A t s → ((x : ℕ) → In x (t ∷ s) → In x all)
+      → (e : ℕ) → A e → (In e (t ∷ s) → ⊥) → key e <ℤ key t → Span e all
+  span same t [] all g into e ae out lt = absurd (not_less (key e) (key t) lt (g.1 e ae))
+  span same t (r ∷ s) all g into e ae out lt = let is_r = chain_top turn key A r s g.4 in
+      by_lt_z (key e) (key r) (span same r s all g.4 (λ x i. into x (inr i)) e ae (λ i. out (inr i))) (λ k. by_lt_z (key r) (key e)
       (λ l. record {
         u = r;
         v = t;
-        has_u = inr (inl refl);
-        has_v = inl refl;
-        is_u = chain_top turn key A r s g.4;
+        has_u = into r (inr (inl refl));
+        has_v = into t (inl refl);
+        is_u = is_r;
         is_v = g.0;
         before = l;
         after = lt;
         edge = g.2;
       })
-      (λ l. absurd (out (inr (inl (same e r ae (chain_top turn key A r s g.4) (le_antisym (key e) (key r) l k)))))))
+      (λ l. absurd (out (inr (inl (same e r ae is_r (le_antisym (key e) (key r) l k)))))))

@@ -1,6 +1,6 @@
 -- Sides of the polygon: two corners with all members on the left. The edges of a chain are sides.
 use Rattle.std.proofs.Common.{◌≢◌, ℕ, List, [], ◌∷◌, ap, sym, subst, inl, inr}
-use Rattle.std.specs.Prelude.{◌≤ℤ◌, ◌<ℤ◌}
+use Rattle.std.specs.Prelude.{◌≤ℤ◌}
 use Rattle.qh_model.specs.headline.{Sets.In, Vector.Vector}
 use Rattle.qh_model.proofs.algebra.Signs.{less_differ}
 use Rattle.qh_polygon.proofs.polygons.{Corners.Corner, Corners.inner, TurnLaws.HasOnLeft, TurnLaws.TurnsAt, TurnLaws.IsChain, TurnLaws.chain_top}
@@ -26,16 +26,12 @@ module _ (n h : Vector) (at : ℕ → Vector) (A : ℕ → Type 0) (flat : IsFla
   below t r [] at' e sh g = least r g.0 g.1
   below t r (q ∷ s) at' e sh g = inner n h at A flat keyed q r t (chain_top _ _ A q s g.4) g.0 at' g.2 e sh
 
-  -- ids of different heights differ
-  differ : (u v : ℕ) → height_of h at u <ℤ height_of h at v → u ≢ v
-  differ u v l e = less_differ (height_of h at u) (height_of h at v) l (ap (height_of h at) e)
-
   -- the edges of a chain are sides
   pub sides : (t : ℕ) (s : List ℕ) → Corner at A t → IsChain (turn_about n at) (height_of h at) A t s → Down (Side n at A) t s
   sides t [] c g = tt
   sides t (r ∷ s) c g =
       let d = below t r s g.0 g.2 g.3 g.4 in
-      (record { from = d; to = c; apart = differ r t g.1; edge = g.2 }, sides r s d g.4)
+      (record { from = d; to = c; apart = λ e. less_differ _ _ g.1 (ap (height_of h at) e); edge = g.2 }, sides r s d g.4)
 
 -- the members below its top are corners
 pub down_corner : (n : Vector) (at : ℕ → Vector) (A : ℕ → Type 0) (t : ℕ) (s : List ℕ) → Down (Side n at A) t s → (x : ℕ) → In x s → Corner at A x

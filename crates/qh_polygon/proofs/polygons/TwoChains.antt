@@ -53,7 +53,8 @@ module _ (n h k : Vector) (at : ℕ → Vector) (A : ℕ → Type 0) (flat : IsF
   way_beyond : (e : ℕ) → A e → (In e (m ∷ a ∷ s) → ⊥) → (w : Vector) → ((x : ℕ) → In x (m ∷ a ∷ s) → dot w (at x) <ℤ dot w (at e))
       → dot (cross_product h w) n ≤ℤ pos 0 → ⊥
   way_beyond e ae out w past lean =
-      let p = span (turn_about n at) (height_of h at) A keyed.same m (a ∷ s) g e ae out (le_less _ _ (last e ae) (λ q. out (inl (keyed.same e m ae g.0 q)))) in
+      let p = span (turn_about n at) (height_of h at) A keyed.same m (a ∷ s) (m ∷ a ∷ s) g (λ x i. i) e ae out
+      (le_less _ _ (last e ae) (λ q. out (inl (keyed.same e m ae g.0 q)))) in
       core n h w at A flat p.u p.v e p.is_u p.is_v ae p.before p.after (past p.u p.has_u) (past p.v p.has_v) (mul-nonneg_nonpos _ _ (p.edge e ae) lean)
 
 module _ (n h : Vector) (at : ℕ → Vector) (A : ℕ → Type 0) (m a : ℕ) (s : List ℕ) (z b : ℕ) (r : List ℕ) (c : Chains n h at A m (a ∷ s) z (b ∷ r)) where
