@@ -1,16 +1,16 @@
 -- Claiming a block, and being told that all are claimed.
-use Rattle.std.proofs.Common.{◌≡◌, ◌≢◌, ◌⊎◌, inl, inr, ℕ, zero, suc, ◌+◌, ◌*◌, ◌%◌, ◌^◌, ◌<◌, ◌≤◌, min, true, false, List, [], ◌∷◌, length}
+use Rattle.std.proofs.Common.{◌≡◌, inl, inr, ℕ, zero, suc, ◌+◌, ◌*◌, ◌%◌, ◌^◌, ◌<◌, ◌≤◌, min, true, false, List, [], ◌∷◌, length}
 use Rattle.std.proofs.Common.{set, sym, refl, ap, Bool, ◌∙◌, subst, arith, eq-eqb, Option, Some, None, get_or, length-set, length-append, get_or-set_same}
 use Rattle.std.{proofs.lemmas.Bool.Decides.nat_tests, specs.Prelude.All, specs.Prelude.slice_index, specs.Prelude.nat_lt, specs.Prelude.◌==◌}
 use mathlib.Core.{Logic.dite, Option.some, Option.none}
 use native.Mathlib.Decide.{dec_le}
 use lib.ListN.{get_elem?}
 use Rattle.atomic_table.specs.Table.{State, Me, step, takes, Allows}
-use Rattle.qh_model.specs.contract.BoardMachine.{Place, untouched, held, Machine, Event, claim_got, claim_over, Can, after, settled, put}
+use Rattle.qh_model.specs.contract.BoardMachine.{Place, untouched, held, Event, claim_got, claim_over, Can, after, settled, put}
 use Rattle.qh_model.proofs.board.{Reached.reach_good, Reached.reach_claims, Updates.put_here, Updates.put_else, Updates.at_put}
 use Rattle.qh_board.specs.contract.Records.{with_block, told_over}
 use Rattle.qh_board.specs.{declared.view.Record.Record, declared.view.Setup.Setup, declared.view.View.View, steps.Rule.one_if}
-use Rattle.qh_board.specs.steps.{Rule.times, Rule.Agrees, Rule.SlotOf, Rule.Kept, Rule.Ruled, Shown.mark_of, Views.view_of, Views.HasRecord, Views.IsClaim}
+use Rattle.qh_board.specs.steps.{Rule.times, Rule.SlotOf, Rule.Kept, Rule.Ruled, Shown.mark_of, Views.view_of, Views.HasRecord, Views.IsClaim}
 use Rattle.qh_board.proofs.Steps.{Homes, KeptAfter, SlotsOf, Shows, steps, others_keep, allowed_at, seat_record, seated, nothing, slots_put, settled_put}
 use Rattle.qh_board.proofs.{Steps.word_else, Steps.times_snoc, SlotsHome.all_home, SlotsHome.laid, Totals.one_of}
 
@@ -66,25 +66,19 @@ module _ {S X : Type 0} (right : S → (ℕ → Type 0) → X → Type 0) (key :
           mark = a.mark;
           seen = omega arith;
           holds = λ j e. let q : i ≡ j = cc in subst (λ (k : ℕ). put m.node i (held w) k ≡ held w) q (put_here m.node i (held w));
-          alone = λ j e. mine_alone m r i a free j (at_put m.node i j (held w) (held w) e);
+          alone = λ j e. elim (at_put m.node i j (held w) (held w) e) [
+            | inl t ↦ ap Some (sym t.0)
+            | inr t ↦ absurd (nothing right key m r a free j t.1)
+          ];
         };
         others = others_keep right key m m' w (omega arith) (λ v ne. (refl, refl))
             (λ v j ne q. put_else m.node i (held w) j (λ z. let f : held v ≡ untouched = sym q ∙ (ap m.node z ∙ fresh) in cc) ∙ q)
-            (λ v j ne q. back_ m w i v j ne (at_put m.node i j (held w) (held v) q));
+            (λ v j ne q. elim (at_put m.node i j (held w) (held v) q) [ inl t ↦ (let e = t.1 in absurd (ne cc)) | inr t ↦ t.1 ]);
         drawn = let t = length-append r.got (m.claims ∷ []) in omega arith;
         got = λ x. let t = times_snoc x r.got m.claims in let b = below_more x m.claims room in omega arith;
         joins = λ x lo hi. ap (λ (n : ℕ). times x r.joins + one_if (n == 2)) (sym (word_else s.words 0 (m.claims + 1) x (λ q. omega arith)));
         joins_inner = λ x h. refl;
       })
-    where
-      mine_alone : (m : Machine) (r : Record) (i : ℕ) → Agrees key.passes m r → r.node ≡ None → (j : ℕ)
-          → ((j ≡ i) × (held r.number ≡ held r.number)) ⊎ ((j ≢ i) × (m.node j ≡ held r.number)) → Some i ≡ Some j
-      mine_alone m r i a free j (inl t) = ap Some (sym t.0)
-      mine_alone m r i a free j (inr t) = absurd (nothing right key m r a free j t.1)
-
-      back_ : (m : Machine) (w i v j : ℕ) → v ≢ w → ((j ≡ i) × (held w ≡ held v)) ⊎ ((j ≢ i) × (m.node j ≡ held v)) → m.node j ≡ held v
-      back_ m w i v j ne (inl t) = let e = t.1 in absurd (ne cc)
-      back_ m w i v j ne (inr t) = t.1
 
   pub over_step : (s : State (Option X) (View S)) (R : Kept right key s) (id : ℕ) (r : Record)
       → get_elem? s.views id ≡ some (view_of key (r ∷ [])) → r.node ≡ None → r.over ≡ false → r.mark ≡ None

@@ -62,11 +62,8 @@ module _ {S : Type 0} where
   -- how many of them are those of pass w
   pub named_by : (w : ℕ) (ts : List (Token S)) → weigh (named w) (records_of ts) ≡ tokens_of w ts
   named_by w ts = is_count_by (λ (xs : List (Token S)). weigh (named w) (records_of xs)) (λ t. t.pass.number == w) refl
-      (λ t xs. counted (t.pass.number == w) (weigh (named w) (records_of xs))) ts
-    where
-      counted : (b : Bool) (n : ℕ) → one_if b + n ≡ cond b (1 + n) n
-      counted true n = refl
-      counted false n = omega arith
+      (λ t xs. let n = weigh (named w) (records_of xs) in
+      elim (t.pass.number == w) as (λ b. one_if b + n ≡ cond b (1 + n) n) [ true ↦ refl | false ↦ (omega arith) ]) ts
 
   -- P of the record of each token
   pub of_records : (P : Record → Type 0) (ts : List (Token S)) → Each P (records_of ts) → All (λ t. P t.pass) ts

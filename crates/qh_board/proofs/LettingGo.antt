@@ -1,6 +1,6 @@
 -- A pass lets go of its node, whose value stays in the slot: it comes first at the parent, or publishes the root.
 use mathlib.Core.Option as maybe
-use Rattle.std.proofs.Common.{◌≡◌, ◌≢◌, ◌⊎◌, inl, inr, ⊎_elim, ℕ, ◌+◌, ◌*◌, ◌%◌, ◌^◌, ◌<◌, Bool, List, [], ◌∷◌, set, sym, refl, ap, ◌∙◌, subst, arith, Option}
+use Rattle.std.proofs.Common.{◌≡◌, ◌≢◌, inl, inr, ⊎_elim, ℕ, ◌+◌, ◌*◌, ◌%◌, ◌^◌, ◌<◌, Bool, List, [], ◌∷◌, set, sym, refl, ap, ◌∙◌, subst, arith, Option}
 use Rattle.std.{proofs.Common.Some, proofs.Common.None, proofs.Common.length-set, proofs.Common.get_or-set_same, specs.Prelude.slice_index, specs.Prelude.◌==◌}
 use mathlib.Core.{Logic.dite, Option.some, Option.none}
 use native.Mathlib.Decide.{ℕ_discrete}
@@ -39,7 +39,7 @@ module _ {S X : Type 0} (right : S → (ℕ → Type 0) → X → Type 0) (key :
           mine = record { inside = a.inside; over = a.over; mark = a.mark; seen = a.seen; holds = λ j q. absurd (cc); alone = λ j q. absurd (lone a j q) };
           others = others_keep right key m record m { node = put m.node i p } w (omega arith) (λ v ne. (refl, refl))
               (λ v j ne q. put_else m.node i p j (λ z. let f : held v ≡ held w = sym q ∙ (ap m.node z ∙ mine) in ne cc) ∙ q)
-              (λ v j ne q. back v j (at_put m.node i j p (held v) q));
+              (λ v j ne q. elim (at_put m.node i j p (held v) q) [ inl t ↦ absurd (free v t.1) | inr t ↦ t.1 ]);
           drawn = refl;
           got = λ y. refl;
           joins = λ y lo hi. ap (λ (b : Bool). times y r.joins + one_if b) (joins y lo hi);
@@ -51,10 +51,6 @@ module _ {S X : Type 0} (right : S → (ℕ → Type 0) → X → Type 0) (key :
       lone a j q = ⊎_elim (λ (t : (j ≡ i) × (p ≡ held r.number)). free r.number t.1)
           (λ (t : (j ≢ i) × (R.machine.node j ≡ held r.number)). let o : Some j ≡ Some i = sym (a.alone j t.1) ∙ holds_ in t.0 cc)
           (at_put R.machine.node i j p (held r.number) q)
-
-      back : (v j : ℕ) → ((j ≡ i) × (p ≡ held v)) ⊎ ((j ≢ i) × (R.machine.node j ≡ held v)) → R.machine.node j ≡ held v
-      back v j (inl t) = absurd (free v t.1)
-      back v j (inr t) = t.1
 
   pub first_step : (s : State (Option X) (View S)) (R : Kept right key s) (id i : ℕ) (x : X) (r : Record)
       → get_elem? s.views id ≡ some (view_of key (r ∷ [])) → r.node ≡ Some i → r.mark ≡ None → 1 < i

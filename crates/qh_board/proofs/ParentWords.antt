@@ -38,22 +38,20 @@ module _ {S X : Type 0} (right : S → (ℕ → Type 0) → X → Type 0) (key :
       → m.node i ≡ held w → 1 < i → (n : ℕ) → n ≡ settled (m.node (2 * parent i)) + settled (m.node (2 * parent i + 1))
       → (n ≡ 0 → m.node (sibling i) ≢ parked) × (n ≢ 0 → (m.node (sibling i) ≡ parked) × (n ≡ 1))
   sibling_is m g some_blocks i w mine lo n is = let n_ = near i lo in let mine0 : settled (m.node i) ≡ 0 = ap settled mine in
-      let one : n ≡ settled (m.node (sibling i)) = by_pair n_.both mine0 in by_place (m.node (sibling i)) refl one
+      let one : n ≡ settled (m.node (sibling i)) = elim n_.both [
+        | inl t ↦ (let a = ap (λ (k : ℕ). settled (m.node k)) t.0 in let b = ap (λ (k : ℕ). settled (m.node k)) t.1 in omega arith)
+        | inr t ↦ (let a = ap (λ (k : ℕ). settled (m.node k)) t.0 in let b = ap (λ (k : ℕ). settled (m.node k)) t.1 in omega arith)
+      ] in by_place (m.node (sibling i)) refl one
     where
-      by_pair : ArePair i → settled (m.node i) ≡ 0 → n ≡ settled (m.node (sibling i))
-      by_pair (inl t) z = let a = ap (λ (k : ℕ). settled (m.node k)) t.0 in let b = ap (λ (k : ℕ). settled (m.node k)) t.1 in omega arith
-      by_pair (inr t) z = let a = ap (λ (k : ℕ). settled (m.node k)) t.0 in let b = ap (λ (k : ℕ). settled (m.node k)) t.1 in omega arith
-
       not_used : m.node (sibling i) ≡ used → ⊥
       not_used e = let n_ = near i lo in let q = n_.above_sibling in let pos = n_.positive in
           let up_ : m.node (parent i) ≢ untouched =
           subst (λ (k : ℕ). m.node k ≢ untouched) n_.same (g.up (sibling i) (λ z. omega arith) e) in
           let r = ranged key.blocks key.passes some_blocks m g i (λ e. let f : held w ≡ untouched = sym mine ∙ e in cc) in
-          let k = g.below (parent i) n_.positive (omega arith) up_ in clash n_.both k
-        where
-          clash : ArePair i → (m.node (2 * parent i) ≡ used) × (m.node (2 * parent i + 1) ≡ used) → ⊥
-          clash (inl t) k = let f : held w ≡ used = sym mine ∙ (ap m.node (sym t.0) ∙ k.0) in cc
-          clash (inr t) k = let f : held w ≡ used = sym mine ∙ (ap m.node (sym t.1) ∙ k.1) in cc
+          let k = g.below (parent i) n_.positive (omega arith) up_ in elim n_.both [
+            | inl t ↦ (let f : held w ≡ used = sym mine ∙ (ap m.node (sym t.0) ∙ k.0) in cc)
+            | inr t ↦ (let f : held w ≡ used = sym mine ∙ (ap m.node (sym t.1) ∙ k.1) in cc)
+          ]
 
       by_place : (x : Place) → m.node (sibling i) ≡ x → n ≡ settled (m.node (sibling i))
           → (n ≡ 0 → m.node (sibling i) ≢ parked) × (n ≢ 0 → (m.node (sibling i) ≡ parked) × (n ≡ 1))

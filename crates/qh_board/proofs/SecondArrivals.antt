@@ -8,10 +8,10 @@ use native.Mathlib.Decide.{ℕ_discrete}
 use lib.ListN.{get_elem?}
 use Rattle.atomic_table.specs.Table.{State}
 use Rattle.qh_model.specs.contract.BoardMachine.{Place, untouched, held, parked, used, Machine, Event, arrive_second, Can, after, settled, put, sibling, parent}
-use Rattle.qh_model.proofs.board.{Grown.ranged, Joined.Cases, Joined.same, Joined.spent, Joined.got, Joined.joined, Joined.cases, Joined.fresh, Joined.at_i}
+use Rattle.qh_model.proofs.board.{Grown.ranged, Joined.same, Joined.spent, Joined.got, Joined.joined, Joined.cases, Joined.fresh, Joined.at_i}
 use Rattle.qh_model.proofs.board.{Joined.at_p, Reached.reach_good, Siblings.ArePair, Siblings.near, Updates.put_else}
 use Rattle.qh_board.specs.{contract.Records.come_second, declared.view.Record.Record, declared.view.Setup.Setup, declared.view.View.View}
-use Rattle.qh_board.specs.steps.{Rule.one_if, Rule.Agrees, Rule.Kept, Shown.mark_of, Views.view_of}
+use Rattle.qh_board.specs.steps.{Rule.one_if, Rule.Kept, Shown.mark_of, Views.view_of}
 use Rattle.qh_board.proofs.{ParentWords.arrivals_up, ParentWords.sibling_is, SlotsHome.laid, SlotsHome.length_laid, SlotsHome.load, SlotsHome.slots_laid}
 use Rattle.qh_board.proofs.Steps.{Homes, KeptAfter, SlotsOf, steps, others_keep, slots_put, settled_put, word_else, times_snoc}
 
@@ -64,12 +64,16 @@ module _ {S X : Type 0} (right : S → (ℕ → Type 0) → X → Type 0) (key :
           mark = a.mark;
           seen = a.seen;
           holds = λ j q. let z : parent i ≡ j = cc in subst (λ (k : ℕ). joined m.node w i k ≡ held w) z new_p;
-          alone = λ j q. lone m w r i a holds_ j (cases m.node w i j (held w) q);
+          alone = λ j q. elim (cases m.node w i j (held w) q) [
+            | same x y z t ↦ (let q : Some j ≡ Some i = sym (a.alone j t) ∙ holds_ in absurd (x cc))
+            | spent x t ↦ absurd (cc)
+            | got x t ↦ ap Some (sym x)
+          ];
         };
         others = others_keep right key m (after key.blocks key.passes m e) w (omega arith) (λ v ne. (refl, refl))
             (λ v j ne q. else_ j (λ z. let f : held v ≡ held w = sym q ∙ (ap m.node z ∙ mine) in ne cc)
             (λ z. let f : held v ≡ parked = sym q ∙ (ap m.node z ∙ sib.0) in cc) (λ z. let f : held v ≡ untouched = sym q ∙ (ap m.node z ∙ fr) in cc) ∙ q)
-            (λ v j ne q. back m w i v j ne (cases m.node w i j (held v) q));
+            (λ v j ne q. elim (cases m.node w i j (held v) q) [ same x y z t ↦ t | spent x t ↦ absurd (cc) | got x t ↦ absurd (ne cc) ]);
         drawn = refl;
         got = λ y. refl;
         joins_inner = λ y h. let t = times_snoc y r.joins p in let low = rg in
@@ -85,17 +89,6 @@ module _ {S X : Type 0} (right : S → (ℕ → Type 0) → X → Type 0) (key :
             let other : one_if (p == y) ≡ 0 = ap one_if (ne_eqb p y (λ q. ne (sym q))) in omega arith);
       })
     where
-      lone : (m : Machine) (w : ℕ) (r : Record) (i : ℕ) → Agrees key.passes m r → r.node ≡ Some i → (j : ℕ)
-          → Cases m.node w i j (held r.number) → Some (parent i) ≡ Some j
-      lone m w r i a holds_ j (same x y z t) = let q : Some j ≡ Some i = sym (a.alone j t) ∙ holds_ in absurd (x cc)
-      lone m w r i a holds_ j (spent x t) = absurd (cc)
-      lone m w r i a holds_ j (got x t) = ap Some (sym x)
-
-      back : (m : Machine) (w i v j : ℕ) → v ≢ w → Cases m.node w i j (held v) → m.node j ≡ held v
-      back m w i v j ne (same x y z t) = t
-      back m w i v j ne (spent x t) = absurd (cc)
-      back m w i v j ne (got x t) = absurd (ne cc)
-
       swapped : (a b : Bool) (y : Place) → (if a then used else (if b then used else y)) ≡ (if b then used else (if a then used else y))
       swapped true true y = refl
       swapped true false y = refl
