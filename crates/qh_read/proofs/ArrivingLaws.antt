@@ -1,7 +1,7 @@
 -- The words that arrive from the first byte on are those of the text.
 use Rattle.std.proofs.Common.{◌≡◌, ◌∙◌, [], ◌∷◌, ◌+◌, ◌==◌, ◌++◌, ℕ, List, Bool, true, false, cond, refl, ap, sym, arith, append_assoc, map}
 use Rattle.std.proofs.lemmas.{Bool.Decides.nat_tests, List.map-append}
-use Rattle.std.specs.Prelude.{ℤ, pos, negsuc, Option, Some, None, option_map, nat_le}
+use Rattle.std.specs.Prelude.{ℤ, pos, Option, Some, None, option_map, nat_le}
 use Rattle.qh_model.specs.declared.{form.Form.TheVariants.Off, limits.TheConstants.COORDINATE_LIMIT}
 use Rattle.qh_model.specs.headline.{Numbers.number_of, Words.Word, Words.is_blank}
 use Rattle.qh_read.specs.contract.{Numerals.small_number, Numerals.numeral_of, Numerals.numerals_in, Tokens.cap}
@@ -12,7 +12,6 @@ use Rattle.qh_read.proofs.{OffLexingLaws.off_words-lexed, TokenLaws.grown_by, To
 
 -- a small number is told apart from all others
 small-capped : (o : Option ℤ) → small_number (option_map capped o) ≡ small_number o
-small-capped None = refl
 small-capped (Some (pos n)) = at (nat_le n COORDINATE_LIMIT) refl
   where
     at : (b : Bool) → nat_le n COORDINATE_LIMIT ≡ b → small_number (Some (pos (cap n))) ≡ cond b (Some n) None
@@ -22,7 +21,7 @@ small-capped (Some (pos n)) = at (nat_le n COORDINATE_LIMIT) refl
     at false e =
         let more : nat_le (cap n) COORDINATE_LIMIT ≡ false = grind (arith, nat_tests) in
         ap (λ (b : Bool). cond b (Some (cap n)) None) more
-small-capped (Some (negsuc n)) = refl
+small-capped o = refl
 
 -- the token of a word under way
 abbrev under : List ℕ → Option Token
@@ -32,9 +31,7 @@ under (c ∷ w) = Some (grown_by Empty (c ∷ w))
 ends : (n : ℕ) (w : List ℕ) → map numeral_of (ended n w) ≡ told_if (under w) n
 ends n [] = refl
 ends n (c ∷ w) =
-    let same = small-capped (number_of (c ∷ w)) in
-    let value = value-number (c ∷ w) in
-    ap (λ (o : Option ℕ). record { number = o; line = n } ∷ []) (sym same ∙ ap small_number (sym value))
+    ap (λ (o : Option ℕ). record { number = o; line = n } ∷ []) (sym (small-capped (number_of (c ∷ w))) ∙ ap small_number (sym (value-number (c ∷ w))))
 
 closes : (ws : List Word) (n : ℕ) (w : List ℕ) → map numeral_of (ws ++ ended n w) ≡ map numeral_of ws ++ told_if (under w) n
 closes ws n w = map-append numeral_of ws (ended n w) ∙ ap (λ (t : List Numeral). map numeral_of ws ++ t) (ends n w)

@@ -50,17 +50,14 @@ coordinates Refused [] zero t = refl
 coordinates Refused (w ∷ ws) zero t = fallen (faults.Long w.line) ws
 coordinates Ignored ws zero t = ap lack (dropped t ws)
 coordinates trailing [] (suc k) t = refl
-coordinates trailing (w ∷ ws) (suc k) t = one (λ z. coordinates trailing ws k (t ++ z ∷ [])) (number_of w.text)
-  where
-    others : Option ReadFault
-    others = coordinates_fault (trailing_fault trailing) k ws
-
-    one : ((z : ℤ) → lack (judged (wants trailing k (t ++ z ∷ [])) ws) ≡ others) → (o : Option ℤ)
-        → lack (judged (after (wants trailing (suc k) t) (is_off w) (option_map capped o) w.line) ws) ≡ option_or (coordinate_fault o w.line) others
-    one rest None = fallen (faults.BadNumber w.line) ws
-    one rest (Some z) = chosen (is_coordinate (capped z)) (is_coordinate z) (wants trailing k (t ++ capped z ∷ [])) (fails (faults.Range w.line)) ws
-        others (Some (faults.Range w.line)) (same_limit z) (rest (capped z)) (fallen (faults.Range w.line) ws)
-        ∙ either (is_coordinate z) others (faults.Range w.line)
+coordinates trailing (w ∷ ws) (suc k) t = let others = coordinates_fault (trailing_fault trailing) k ws in
+    elim (number_of w.text) as (λ o. lack (judged (after (wants trailing (suc k) t) (is_off w) (option_map capped o) w.line) ws)
+    ≡ option_or (coordinate_fault o w.line) others) [
+      | None ↦ fallen (faults.BadNumber w.line) ws
+      | Some z ↦ chosen (is_coordinate (capped z)) (is_coordinate z) (wants trailing k (t ++ capped z ∷ [])) (fails (faults.Range w.line)) ws
+          others (Some (faults.Range w.line)) (same_limit z) (coordinates trailing ws k (t ++ capped z ∷ [])) (fallen (faults.Range w.line) ws)
+          ∙ either (is_coordinate z) others (faults.Range w.line)
+    ]
 
 -- the count, and then the coordinates
 counts : (trailing : Trailing) (ws : List Word) (z : ℤ) → lack (judged (counted trailing (capped z)) ws) ≡ counted_fault (trailing_fault trailing) z ws

@@ -5,7 +5,8 @@ use Rattle.std.specs.{Char.is_ascii_digit, Prelude.ℤ, Prelude.Option, Prelude.
 use Rattle.qh_model.specs.declared.form.Form.{Form, TheVariants.Qhull, TheVariants.Off}
 use Rattle.qh_model.specs.headline.Words.{Word, is_blank, is_data}
 use Rattle.qh_read.proofs.Lexing.{Lexed, start, ended, closed, begun, marked, next, lexed, words_in}
-use Rattle.qh_read.proofs.{LexingLaws.push_cond, LexingLaws.data_words-lexed, OffLexingLaws.off_words-lexed, ProgressLaws.judged, ProgressLaws.judged-append}
+use Rattle.qh_read.proofs.LexingLaws.{in_cond, push_cond, data_words-lexed}
+use Rattle.qh_read.proofs.{OffLexingLaws.off_words-lexed, ProgressLaws.judged, ProgressLaws.judged-append}
 use Rattle.qh_read.proofs.TokenLaws.{grown_by, value-number, keyword-off}
 use Rattle.qh_read.specs.contract.Holding.{Held, held_at_start, word_ended, held_begun, held_marked, ended_held, next_held, held_by}
 use Rattle.qh_read.specs.contract.{Progress.Progress, Progress.started, Progress.after, Tokens.cap, Tokens.grown, Tokens.value_of, Tokens.is_keyword}
@@ -20,25 +21,18 @@ abbrev solid : Token → Type 0
 solid Empty = ⊥
 solid t = Unit {0}
 
-solid_cond : (b : Bool) (x y : Token) → solid x → solid y → solid (cond b x y)
-solid_cond true x y h k = h
-solid_cond false x y h k = k
-
-solid_digit : (minus : Bool) (n c : ℕ) → solid (cond (is_ascii_digit c) (Digits minus n) Other)
-solid_digit minus n c = solid_cond (is_ascii_digit c) (Digits minus n) Other tt tt
-
 solid_grown : (t : Token) (c : ℕ) → solid (grown t c)
 solid_grown Empty c =
     let keyword : Token = cond (c == 79) (Keyword 1) Other in
     let digit : Token = cond (is_ascii_digit c) (Digits false (c - 48)) keyword in
-    solid_cond (c == 43) (Sign false) (cond (c == 45) (Sign true) digit) tt (solid_cond (c == 45) (Sign true) digit tt
-    (solid_cond (is_ascii_digit c) (Digits false (c - 48)) keyword tt (solid_cond (c == 79) (Keyword 1) Other tt tt)))
-solid_grown (Sign minus) c = solid_digit minus (c - 48) c
-solid_grown (Digits minus n) c = solid_digit minus (cap (10 * n + (c - 48))) c
+    in_cond solid (c == 43) (Sign false) (cond (c == 45) (Sign true) digit) (λ e. tt) (λ e. in_cond solid (c == 45) (Sign true) digit (λ e. tt)
+    (λ e. in_cond solid (is_ascii_digit c) (Digits false (c - 48)) keyword (λ e. tt) (λ e. in_cond solid (c == 79) (Keyword 1) Other (λ e. tt) (λ e. tt))))
+solid_grown (Sign minus) c = in_cond solid (is_ascii_digit c) (Digits minus (c - 48)) Other (λ e. tt) (λ e. tt)
+solid_grown (Digits minus n) c = in_cond solid (is_ascii_digit c) (Digits minus (cap (10 * n + (c - 48)))) Other (λ e. tt) (λ e. tt)
 solid_grown (Keyword letters) c =
     let third : Token = cond (letters == 2) (Keyword 3) Other in
-    solid_cond (c == 70) (cond (letters == 1) (Keyword 2) third) Other
-    (solid_cond (letters == 1) (Keyword 2) third tt (solid_cond (letters == 2) (Keyword 3) Other tt tt)) tt
+    in_cond solid (c == 70) (cond (letters == 1) (Keyword 2) third) Other
+    (λ e. in_cond solid (letters == 1) (Keyword 2) third (λ e. tt) (λ e. in_cond solid (letters == 2) (Keyword 3) Other (λ e. tt) (λ e. tt))) (λ e. tt)
 solid_grown Other c = tt
 
 solid_by : (w : List ℕ) (t : Token) → solid t → solid (grown_by t w)

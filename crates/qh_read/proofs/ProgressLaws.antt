@@ -101,22 +101,21 @@ front_filled Ignored (w ∷ ws) zero t u h =
       filled = record { more = []; are = refl; all = cc (append-nil t, told); count = refl; limit = tt };
     }
 front_filled trailing [] (suc k) t u h = cc
-front_filled trailing (w ∷ ws) (suc k) t u h = one (λ z. front_filled trailing ws k (t ++ z ∷ []) u) (number_of w.text) refl h
-  where
-    one : ((z : ℤ) → filled_in (judged (wants trailing k (t ++ z ∷ [])) ws) ≡ Some u → FrontFilled trailing ws k (t ++ z ∷ []) u)
-        → (o : Option ℤ) → number_of w.text ≡ o → filled_in (judged (after (wants trailing (suc k) t) (is_off w) (option_map capped o) w.line) ws) ≡ Some u
-        → FrontFilled trailing (w ∷ ws) (suc k) t u
-    one rest None e h = cc (ap filled_in (stays (faults.BadNumber w.line) ws))
-    one rest (Some z) e h =
-        let taken = in_range (wants trailing k) ws t u w.line z h in
-        let others = rest (capped z) taken.2 in
-        record {
-          front = w ∷ others.front;
-          rest = others.rest;
-          are = ap (λ (x : List Word). w ∷ x) others.are;
-          last = others.last;
-          filled = filled_more w others.front k t u z e taken.0 taken.1 others.filled;
-        }
+front_filled trailing (w ∷ ws) (suc k) t u h =
+    elim (number_of w.text) as (λ o. number_of w.text ≡ o
+    → filled_in (judged (after (wants trailing (suc k) t) (is_off w) (option_map capped o) w.line) ws) ≡ Some u → FrontFilled trailing (w ∷ ws) (suc k) t u) [
+      | None ↦ λ e h. cc (ap filled_in (stays (faults.BadNumber w.line) ws))
+      | Some z ↦ λ e h.
+          let taken = in_range (wants trailing k) ws t u w.line z h in
+          let others = front_filled trailing ws k (t ++ capped z ∷ []) u taken.2 in
+          record {
+            front = w ∷ others.front;
+            rest = others.rest;
+            are = ap (λ (x : List Word). w ∷ x) others.are;
+            last = others.last;
+            filled = filled_more w others.front k t u z e taken.0 taken.1 others.filled;
+          }
+    ] refl h
 
 -- a number of points that is told, and their coordinates
 pub record Counts (trailing : Trailing) (ws : List Word) (u : List ℤ) (z : ℤ) : Type 0 where
