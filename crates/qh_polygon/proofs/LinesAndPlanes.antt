@@ -57,10 +57,7 @@ three_line i j a b c n p q r =
 
 -- points with no difference are equal
 pub same_point : (p q : Vector) → minus q p ≡ origin → p ≡ q
-same_point p q e = vector_path p q (level p.x q.x (ap (λ v. v.x) e)) (level p.y q.y (ap (λ v. v.y) e)) (level p.z q.z (ap (λ v. v.z) e))
-  where
-    level : (a b : ℤ) → b -ℤ a ≡ pos 0 → a ≡ b
-    level a b e = omega (arith, ints)
+same_point p q e = vector_path p q (omega (arith, ints, ap (λ v. v.x) e)) (omega (arith, ints, ap (λ v. v.y) e)) (omega (arith, ints, ap (λ v. v.z) e))
 
 -- ---- planes
 -- the way from a to b, from the ways from i

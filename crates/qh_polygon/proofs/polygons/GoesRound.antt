@@ -1,11 +1,12 @@
 -- The list that goes round the extremes, from a rising list and its turn.
-use Rattle.std.proofs.Common.{ℕ, List, [], ◌∷◌, ◌++◌, arith, ap, sym, subst, inl, inr, ⊎_elim}
+use Rattle.std.proofs.Common.{ℕ, List, [], ◌∷◌, ◌++◌, arith, sym, subst, inl, inr, ⊎_elim}
 use Rattle.std.proofs.lemmas.Int.{ints}
 use Rattle.std.specs.Prelude.{◌≤ℤ◌, ◌<ℤ◌, ◌↔◌}
 use Rattle.qh_model.specs.headline.{Extreme.Extreme, Polygon.TurnsLeft, Sets.In, Sets.Once, Vector.Vector}
-use Rattle.qh_model.proofs.{algebra.VectorIdentities.opposite, lists.Joined.in_append, lists.Joined.of_append, lists.Joined.once_append}
+use Rattle.qh_model.proofs.{algebra.Signs.lt_neg, algebra.VectorIdentities.dot-opposite, algebra.VectorIdentities.opposite, lists.Joined.in_append}
+use Rattle.qh_model.proofs.{lists.Joined.of_append, lists.Joined.once_append}
 use Rattle.qh_model.proofs.polygons.Cycles.{AroundCycle, cycle_map}
-use Rattle.qh_polygon.proofs.polygons.Chain.{IsChained, chain-good}
+use Rattle.qh_polygon.proofs.polygons.Chain.{chain-good}
 use Rattle.qh_polygon.proofs.polygons.{Cycles.cycle-rotate, TurnLaws.RisesBy, TurnLaws.IsChain}
 use Rattle.qh_polygon.proofs.polygons.Turns.{IsFlat, IsKeyed, turn_about, height_of, turn_laws}
 use Rattle.qh_polygon.proofs.polygons.TwoChains.{keyed_opposite, Chains, ring_members, ring_once, ring_round}
@@ -17,35 +18,32 @@ pub record GoesRound (n : Vector) (at : ℕ → Vector) (A : ℕ → Type 0) (q 
   pub once : Once q
   pub round : AroundCycle (TurnsLeft at n q) q
 
--- the two chains close
-closes : (n h : Vector) (at : ℕ → Vector) (A : ℕ → Type 0) → IsFlat n at A → IsKeyed h at A → (p q : ℕ) → A p → A q
-    → height_of h at p <ℤ height_of h at q → height_of (opposite h) at q <ℤ height_of (opposite h) at p
-    → (m : ℕ) (s : List ℕ) (z : ℕ) (r : List ℕ)
-    → IsChain (turn_about n at) (height_of h at) A m s → ((x : ℕ) → A x → height_of h at x ≤ℤ height_of h at m)
-    → IsChain (turn_about n at) (height_of (opposite h) at) A z r → ((x : ℕ) → A x → height_of (opposite h) at x ≤ℤ height_of (opposite h) at z)
-    → GoesRound n at A (turned_onto s (turned_onto r []))
-closes n h at A flat keyed p q ap aq l l' m [] z r g k g' k' = absurd (omega (arith, ints, g.1 p ap, k q aq))
-closes n h at A flat keyed p q ap aq l l' m (a ∷ s) z [] g k g' k' = absurd (omega (arith, ints, l', g'.1 q aq, k' p ap))
-closes n h at A flat keyed p q ap aq l l' m (a ∷ s) z (b ∷ r) g k g' k' =
-    let c : Chains n h at A m (a ∷ s) z (b ∷ r) = record { flat = flat; keyed = keyed; lower = g; upper = g'; last = k; first = k' } in
-    record { members = ring_members n h at A m a s z b r c; once = ring_once n h at A m a s z b r c; round = ring_round n h at A m a s z b r c }
+-- of a set of which one member is higher than another
+module _ (n h : Vector) (at : ℕ → Vector) (A : ℕ → Type 0) (flat : IsFlat n at A) (keyed : IsKeyed h at A) (p q : ℕ) (is_p : A p) (is_q : A q)
+    (apart : height_of h at p <ℤ height_of h at q) where
+  -- the two chains close
+  closes : (m : ℕ) (s : List ℕ) (z : ℕ) (r : List ℕ)
+      → IsChain (turn_about n at) (height_of h at) A m s → ((x : ℕ) → A x → height_of h at x ≤ℤ height_of h at m)
+      → IsChain (turn_about n at) (height_of (opposite h) at) A z r → ((x : ℕ) → A x → height_of (opposite h) at x ≤ℤ height_of (opposite h) at z)
+      → GoesRound n at A (turned_onto s (turned_onto r []))
+  closes m [] z r g k g' k' = absurd (omega (arith, ints, g.1 p is_p, k q is_q))
+  closes m (a ∷ s) z [] g k g' k' =
+      absurd (omega (arith, ints, lt_neg _ _ _ _ (dot-opposite h (at q)) (dot-opposite h (at p)) apart, g'.1 q is_q, k' p is_p))
+  closes m (a ∷ s) z (b ∷ r) g k g' k' =
+      let c : Chains n h at A m (a ∷ s) z (b ∷ r) = record { flat = flat; keyed = keyed; lower = g; upper = g'; last = k; first = k' } in
+      record { members = ring_members n h at A m a s z b r c; once = ring_once n h at A m a s z b r c; round = ring_round n h at A m a s z b r c }
 
--- a rising list, and one that rises the other way round, over the same members
-pub goes_round : (n h : Vector) (at : ℕ → Vector) (A : ℕ → Type 0) → IsFlat n at A → IsKeyed h at A → (p q : ℕ) → A p
-    → A q → height_of h at p <ℤ height_of h at q → height_of (opposite h) at q <ℤ height_of (opposite h) at p
-    → (x₀ : ℕ) (xs : List ℕ) (y₀ : ℕ) (ys : List ℕ) → ((x : ℕ) → In x (x₀ ∷ xs) ↔ A x) → ((x : ℕ) → In x (y₀ ∷ ys) ↔ A x)
-    → RisesBy (height_of h at) x₀ xs → RisesBy (height_of (opposite h) at) y₀ ys
-    → GoesRound n at A (joined (chain (turn_about n at) [] (x₀ ∷ xs)) (chain (turn_about n at) [] (y₀ ∷ ys)))
-goes_round n h at A flat keyed p q ap aq l l' x₀ xs y₀ ys i j r r' =
-    subst (λ v. GoesRound n at A (joined v (chain (turn_about n at) [] (y₀ ∷ ys)))) (sym lo.is)
-    (subst (λ v. GoesRound n at A (joined (lo.top ∷ lo.rest) v)) (sym up.is)
-    (closes n h at A flat keyed p q ap aq l l' lo.top lo.rest up.top up.rest lo.good lo.greatest up.good up.greatest))
-  where
-    lo : IsChained (turn_about n at) (height_of h at) A (chain (turn_about n at) [] (x₀ ∷ xs))
-    lo = chain-good (turn_about n at) (height_of h at) A (turn_laws n h at A flat keyed) x₀ xs i r
-
-    up : IsChained (turn_about n at) (height_of (opposite h) at) A (chain (turn_about n at) [] (y₀ ∷ ys))
-    up = chain-good (turn_about n at) (height_of (opposite h) at) A (turn_laws n (opposite h) at A flat (keyed_opposite h at A keyed)) y₀ ys j r'
+  -- a rising list, and one that rises the other way round, over the same members
+  pub goes_round : (x₀ : ℕ) (xs : List ℕ) (y₀ : ℕ) (ys : List ℕ) → ((x : ℕ) → In x (x₀ ∷ xs) ↔ A x) → ((x : ℕ) → In x (y₀ ∷ ys) ↔ A x)
+      → RisesBy (height_of h at) x₀ xs → RisesBy (height_of (opposite h) at) y₀ ys
+      → GoesRound n at A (joined (chain (turn_about n at) [] (x₀ ∷ xs)) (chain (turn_about n at) [] (y₀ ∷ ys)))
+  goes_round x₀ xs y₀ ys i j r r' =
+      let back = keyed_opposite h at A keyed in
+      let lo = chain-good (turn_about n at) (height_of h at) A (turn_laws n h at A flat keyed) x₀ xs i r in
+      let up = chain-good (turn_about n at) (height_of (opposite h) at) A (turn_laws n (opposite h) at A flat back) y₀ ys j r' in
+      subst (λ v. GoesRound n at A (joined v (chain (turn_about n at) [] (y₀ ∷ ys)))) (sym lo.is)
+      (subst (λ v. GoesRound n at A (joined (lo.top ∷ lo.rest) v)) (sym up.is)
+      (closes lo.top lo.rest up.top up.rest lo.good lo.greatest up.good up.greatest))
 
 -- a turned list has the same members
 pub in-rotate : (xs ys : List ℕ) (x : ℕ) → In x (xs ++ ys) → In x (ys ++ xs)

@@ -1,7 +1,8 @@
 -- Ids in one plane: they are flat across their normal, and three of them, so at least two, are not in line.
-use Rattle.std.proofs.Common.{◌≡◌, ◌≢◌, ℕ, ◌<◌, List, [], ◌∷◌, length, arith, ap, sym, ◌∙◌, refl, inl, inr, ⊎_elim}
-use Rattle.std.proofs.lemmas.Int.{ints}
+use Rattle.std.proofs.Common.{◌≡◌, ◌≢◌, ℕ, ◌<◌, List, [], length, arith, ap, sym, ◌∙◌, refl, inl, inr, ⊎_elim}
+use Rattle.std.proofs.{Common.get_or, lemmas.Bool.cases_lt, lemmas.Int.ints}
 use Rattle.std.specs.Prelude.{pos, neg_ℤ}
+use Rattle.qh_model.proofs.Members.{in_at}
 use Rattle.qh_model.proofs.algebra.{Ring.ring, Ring.Expr.con, Ring.Expr.sub as less, Ring.Expr.neg, Signs.opposite_zero}
 use Rattle.qh_model.proofs.algebra.VectorIdentities.{vec, dotE, put, vector_path, vol-dot}
 use Rattle.qh_model.proofs.extremes.{Dimensions.segment_of_triangle, Directions.square-positive}
@@ -21,14 +22,13 @@ negated c v = ring (put c (put v []))
 
 -- of ids of which three are not in line there are at least two
 pub two_of_triangle : (at : ℕ → Vector) (ids : List ℕ) → HasTriangle at (Members ids) → 1 < length ids
-two_of_triangle at ids t = let s = segment_of_triangle at (Members ids) t in along_list ids s.i s.j s.has_i s.has_j s.differ
-  where
-    along_list : (xs : List ℕ) (a b : ℕ) → In a xs → In b xs → a ≢ b → 1 < length xs
-    along_list [] a b ma mb d = absurd ma
-    along_list (x ∷ []) a b (inl e) (inl f) d = absurd (d (e ∙ sym f))
-    along_list (x ∷ []) a b (inl e) (inr m) d = absurd m
-    along_list (x ∷ []) a b (inr m) mb d = absurd m
-    along_list (x ∷ y ∷ ys) a b ma mb d = omega arith
+two_of_triangle at ids t =
+    let s = segment_of_triangle at (Members ids) t in let p = in_at ids s.i s.has_i in let q = in_at ids s.j s.has_j in
+    elim (cases_lt 1 (length ids)) [
+      | inl l ↦ l
+      | inr h ↦ (let l = p.1 in let m = q.1 in let same : p.0 ≡ q.0 = omega arith in
+          absurd (s.differ (sym p.2 ∙ ap (λ k. get_or ids k 0) same ∙ q.2)))
+    ]
 
 module _ (pts : List Vector) (ids : List ℕ) (n : Vector) (p : IsPlanarSet pts ids n) where
   -- the normal of the three

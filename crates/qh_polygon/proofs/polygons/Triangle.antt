@@ -45,23 +45,18 @@ module _ (pts : List Vector) (n : Vector) (i j k : ℕ) (h : IsPlanarSet pts (i 
 
   -- the three of them do turn
   turns : left n (place pts i) (place pts j) (place pts k) ≡ pos 0 → ⊥
-  turns z = h.area (three_line (place pts i) (place pts j) (place pts h.i) (place pts h.j) (place pts h.k) apart
-      (each h.i h.has_i) (each h.j h.has_j) (each h.k h.has_k))
-    where
-      line : AreInLine (place pts i) (place pts j) (place pts k)
-      line = turn_zero n (place pts i) (place pts j) (place pts k) flat.some (flat.even i j (inl refl) (inr (inl refl)))
-          (flat.even i k (inl refl) (inr (inr (inl refl)))) z
-
-      apart : pos 0 <ℤ dot (minus (place pts j) (place pts i)) (minus (place pts j) (place pts i))
-      apart = square-positive (minus (place pts j) (place pts i))
-          (λ e. ne_of_lt ij (h.set.distinct i j (inl refl) (inr (inl refl)) (same_point (place pts i) (place pts j) e)))
-
-      each : (x : ℕ) → In x (i ∷ j ∷ k ∷ []) → AreInLine (place pts i) (place pts j) (place pts x)
-      each x (inl e) = subst (λ t. AreInLine (place pts i) (place pts j) (place pts t)) (sym e)
-          (in_line-flip (place pts i) (place pts j) (place pts i) (in_line-twice (place pts i) (place pts j)))
-      each x (inr (inl e)) = subst (λ t. AreInLine (place pts i) (place pts j) (place pts t)) (sym e) (in_line-last (place pts i) (place pts j))
-      each x (inr (inr (inl e))) = subst (λ t. AreInLine (place pts i) (place pts j) (place pts t)) (sym e) line
-      each x (inr (inr (inr m))) = absurd m
+  turns z =
+      let at = place pts in
+      let line = turn_zero n (at i) (at j) (at k) flat.some (flat.even i j (inl refl) (inr (inl refl))) (flat.even i k (inl refl) (inr (inr (inl refl)))) z in
+      let apart = square-positive (minus (at j) (at i))
+      (λ e. ne_of_lt ij (h.set.distinct i j (inl refl) (inr (inl refl)) (same_point (at i) (at j) e))) in
+      let each : (x : ℕ) → In x (i ∷ j ∷ k ∷ []) → AreInLine (at i) (at j) (at x) = (λ x. elim [
+        | inl e ↦ subst (λ t. AreInLine (at i) (at j) (at t)) (sym e) (in_line-flip (at i) (at j) (at i) (in_line-twice (at i) (at j)))
+        | inr (inl e) ↦ subst (λ t. AreInLine (at i) (at j) (at t)) (sym e) (in_line-last (at i) (at j))
+        | inr (inr (inl e)) ↦ subst (λ t. AreInLine (at i) (at j) (at t)) (sym e) line
+        | inr (inr (inr m)) ↦ absurd m
+      ]) in
+      h.area (three_line (at i) (at j) (at h.i) (at h.j) (at h.k) apart (each h.i h.has_i) (each h.j h.has_j) (each h.k h.has_k))
 
   -- so one order of them is their polygon
   pub triangle_polygon : IsPolygon (place pts) (Extreme (place pts) (Members (i ∷ j ∷ k ∷ []))) n (triangle (turn_of pts n) i j k)

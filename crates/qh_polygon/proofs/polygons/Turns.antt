@@ -33,24 +33,20 @@ left-last n r t x = ring (put n (put r (put t (put x []))))
 
 -- L t y x = [t - x, y - t]
 left-across : (n t y x : Vector) → left n t y x ≡ bracket n (minus t x) (minus y t)
-unfolding left cross
-left-across n t y x =
-    ring (put n (put t (put y (put x [])))) (dotE (crossE (subE (vec 2) (vec 1)) (subE (vec 3) (vec 1))) (vec 0))
-    (dotE (crossE (subE (vec 1) (vec 3)) (subE (vec 2) (vec 1))) (vec 0)) refl
+left-across n t y x = left-turn n t y x ∙ left-turn n y x t ∙ left-middle n x t y
 
 -- the turn the other way along its first step
 pub left-swap : (n u v w : Vector) → left n u v w ≡ neg_ℤ (left n v u w)
 left-swap n u v w = left-turn n u v w ∙ left-flip n v w u
 
--- there and back is no turn
-pub left-back : (n t y : Vector) → left n t y t ≡ pos 0
-unfolding left cross
-left-back n t y = ring (put n (put t (put y []))) (dotE (crossE (subE (vec 2) (vec 1)) (subE (vec 1) (vec 1))) (vec 0)) (Expr.con (pos 0)) refl
-
--- nor is staying
+-- staying is no turn
 pub left-there : (n t y : Vector) → left n t y y ≡ pos 0
 unfolding left cross
 left-there n t y = ring (put n (put t (put y []))) (dotE (crossE (subE (vec 2) (vec 1)) (subE (vec 2) (vec 1))) (vec 0)) (Expr.con (pos 0)) refl
+
+-- nor is there and back
+pub left-back : (n t y : Vector) → left n t y t ≡ pos 0
+left-back n t y = left-turn n t y t ∙ left-there n y t
 
 -- a higher point lies ahead
 pub forward : (h u v : Vector) → dot h u <ℤ dot h v → pos 0 <ℤ dot h (minus v u)
