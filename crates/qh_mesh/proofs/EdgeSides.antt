@@ -1,5 +1,5 @@
 -- Half-edges by their facet and side.
-use Rattle.std.proofs.Common.{◌≡◌, ℕ, zero, suc, ◌/◌, ◌%◌, ◌<◌, arith, ap, sym, ◌∙◌, refl, subst, List}
+use Rattle.std.proofs.Common.{◌≡◌, ℕ, suc, ◌/◌, ◌%◌, ◌<◌, arith, ap, sym, ◌∙◌, refl, subst, List}
 use Rattle.qh_model.specs.contract.StoredSurface.{StoredFacet, facet_at, surface_of}
 use Rattle.qh_model.specs.contract.Surface.{Side, start, end, Side.first, Side.second, Side.third}
 use Rattle.qh_mesh.specs.contract.Edges.{edge_end, edge_of, edge_start, nth_side, side_no, side_of_edge, twin_of}
@@ -18,10 +18,8 @@ edge-side f third = ap nth_side (let e : edge_of f third % 3 ≡ 2 = omega arith
 
 -- the side of an edge, by what is left of its number
 pub side_left_over : (r : ℕ) → r < 3 → side_no (nth_side r) ≡ r
-side_left_over zero l = refl
-side_left_over (suc zero) l = refl
-side_left_over (suc (suc zero)) l = refl
 side_left_over (suc (suc (suc r))) l = absurd (omega arith)
+side_left_over r l = refl
 
 -- each edge is that of its facet and side
 pub edge_is : (x : ℕ) → edge_of (x / 3) (side_of_edge x) ≡ x

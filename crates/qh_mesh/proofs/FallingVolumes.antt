@@ -21,30 +21,19 @@ live_sum v (f ∷ fs) = cond f.live (v 0) (pos 0) +ℤ live_sum (λ k. v (suc k)
 abbrev part : (ℕ → ℤ) → List StoredFacet → ℕ → ℤ
 part v fs f = cond (facet_at fs f).live (v f) (pos 0)
 
--- where no place counts for more, the sum is no greater
-sum_le : (v w : ℕ → ℤ) (fs gs : List StoredFacet) → ((f : ℕ) → part w gs f ≤ℤ part v fs f) → live_sum w gs ≤ℤ live_sum v fs
-sum_le v w [] [] h = omega (arith, ints)
-sum_le v w [] (g ∷ gs) h =
-    let a = h 0 in let b = sum_le (λ k. v (suc k)) (λ k. w (suc k)) [] gs (λ k. h (suc k)) in omega (arith, ints)
-sum_le v w (f ∷ fs) [] h =
-    let a = h 0 in let b = sum_le (λ k. v (suc k)) (λ k. w (suc k)) fs [] (λ k. h (suc k)) in omega (arith, ints)
-sum_le v w (f ∷ fs) (g ∷ gs) h =
-    let a = h 0 in let b = sum_le (λ k. v (suc k)) (λ k. w (suc k)) fs gs (λ k. h (suc k)) in omega (arith, ints)
-
--- and where one counts for less, the sum is less
-sum_lt : (v w : ℕ → ℤ) (fs gs : List StoredFacet) → ((f : ℕ) → part w gs f ≤ℤ part v fs f)
-    → (f : ℕ) → part w gs f <ℤ part v fs f → live_sum w gs <ℤ live_sum v fs
-sum_lt v w [] [] h f l = absurd (omega (arith, ints, l))
-sum_lt v w [] (g ∷ gs) h zero l = let b = sum_le (λ k. v (suc k)) (λ k. w (suc k)) [] gs (λ k. h (suc k)) in omega (arith, ints)
-sum_lt v w (f ∷ fs) [] h zero l = let b = sum_le (λ k. v (suc k)) (λ k. w (suc k)) fs [] (λ k. h (suc k)) in omega (arith, ints)
-sum_lt v w (f ∷ fs) (g ∷ gs) h zero l =
-    let b = sum_le (λ k. v (suc k)) (λ k. w (suc k)) fs gs (λ k. h (suc k)) in omega (arith, ints)
-sum_lt v w [] (g ∷ gs) h (suc n) l =
-    let a = h 0 in let b = sum_lt (λ k. v (suc k)) (λ k. w (suc k)) [] gs (λ k. h (suc k)) n l in omega (arith, ints)
-sum_lt v w (f ∷ fs) [] h (suc n) l =
-    let a = h 0 in let b = sum_lt (λ k. v (suc k)) (λ k. w (suc k)) fs [] (λ k. h (suc k)) n l in omega (arith, ints)
-sum_lt v w (f ∷ fs) (g ∷ gs) h (suc n) l =
-    let a = h 0 in let b = sum_lt (λ k. v (suc k)) (λ k. w (suc k)) fs gs (λ k. h (suc k)) n l in omega (arith, ints)
+-- where no place counts for more, the sum is no greater, and where one counts for less, the sum is less
+sums : (v w : ℕ → ℤ) (fs gs : List StoredFacet) → ((f : ℕ) → part w gs f ≤ℤ part v fs f)
+    → (live_sum w gs ≤ℤ live_sum v fs) × ((f : ℕ) → part w gs f <ℤ part v fs f → live_sum w gs <ℤ live_sum v fs)
+sums v w [] [] h = (omega (arith, ints), λ f l. absurd (omega (arith, ints, l)))
+sums v w [] (g ∷ gs) h =
+    let a = h 0 in let r = sums (λ k. v (suc k)) (λ k. w (suc k)) [] gs (λ k. h (suc k)) in let b = r.0 in
+    (omega (arith, ints), elim [ zero ↦ λ l. omega (arith, ints) | suc n ↦ λ l. let c = r.1 n l in omega (arith, ints) ])
+sums v w (f ∷ fs) [] h =
+    let a = h 0 in let r = sums (λ k. v (suc k)) (λ k. w (suc k)) fs [] (λ k. h (suc k)) in let b = r.0 in
+    (omega (arith, ints), elim [ zero ↦ λ l. omega (arith, ints) | suc n ↦ λ l. let c = r.1 n l in omega (arith, ints) ])
+sums v w (f ∷ fs) (g ∷ gs) h =
+    let a = h 0 in let r = sums (λ k. v (suc k)) (λ k. w (suc k)) fs gs (λ k. h (suc k)) in let b = r.0 in
+    (omega (arith, ints), elim [ zero ↦ λ l. omega (arith, ints) | suc n ↦ λ l. let c = r.1 n l in omega (arith, ints) ])
 
 -- the signed volume of a stored surface is the sum over its live facets, counted from n
 volume_is : (at : ℕ → Vector) (m : Surface) (q : Vector) (n : ℕ) (fs : List StoredFacet) → signed_volume at (triples_from m (live_from n fs)) q
@@ -111,7 +100,7 @@ module _ (old new : List StoredFacet) (vs : List ℕ) (p : ℕ) (made : List ℕ
     falls_at_apex =
         let f = slice_index vs 0 in let e = in_listed vs f (In-get_or vs 0 0 visible.some) in
         rw (volume_is_sum at new (at p), volume_is_sum at old (at p))
-        (sum_lt (λ g. facet_vol at old g (at p)) (λ g. facet_vol at new g (at p)) old new no_more f (gone_part f e))
+        ((sums (λ g. facet_vol at old g (at p)) (λ g. facet_vol at new g (at p)) old new no_more).1 f (gone_part f e))
 
     -- and with each point, where the meshes are closed
     pub step_falls : (s t u v : ℕ) → IsSoundMesh at old (middle_at at s t u v) → (x : Vector)

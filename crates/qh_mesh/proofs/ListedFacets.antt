@@ -59,10 +59,9 @@ of_sides (v ∷ vs) x (inr (inr (inr i))) =
 -- each side once
 pub once_sides : (vs : List ℕ) → Once vs → Once (sides_of vs)
 once_sides [] o = tt
-once_sides (v ∷ vs) o = (
-  elim [ inl e ↦ omega arith | inr (inl e) ↦ omega arith | inr (inr i) ↦ other first i ],
-  (elim [ inl e ↦ omega arith | inr i ↦ other second i ], (other third, once_sides vs o.1)),
-)
-  where
-    other : (s : Side) → In (edge_of v s) (sides_of vs) → ⊥
-    other s i = o.0 (listed_in vs v (subst (λ f. is_listed vs f ≡ true) (edge-facet v s) (of_sides vs (edge_of v s) i)))
+once_sides (v ∷ vs) o =
+    let other : (s : Side) → In (edge_of v s) (sides_of vs) → ⊥ =
+    (λ s i. o.0 (listed_in vs v (subst (λ f. is_listed vs f ≡ true) (edge-facet v s) (of_sides vs (edge_of v s) i)))) in (
+      elim [ inl e ↦ omega arith | inr (inl e) ↦ omega arith | inr (inr i) ↦ other first i ],
+      (elim [ inl e ↦ omega arith | inr i ↦ other second i ], (other third, once_sides vs o.1)),
+    )
