@@ -3,7 +3,7 @@ use Rattle.std.proofs.Common.{ℕ, List, [], ◌∷◌, ◌++◌, arith, sym, su
 use Rattle.std.proofs.lemmas.Int.{ints}
 use Rattle.std.specs.Prelude.{◌≤ℤ◌, ◌<ℤ◌, ◌↔◌}
 use Rattle.qh_model.specs.headline.{Extreme.Extreme, Polygon.TurnsLeft, Sets.In, Sets.Once, Vector.Vector}
-use Rattle.qh_model.proofs.{algebra.Signs.lt_neg, algebra.VectorIdentities.dot-opposite, algebra.VectorIdentities.opposite, lists.Joined.in_append}
+use Rattle.qh_model.proofs.{algebra.VectorIdentities.opposite, lists.Joined.in_append}
 use Rattle.qh_model.proofs.{lists.Joined.of_append, lists.Joined.once_append}
 use Rattle.qh_model.proofs.polygons.Cycles.{AroundCycle, cycle_map}
 use Rattle.qh_polygon.proofs.polygons.Chain.{chain-good}
@@ -20,15 +20,14 @@ pub record GoesRound (n : Vector) (at : ℕ → Vector) (A : ℕ → Type 0) (q 
 
 -- of a set of which one member is higher than another
 module _ (n h : Vector) (at : ℕ → Vector) (A : ℕ → Type 0) (flat : IsFlat n at A) (keyed : IsKeyed h at A) (p q : ℕ) (is_p : A p) (is_q : A q)
-    (apart : height_of h at p <ℤ height_of h at q) where
+    (apart : height_of h at p <ℤ height_of h at q) (turned : height_of (opposite h) at q <ℤ height_of (opposite h) at p) where
   -- the two chains close
   closes : (m : ℕ) (s : List ℕ) (z : ℕ) (r : List ℕ)
       → IsChain (turn_about n at) (height_of h at) A m s → ((x : ℕ) → A x → height_of h at x ≤ℤ height_of h at m)
       → IsChain (turn_about n at) (height_of (opposite h) at) A z r → ((x : ℕ) → A x → height_of (opposite h) at x ≤ℤ height_of (opposite h) at z)
       → GoesRound n at A (turned_onto s (turned_onto r []))
   closes m [] z r g k g' k' = absurd (omega (arith, ints, g.1 p is_p, k q is_q))
-  closes m (a ∷ s) z [] g k g' k' =
-      absurd (omega (arith, ints, lt_neg _ _ _ _ (dot-opposite h (at q)) (dot-opposite h (at p)) apart, g'.1 q is_q, k' p is_p))
+  closes m (a ∷ s) z [] g k g' k' = absurd (omega (arith, ints, turned, g'.1 q is_q, k' p is_p))
   closes m (a ∷ s) z (b ∷ r) g k g' k' =
       let c : Chains n h at A m (a ∷ s) z (b ∷ r) = record { flat = flat; keyed = keyed; lower = g; upper = g'; last = k; first = k' } in
       record { members = ring_members n h at A m a s z b r c; once = ring_once n h at A m a s z b r c; round = ring_round n h at A m a s z b r c }

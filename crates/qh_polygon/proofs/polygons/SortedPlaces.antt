@@ -49,7 +49,8 @@ round_of : (n : Vector) (at : ℕ → Vector) (A : ℕ → Type 0) → IsFlat n 
     → GoesRound n at A (joined (chain (turn_about n at) [] (x₀ ∷ x₁ ∷ xs)) (chain (turn_about n at) [] L))
 round_of n at A flat keyed x₀ x₁ xs [] i j r f = absurd ((j x₀).1 ((i x₀).0 (inl refl)))
 round_of n at A flat keyed x₀ x₁ xs (y₀ ∷ ys) i j r f =
-    goes_round n order at A flat keyed x₀ x₁ ((i x₀).0 (inl refl)) ((i x₁).0 (inr (inl refl))) r.0 x₀ (x₁ ∷ xs) y₀ ys i j r f
+    goes_round n order at A flat keyed x₀ x₁ ((i x₀).0 (inl refl)) ((i x₁).0 (inr (inl refl))) r.0
+    (lt_neg _ _ _ _ (dot-opposite order (at x₁)) (dot-opposite order (at x₀)) r.0) x₀ (x₁ ∷ xs) y₀ ys i j r f
 
 -- the same of the ids in rising keys
 round_keys : (pts : List Vector) (ids keys : List ℕ) (n : Vector) → Every (IsKeyOf pts ids) keys
