@@ -4,11 +4,12 @@
     scripts/make/programs.py PROGRAM..      from the top of the repository
 
 The script runs `rt ci` over the crates that the programs need and no others, in a copy of the sources below
-`build/programs` that has no wrong bodies. The programs come to `crates/PROGRAM/out`, and the copy goes. It takes all
-processors that the script may run on; `taskset` gives it fewer.
+`build/programs` that has no wrong bodies and no tests of the programs. The programs come to `crates/PROGRAM/out`, and the
+copy goes. It takes all processors that the script may run on; `taskset` gives it fewer.
 
-What the gate passed, `rt` keeps on the machine where it may write beside itself. So a second run, and one after a gate
-over the whole repository, proves nothing again and takes a minute, and a gate after this script goes on from it.
+What a run passed, `rt` keeps on the machine where it may write beside itself. So a second run proves nothing again, and one
+after a gate over the whole repository proves the programs' own crates alone, which have no tests in the copy. A gate after
+this script goes on from it, and proves the programs' own crates once more, with their tests.
 
 The script prints a line for each crate, and what `rt` said of one that is not proved. Then the status is 1.
 """
@@ -24,16 +25,30 @@ from lib.copies import copy_crates, crates_below  # noqa: E402
 from lib.usage import names_given  # noqa: E402
 
 COPY = Path("build/programs")
+# How a program names its tests.
+TESTS = "#[cfg(test)]\nmod tests;\n"
+
+
+def leave_out_tests(sources):
+    """Removes the tests of a program from its sources. They are no part of what is built of it."""
+    top = sources / "main.rt"
+    text = top.read_text(encoding="utf-8")
+    if TESTS in text:
+        top.write_text(text.replace(TESTS, ""), encoding="utf-8")
+        (sources / "tests.rt").unlink(missing_ok=True)
+        shutil.rmtree(sources / "tests", ignore_errors=True)
 
 
 def make_copy(names):
-    """Makes a repository of these crates alone, without their wrong bodies, in a new folder."""
+    """Makes a repository of these crates alone, without wrong bodies and the tests of programs, in a new folder."""
     shutil.rmtree(COPY, ignore_errors=True)
     # `rt ci` wants the top of a repository.
     (COPY / ".git").mkdir(parents=True)
     copy_crates(COPY)
     for folder in (COPY / "crates").iterdir():
         shutil.rmtree(folder / "must-fail" if folder.name in names else folder, ignore_errors=True)
+        if (folder / "src/main.rt").exists():
+            leave_out_tests(folder / "src")
     wanted = [line for line in Path("crates.txt").read_text().splitlines() if line.partition(":")[0].split(" ")[0] in names]
     (COPY / "crates.txt").write_text("".join(f"{line}\n" for line in wanted))
 
@@ -67,9 +82,15 @@ def passed():
     return gate.returncode
 
 
+def end_once(number, _):
+    """Ends the script at a signal. The next one is ignored: `make` passes on one that its whole group gets."""
+    signal.signal(number, signal.SIG_IGN)
+    sys.exit(128 + number)
+
+
 def main():
     # At SIGTERM the gate ends and the copy goes, as at an interrupt.
-    signal.signal(signal.SIGTERM, lambda *_: sys.exit(128 + signal.SIGTERM))
+    signal.signal(signal.SIGTERM, end_once)
     programs = names_given(__doc__)
     if not programs:
         sys.exit("name a program: scripts/make/programs.py PROGRAM..")

@@ -10,7 +10,7 @@ from pathlib import Path
 PROGRAMS = Path(__file__).resolve().parents[1] / "make" / "programs.py"
 RT = """#!/bin/sh
 [ "$*" = ci ] && [ -d .git ] && [ -f HANDLES ] || exit 2
-{ cat crates.txt; find crates -type f | sort; } > ../../seen
+{ cat crates.txt; find crates -type f | sort; cat crates/program/src/main.rt; } > ../../seen
 echo "rt: $(cut -d: -f1 crates.txt | cut -d' ' -f1 | head -n 1) proved"
 if [ -e crates/program/src/wrong ]; then
     echo 'what is wrong'
@@ -52,10 +52,26 @@ class Programs(unittest.TestCase):
         self.assertTrue((self.top / "crates/program/out/earlier").exists())
         self.assertFalse((self.top / "build/programs").exists())
 
-    def test_other_crates_wrong_bodies_and_what_was_built_are_not_copied(self):
+    def write(self, path, text):
+        (self.top / path).parent.mkdir(parents=True, exist_ok=True)
+        (self.top / path).write_text(text)
+
+    def test_other_crates_wrong_bodies_tests_and_what_was_built_are_not_copied(self):
+        self.write("crates/program/src/main.rt", "mod text;\n#[cfg(test)]\nmod tests;\n\nfn main() {}\n")
+        self.write("crates/program/src/tests.rt", "mod a;\n")
+        self.write("crates/program/src/tests/a.rt", "")
         self.made("program")
         wanted = ["below:", "program: below std", "crates/below/src/lib.rt", "crates/program/src/main.rt"]
-        self.assertEqual((self.top / "seen").read_text().split("\n"), [*wanted, ""])
+        self.assertEqual((self.top / "seen").read_text(), "\n".join([*wanted, "mod text;", "", "fn main() {}", ""]))
+
+    def test_tests_of_libraries_and_what_no_line_names_are_copied(self):
+        self.write("crates/below/src/lib.rt", "#[cfg(test)]\nmod tests;\n")
+        self.write("crates/below/src/tests.rt", "")
+        self.write("crates/program/src/tests.rt", "")
+        self.made("program")
+        seen = (self.top / "seen").read_text().split("\n")
+        self.assertIn("crates/below/src/tests.rt", seen)
+        self.assertIn("crates/program/src/tests.rt", seen)
 
     def test_what_the_gate_says_of_a_crate_that_failed_is_told(self):
         (self.top / "crates/program/src/wrong").touch()
@@ -71,8 +87,10 @@ class Programs(unittest.TestCase):
         run = subprocess.Popen([sys.executable, PROGRAMS, "program"], cwd=self.top, env=environment, stdout=subprocess.DEVNULL)
         while not (self.top / "number").exists() or not (self.top / "number").read_text():
             time.sleep(0.01)
-        run.terminate()
-        self.assertEqual(run.wait(), 143)
+        while run.poll() is None:
+            run.terminate()
+            time.sleep(0.001)
+        self.assertEqual(run.returncode, 143)
         self.assertFalse(Path("/proc", (self.top / "number").read_text().strip()).exists())
         self.assertFalse((self.top / "build/programs").exists())
 
