@@ -16,6 +16,10 @@ pub each_more : {X : Type 0} (P : X → Type 0) (x : X) (xs : List X) → P x �
 each_more P x xs p r y (inl e) = subst P (sym e) p
 each_more P x xs p r y (inr i) = r y i
 
+-- what holds of three holds of each of them
+pub each_of_three : {X : Type 0} (P : X → Type 0) (x y z : X) → P x → P y → P z → (l : X) → In l (x ∷ y ∷ z ∷ []) → P l
+each_of_three P x y z p q r = each_more P x (y ∷ z ∷ []) p (each_more P y (z ∷ []) q (each_more P z [] r (λ l n. absurd n)))
+
 -- the element at an index is a member
 pub In-get_or : {X : Type 0} (xs : List X) (k : ℕ) (d : X) → k < length xs → In (get_or xs k d) xs
 In-get_or [] k d h = absurd (omega arith)

@@ -115,7 +115,7 @@ number_tests = record { same = eqb-true; itself = eqb-refl }
 prod-drop_first : (f : ℕ → ℤ) (x : ℕ) (ys : List ℕ) → 0 < count (eqb x) ys → prod_z f ys ≡ f x *ℤ prod_z f (drop_first (eqb x) ys)
 prod-drop_first f = taken_out eqb number_tests (λ x s. f x *ℤ s) (λ x y s. mul_swap (f x) (f y) s) (prod_z f) (λ x xs. refl)
 
--- each member stands in it
+-- each member of a list stands in it
 all_there : (xs : List ℕ) → Each (λ x. 0 < count (eqb x) xs) xs
 all_there [] = tt
 all_there (x ∷ xs) = (

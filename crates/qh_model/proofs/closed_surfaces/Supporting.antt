@@ -13,7 +13,7 @@ use Rattle.qh_model.proofs.algebra.{Order.mul-nonneg_nonpos, Order.zero_or_not, 
 use Rattle.qh_model.proofs.algebra.VectorIdentities.{vec, put, dotE, oppositeE, opposite, dot-opposite, dot_comm, in_line-vol, vol-first, vol-second, vol-third}
 use Rattle.qh_model.proofs.closed_surfaces.{Beyond.scaled, Beyond.beyond, Beyond.vol-beyond, Beyond.dot-past, Cancellation.none_below_and_beyond}
 use Rattle.qh_model.proofs.extremes.Directions.{positive_along, dot_along, along_or_opposite, square-positive, from_plane}
-use Rattle.qh_model.proofs.{Members.each_more, extremes.ExtremeIds.separated, surfaces.PerturbedInwards.bound}
+use Rattle.qh_model.proofs.{Members.each_more, Members.each_of_three, extremes.ExtremeIds.separated, surfaces.PerturbedInwards.bound}
 use Rattle.qh_model.proofs.polygons.PlaneTurns.{level_parallel}
 
 -- one of the list has P, or all have Q
@@ -130,14 +130,8 @@ module _ (at : ℕ → Vector) (A : ℕ → Type 0) (i j k : ℕ) (plane : IsSup
               height : (q : Vector) → vol (at i) (at j) (at k) q ≡ pos 0 → dot n (minus (at l) q) ≤ℤ pos 0
               height q e = subst (λ x. x ≤ℤ pos 0) (sym (from_plane (at i) (at j) (at k) q (at l) e)) (plane.supports l h)
 
-          member : (t : Triple) → In t ts → (l : ℕ) → In l (t.i ∷ t.j ∷ t.k ∷ []) → A l
-          member t r l (inl e) = subst A (sym e) (supporting t r).has_i
-          member t r l (inr (inl e)) = subst A (sym e) (supporting t r).has_j
-          member t r l (inr (inr (inl e))) = subst A (sym e) (supporting t r).has_k
-          member t r l (inr (inr (inr x))) = absurd x
-
           past : (l : ℕ) → IsCornerOf ts l → dot n (up l) <ℤ dot n p
-          past l (t, r, h) = further l (member t r l h)
+          past l (t, r, h) = let s = supporting t r in further l (each_of_three A t.i t.j t.k s.has_i s.has_j s.has_k l h)
 
 -- the law
 pub closed_miss_no_plane : ClosedMissNoPlane
@@ -171,18 +165,12 @@ closed_miss_no_extreme at ids ts closed supporting e extreme =
     none below s = none_below_and_beyond at ts closed s.w (at e) past below
       where
         past : (l : ℕ) → IsCornerOf ts l → dot s.w (at l) <ℤ dot s.w (at e)
-        past l (t, r, h) = s.past l (corner h)
+        past l (t, r, h) = s.past l (each_of_three Rest t.i t.j t.k (other t.i own.has_i (vol-first (at t.i) (at t.j) (at t.k)))
+            (other t.j own.has_j (vol-second (at t.i) (at t.j) (at t.k))) (other t.k own.has_k (vol-third (at t.i) (at t.j) (at t.k))) l h)
           where
-            -- a corner is another id, since e is below the triangle
-            other : (c : ℕ) → Members ids c → vol (at t.i) (at t.j) (at t.k) (at c) ≡ pos 0 → l ≡ c → Rest l
-            other c m z q = (
-              subst (Members ids) (sym q) m,
-              λ d. less_differ (height t) (pos 0) (below t r)
-                  (subst (λ a. vol (at t.i) (at t.j) (at t.k) (at a) ≡ pos 0) (sym q ∙ d) z),
-            )
+            own : IsSupportingTriple at (Members ids) t.i t.j t.k
+            own = supporting t r
 
-            corner : In l (t.i ∷ t.j ∷ t.k ∷ []) → Rest l
-            corner (inl q) = other t.i (supporting t r).has_i (vol-first (at t.i) (at t.j) (at t.k)) q
-            corner (inr (inl q)) = other t.j (supporting t r).has_j (vol-second (at t.i) (at t.j) (at t.k)) q
-            corner (inr (inr (inl q))) = other t.k (supporting t r).has_k (vol-third (at t.i) (at t.j) (at t.k)) q
-            corner (inr (inr (inr x))) = absurd x
+            -- a corner is another id, since e is below the triangle
+            other : (c : ℕ) → Members ids c → vol (at t.i) (at t.j) (at t.k) (at c) ≡ pos 0 → Rest c
+            other c m z = (m, λ d. less_differ (height t) (pos 0) (below t r) (subst (λ a. vol (at t.i) (at t.j) (at t.k) (at a) ≡ pos 0) d z))

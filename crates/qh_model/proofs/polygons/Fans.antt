@@ -5,7 +5,7 @@ use Rattle.qh_model.specs.contract.{FaceTriangles.face_triangles, IdSets.HasDist
 use Rattle.qh_model.specs.headline.{Fan.triangles_along, Fan.fan, Polygon.FollowsAlong, Polygons.IsFacePolygon, Predicates.cross, Predicates.vol}
 use Rattle.qh_model.specs.headline.{Predicates.left, Sets.In, Sets.Members, SupportingPlane.IsSupportingTriple, Vector.Vector, Vector.dot}
 use Rattle.qh_model.specs.laws.{FanLaws.CornersSupport, FanLaws.FansSupport, FanLaws.IsSupportingTriangle}
-use Rattle.qh_model.proofs.Members.{All-In, All-of}
+use Rattle.qh_model.proofs.Members.{All-In, All-of, each_of_three}
 use Rattle.qh_model.proofs.algebra.{Order.cancel-nonpos, Order.mul-nonneg_nonpos, Order.positive_le, Signs.less_differ}
 use Rattle.qh_model.proofs.algebra.VectorIdentities.{vol-first, in_line-left, left-turn}
 use Rattle.qh_model.proofs.{extremes.Directions.square-positive, extremes.SpanningTriples.planes_of_extremes, lists.Joined.of_flat_map}
@@ -53,8 +53,7 @@ triangle_members [] t m i h = absurd m
 triangle_members (a ∷ []) t m i h = absurd m
 triangle_members (a ∷ b ∷ r) t m i h =
     let s = triangle_along a b r t m in
-    ⊎_elim (λ e. inl e) (λ j. ⊎_elim (λ e. inr (subst (λ x. In x (b ∷ r)) (sym e) s.has_v)) (λ k.
-    ⊎_elim (λ e. inr (inr (subst (λ x. In x r) (sym e) s.has_w))) (λ n. absurd n) k) j) (subst (In i) s.is h)
+    each_of_three (λ j. In j (a ∷ b ∷ r)) a s.v s.w (inl refl) (inr s.has_v) (inr (inr s.has_w)) i (subst (In i) s.is h)
 
 -- what holds for the ids of a face holds for those of its triangles
 pub triangles_all : (P : ℕ → Type 0) (q : List ℕ) → All P q → All (All P) (face_triangles q)

@@ -80,7 +80,7 @@ module _ (at : ℕ → Vector) (ids : List ℕ) (d : HasDistinctPoints at (Membe
       none : ((g : ℕ) → In g ids → marked g ≡ true → ⊥) → ⊥
       none f = some_below (λ l h r. f l h (told (less_or_not (height l) (pos 0)) r))
 
-      -- no member comes before the first by the volumes with x and with a first one
+      -- the member that comes first by its volumes with x and with the first one found
       from_both : (b : Least marked (λ l. vol (at v) (at u) (at x.w) (at l)) (λ l. pos 0) ids)
           → Least marked (λ l. vol (at v) (at u) (at x.w) (at l)) (λ l. vol (at v) (at u) (at b.m) (at l)) ids → Next
       from_both b m = record {

@@ -37,7 +37,12 @@ module _ {at at' : ℕ → Vector} {A B : ℕ → Type 0} {f g : ℕ → ℕ} (r
   edge_count_renamed qs n within c = record {
     list = map both c.list;
     once = once_map both c.list (λ p q i j e. same p q (edge p i) (edge q j) e) c.once;
-    all = λ u v. (λ m. there u v (of_map both c.list (u, v) m), λ e. back u v (of_edge_renamed qs within u v e));
+    all = λ u v. (
+      λ m. let (p, i, e) = of_map both c.list (u, v) m in
+          subst (λ (x : ℕ × ℕ). IsEdge (map (map f) qs) x.0 x.1) (sym e) (edge_renamed qs within p.0 p.1 (edge p i)),
+      λ e. let (a, b, old, d, s) = of_edge_renamed qs within u v e in
+          subst (λ x. In x (map both c.list)) (λ i. (sym d i, sym s i)) (in_map both c.list (a, b) ((c.all a b).1 old)),
+    );
     count = length-map c.list both ∙ c.count;
   }
     where
@@ -54,9 +59,3 @@ module _ {at at' : ℕ → Vector} {A B : ℕ → Type 0} {f g : ℕ → ℕ} (r
           let first = renaming_apart r p.0 q.0 ends_p.0 ends_q.0 (ap (λ (x : ℕ × ℕ). x.0) h) in
           let second = renaming_apart r p.1 q.1 ends_p.1 ends_q.1 (ap (λ (x : ℕ × ℕ). x.1) h) in
           λ i. (first i, second i)
-
-      there : (u v : ℕ) → (p : ℕ × ℕ) × In p c.list × ((u, v) ≡ both p) → IsEdge (map (map f) qs) u v
-      there u v (p, i, e) = subst (λ (x : ℕ × ℕ). IsEdge (map (map f) qs) x.0 x.1) (sym e) (edge_renamed qs within p.0 p.1 (edge p i))
-
-      back : (u v : ℕ) → (a : ℕ) × (b : ℕ) × IsEdge qs a b × (u ≡ f a) × (v ≡ f b) → In (u, v) (map both c.list)
-      back u v (a, b, e, d, s) = subst (λ x. In x (map both c.list)) (λ i. (sym d i, sym s i)) (in_map both c.list (a, b) ((c.all a b).1 e))
