@@ -60,10 +60,6 @@ module _ (old new : List StoredFacet) (vs : List ℕ) (p : ℕ) (made : List ℕ
   abbrev after : ℕ → ℤ
   after f = part (λ g. facet_vol at new g (at p)) new f
 
-  -- a facet that stays counts what it did
-  stays_part : (f : ℕ) → IsKept old vs f → after f ≡ before f
-  stays_part f k = let s = d.replaced.kept f k in rw (s.live, k.live, s.i_is, s.j_is, s.k_is) refl
-
   -- one of the cone has the apex for a corner
   cone_part : (f : ℕ) → In f made → facet_vol at new f (at p) ≡ pos 0
   cone_part f i =
@@ -85,12 +81,13 @@ module _ (old new : List StoredFacet) (vs : List ℕ) (p : ℕ) (made : List ℕ
         let l = listed_live old vs d.facets f e in
         rw (other_part f (λ k. both_ways (is_listed vs f) k.unlisted e), l) (visible.seen f l e)
 
-    -- and no place counts for more
+    -- and no place counts for more: a facet that stays counts what it did
     no_more : (f : ℕ) → after f ≤ℤ before f
     no_more f = elim (cases_Bool (is_listed vs f)) [
       | inl e ↦ less_le (after f) (before f) (gone_part f e)
       | inr u ↦ elim (cases_Bool (facet_at old f).live) [
-        | inl l ↦ equal_le (after f) (before f) (stays_part f (record { live = l; unlisted = u }))
+        | inl l ↦ (let s = d.replaced.kept f (record { live = l; unlisted = u }) in
+            equal_le (after f) (before f) (rw (s.live, l, s.i_is, s.j_is, s.k_is) refl))
         | inr b ↦ equal_le (after f) (before f) (other_part f (λ k. both_ways (facet_at old f).live b k.live) ∙ rw b refl)
       ]
     ]

@@ -29,15 +29,12 @@ only_word n (c ∷ w) h = ap (λ t. on_line n (filter is_word t)) (split_whole i
 ends : (n : ℕ) (w l : List ℕ) → Clear is_blank w → Clear is_hash w → before_hash l ≡ [] → on_line n (line_words (w ++ l)) ≡ ended n w
 ends n w l h d e = ap (λ (t : List ℕ). on_line n (words_of t)) (hash_later w l d ∙ ap (λ (t : List ℕ). w ++ t) e ∙ append-nil w) ∙ only_word n w h
 
--- a blank is no `#`
-blank_plain : (c : ℕ) → is_blank c ≡ true → is_hash c ≡ false
-blank_plain c e = grind (arith, nat_tests)
-
 -- a blank ends the word under way
 blank_ends : (n : ℕ) (w : List ℕ) (c : ℕ) (l : List ℕ) → Clear is_blank w → Clear is_hash w → is_blank c ≡ true
     → on_line n (line_words (w ++ c ∷ l)) ≡ ended n w ++ on_line n (line_words l)
 blank_ends n w c l h d e =
-    ap (λ (t : List ℕ). on_line n (words_of t)) (hash_later w (c ∷ l) d ∙ ap (λ (t : Bool). w ++ cond t [] (c ∷ before_hash l)) (blank_plain c e))
+    let plain : is_hash c ≡ false = grind (arith, nat_tests, e) in
+    ap (λ (t : List ℕ). on_line n (words_of t)) (hash_later w (c ∷ l) d ∙ ap (λ (t : Bool). w ++ cond t [] (c ∷ before_hash l)) plain)
     ∙ ap (λ t. on_line n (filter is_word t)) (split_clear is_blank w c (before_hash l) h e)
     ∙ elim w as (λ u. on_line n (filter is_word (u ∷ slice_split is_blank (before_hash l))) ≡ ended n u ++ on_line n (line_words l))
     [ [] ↦ refl | b ∷ u ↦ refl ]

@@ -8,15 +8,11 @@ use Rattle.qh_read.specs.contract.{Holding.Fed, ReadFaults.read_fault, ReadFault
 use Rattle.qh_read.specs.{declared.fault.FeedFault.FeedFault, declared.whole.TheConstants.PIECE_LENGTH, steps.Sources.Stops}
 use Rattle.qh_read.proofs.SourceLemmas.{Consumes-append, Stops-equal}
 
--- `Big` comes of `Big` alone
-only_big : (f : FeedFault) → read_fault f ≡ faults.Big → f ≡ refusals.Big
-only_big refusals.Big h = refl
-only_big refusals.Memory h = cc
-
--- `Memory` of `Memory` alone
-only_memory : (f : FeedFault) → read_fault f ≡ faults.Memory → f ≡ refusals.Memory
-only_memory refusals.Big h = cc
-only_memory refusals.Memory h = refl
+-- each fault comes of one refusal alone
+same_refusal : (f h : FeedFault) → read_fault f ≡ read_fault h → f ≡ h
+same_refusal refusals.Big refusals.Big e = refl
+same_refusal refusals.Memory refusals.Memory e = refl
+same_refusal f h e = cc
 
 -- and no fault of the device or the text of either
 no_device : (f : FeedFault) → read_fault f ≡ faults.Device → ⊥
@@ -76,7 +72,7 @@ returns-in_err-feed-clause-stops g c =
     let stops : Stops (read_fault f) c.args.reader.now.count (g.S.Source.remaining c.args.source.now) (g.S.Source.remaining new)
     (g.S.Source.failure_count c.args.source.now) (g.S.Source.failure_count new) = record {
       big = λ e.
-          let passed : BYTE_LIMIT < c.loop-source.reader.count + length fed = c.in_err-feed.ensures.big.0 (ap Err (only_big f e)) in (
+          let passed : BYTE_LIMIT < c.loop-source.reader.count + length fed = c.in_err-feed.ensures.big.0 (ap Err (same_refusal f refusals.Big e)) in (
             s.given ++ piece,
             took,
             (
@@ -87,7 +83,7 @@ returns-in_err-feed-clause-stops g c =
       big_first = λ e.
           let within : c.loop-source.reader.count + length fed ≤ BYTE_LIMIT =
           elim (cases_lt BYTE_LIMIT (c.loop-source.reader.count + length fed)) [
-            | inl passed ↦ (let b = c.in_err-feed.ensures.big.1 passed in let m = only_memory f e in cc)
+            | inl passed ↦ (let b = c.in_err-feed.ensures.big.1 passed in let m = same_refusal f refusals.Memory e in cc)
             | inr h ↦ h
           ] in (
             s.given ++ piece,
