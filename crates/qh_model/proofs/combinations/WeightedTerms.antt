@@ -174,7 +174,7 @@ mixed {A} n f a xs s l c m = record {
 abbrev Claim : (A : Type 0) → ℕ → Type 0
 Claim A n = (f : A → V n) (xs : List A) → Balanced A n f xs ⊎ Separated A n f xs
 
--- one more vector: it is 0, or the space is cut along it, and the answer is that one dimension lower
+-- one more vector: it is 0, or the space is cut along it, and the answer is the one in a dimension less
 flat_or_cut : {A : Type 0} (n : ℕ) → Claim A n → (f : A → V (suc n)) (a : A) (xs : List A) (s : Separated A (suc n) f xs) → pos 0 ≤ℤ dot (suc n) s.w (f a)
     → Flat (suc n) (f a) ⊎ Cut n (f a) → Balanced A (suc n) f (a ∷ xs) ⊎ Separated A (suc n) f (a ∷ xs)
 flat_or_cut n low f a xs s l (inl z) = inl (alone (suc n) f a xs z)
