@@ -1,8 +1,7 @@
 -- Coordinates that code takes from points and makes points of.
-use Rattle.std.proofs.Common.{◌≡◌, ◌∙◌, ◌<◌, ◌^◌, sym, subst, ◌⊎◌, inl, inr}
+use Rattle.std.proofs.Common.{◌≡◌, ◌∙◌, ◌<◌, ◌^◌, sym, subst}
 use Rattle.std.proofs.lemmas.Int.{to_z-of_z}
 use Rattle.std.specs.Prelude.{ℤ, pos, ◌<ℤ◌, ◌≤ℤ◌}
-use Rattle.qh_model.specs.headline.Limits.{IsCoordinate}
 use Rattle.qh_pred.specs.contract.Ranges.{IsFarEnd}
 use lib.Signed.{mag}
 use mir.Syntax.{Width, w32, w128}
@@ -11,27 +10,6 @@ use mir.Val.{hbits, to_z, of_z}
 -- code keeps a number that fits
 kept : (w : Width) (z : ℤ) → mag z < 2 ^ hbits w → to_z w (of_z w z) ≡ z
 kept w z fits = to_z-of_z w z (record { sfits = fits })
-
--- a coordinate r, made of a number that is not above x, is not above p, which is x
-pub made_below : (r l x p : ℤ) → r ≡ to_z w32 (of_z w32 l) → mag l < 2 ^ hbits w32 → mag x < 2 ^ hbits w32 → x ≡ p
-    → l ≤ℤ to_z w32 (of_z w32 x) → r ≤ℤ p
-made_below r l x p e fl fx is h =
-    subst (λ z. z ≤ℤ p) (sym (e ∙ kept w32 l fl)) (subst (λ z. l ≤ℤ z) (kept w32 x fx ∙ is) h)
-
--- the same from above
-pub made_above : (r l x p : ℤ) → r ≡ to_z w32 (of_z w32 l) → mag l < 2 ^ hbits w32 → mag x < 2 ^ hbits w32 → x ≡ p
-    → to_z w32 (of_z w32 x) ≤ℤ l → p ≤ℤ r
-made_above r l x p e fl fx is h =
-    subst (λ z. p ≤ℤ z) (sym (e ∙ kept w32 l fl)) (subst (λ z. z ≤ℤ l) (kept w32 x fx ∙ is) h)
-
--- one of two coordinates is in range
-pub one_in_range : (l x y p q : ℤ) → mag l < 2 ^ hbits w32 → mag x < 2 ^ hbits w32 → mag y < 2 ^ hbits w32 → x ≡ p → y ≡ q
-    → (l ≡ to_z w32 (of_z w32 x)) ⊎ (l ≡ to_z w32 (of_z w32 y)) → IsCoordinate p → IsCoordinate q
-    → IsCoordinate (to_z w32 (of_z w32 l))
-one_in_range l x y p q fl fx fy ex ey h hp hq = subst IsCoordinate (sym (kept w32 l fl)) (elim h [
-  | inl e ↦ subst IsCoordinate (sym (e ∙ kept w32 x fx ∙ ex)) hp
-  | inr e ↦ subst IsCoordinate (sym (e ∙ kept w32 y fy ∙ ey)) hq
-])
 
 -- a coordinate r, made of the far end of a range
 pub made_far : (a l h e x p q r : ℤ) → r ≡ to_z w32 (of_z w32 e) → mag e < 2 ^ hbits w32 → mag a < 2 ^ hbits w128

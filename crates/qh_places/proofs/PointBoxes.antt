@@ -1,30 +1,16 @@
--- Boxes round points, and boxes below planes: a scalar product over a box is greatest at a corner.
+-- Boxes round points.
 use Rattle.std.proofs.Common.{◌≡◌, ℕ, ◌+◌, ◌<◌, ◌≤◌, arith, subst, ◌∙◌, inl, inr, List, length, get_or}
 use Rattle.std.proofs.lemmas.List.{get_or_default}
 use Rattle.std.proofs.lemmas.Int.{ints}
 use Rattle.std.proofs.lemmas.Bool.{cases_lt}
-use Rattle.std.specs.Prelude.{ℤ, pos, ◌<ℤ◌, ◌≤ℤ◌}
+use Rattle.std.specs.Prelude.{ℤ, ◌≤ℤ◌}
 use Rattle.qh_model.specs.headline.Vector.{Vector, origin}
-use Rattle.qh_pred.specs.contract.Planes.{PlaneValue, height}
-use Rattle.qh_pred.specs.contract.Ranges.{IsFarEnd}
-use Rattle.qh_pred.proofs.Ranges.{greatest}
 use Rattle.qh_places.specs.declared.boxes.PointBox.{PointBox}
 use Rattle.qh_places.specs.steps.Boxes.{IsWithin, IsBoxOf}
 
 pub le_trans : (a b c : ℤ) → a ≤ℤ b → b ≤ℤ c → a ≤ℤ c
 le_trans a b c h k = omega (arith, ints)
 
--- ---- planes
--- a box is below a plane where its corner that lies furthest along the normal is
-pub below_by_corner : (b : PointBox) (plane : PlaneValue) (n q : Vector) → n ≡ plane.normal
-    → IsFarEnd n.x b.low.x b.high.x q.x → IsFarEnd n.y b.low.y b.high.y q.y → IsFarEnd n.z b.low.z b.high.z q.z
-    → height plane q <ℤ pos 0 → (p : Vector) → IsWithin b p → height plane p <ℤ pos 0
-below_by_corner b plane n q e x y z h p w =
-    let at_x = rw e at (greatest n.x b.low.x b.high.x q.x p.x x w.x) in
-    let at_y = rw e at (greatest n.y b.low.y b.high.y q.y p.y y w.y) in
-    let at_z = rw e at (greatest n.z b.low.z b.high.z q.z p.z z w.z) in omega (arith, ints, at_x, at_y, at_z, h)
-
--- ---- points
 -- one more point
 pub box_grows : (points : List Vector) (k : ℕ) (b c : PointBox) (p : Vector) → IsBoxOf points 0 k b
     → ((q : Vector) → IsWithin b q → IsWithin c q) → k < length points → p ≡ get_or points k p → IsWithin c p

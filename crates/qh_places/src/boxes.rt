@@ -1,68 +1,18 @@
 //! Boxes of space with sides along the axes, round points.
-ghost use Rattle.std.specs.Prelude.{◌≡◌, ◌⊎◌, ◌<◌, ◌≤ℤ◌, ◌<ℤ◌, pos, length, IsTrue};
+ghost use Rattle.std.specs.Prelude.{◌≡◌, ◌⊎◌, ◌<◌, ◌<ℤ◌, pos, length, IsTrue};
 ghost use Rattle.qh_model.specs.headline.Vector.{Vector};
 ghost use Rattle.qh_pred.specs.contract.Planes.{height};
 ghost use Rattle.qh_pred.specs.contract.Ranges.{IsFarEnd};
 ghost use Rattle.qh_places.specs.steps.Boxes.{IsWithin, IsBoxOf};
 
 use qh_model::Point;
-use qh_pred::{Normal, Plane};
+use qh_pred::{Normal, Plane, greatest_of, least_of};
 
 /// The points from one corner to the opposite one, these among them.
 #[derive(Clone, Copy, Drop)]
 pub(crate) struct PointBox {
     pub low: Point,
     pub high: Point,
-}
-
-/// Returns the lower one of two points for each coordinate.
-fn low_corner(p: Point, q: Point) -> Point
-    ensures x_p { result.x ≤ℤ p.x }
-    ensures x_q { result.x ≤ℤ q.x }
-    ensures y_p { result.y ≤ℤ p.y }
-    ensures y_q { result.y ≤ℤ q.y }
-    ensures z_p { result.z ≤ℤ p.z }
-    ensures z_q { result.z ≤ℤ q.z }
-{
-    Point::new(
-        lower(p.x(), q.x()),
-        lower(p.y(), q.y()),
-        lower(p.z(), q.z()),
-    )
-}
-
-/// Returns the higher one of two points for each coordinate.
-fn high_corner(p: Point, q: Point) -> Point
-    ensures x_p { p.x ≤ℤ result.x }
-    ensures x_q { q.x ≤ℤ result.x }
-    ensures y_p { p.y ≤ℤ result.y }
-    ensures y_q { q.y ≤ℤ result.y }
-    ensures z_p { p.z ≤ℤ result.z }
-    ensures z_q { q.z ≤ℤ result.z }
-{
-    Point::new(
-        higher(p.x(), q.x()),
-        higher(p.y(), q.y()),
-        higher(p.z(), q.z()),
-    )
-}
-
-/// Returns the lower of two coordinates.
-fn lower(a: i32, b: i32) -> i32
-    ensures end { (result ≡ a) ⊎ (result ≡ b) }
-    ensures below_a { result ≤ℤ a }
-    ensures below_b { result ≤ℤ b }
-{
-    if a < b { a } else { b }
-}
-
-/// Returns the higher of two coordinates.
-fn higher(a: i32, b: i32) -> i32
-    ensures end { (result ≡ a) ⊎ (result ≡ b) }
-    ensures above_a { a ≤ℤ result }
-    ensures above_b { b ≤ℤ result }
-{
-    if a < b { b } else { a }
 }
 
 /// Returns the end of a range at which a product with this factor is greatest.
@@ -80,8 +30,8 @@ impl PointBox {
         ensures others { (q : Vector) → IsWithin self q → IsWithin result q }
     {
         PointBox {
-            low: low_corner(self.low, p),
-            high: high_corner(self.high, p),
+            low: least_of(self.low, p),
+            high: greatest_of(self.high, p),
         }
     }
 

@@ -1,9 +1,10 @@
--- Products over a range of numbers: the greatest is at an end of it.
-use Rattle.std.proofs.Common.{arith}
+-- Products over a range of numbers: the greatest is at an end of it, and that over a box at a corner.
+use Rattle.std.proofs.Common.{◌≡◌, arith}
 use Rattle.std.proofs.lemmas.Int.{ints, by_lt_z}
 use Rattle.std.specs.Prelude.{ℤ, pos, ◌*ℤ◌, neg_ℤ, ◌≤ℤ◌, ◌<ℤ◌}
 use Rattle.qh_model.proofs.algebra.{Order.mul-le, Integers.neg_mul}
-use Rattle.qh_pred.specs.contract.Ranges.{IsBetween, IsFarEnd}
+use Rattle.qh_model.specs.headline.Vector.{Vector}
+use Rattle.qh_pred.specs.contract.{Corners.IsInBox, Planes.PlaneValue, Planes.height, Ranges.IsBetween, Ranges.IsFarEnd}
 
 -- beyond the end of a range to which a factor points products are no less than in the range: with a factor above 0
 -- beyond the greatest number, with one not above 0 beyond the least
@@ -19,3 +20,12 @@ beyond a l h n e above below in_range =
 pub greatest : (a l h e n : ℤ) → IsFarEnd a l h e → IsBetween l n h → (a *ℤ n) ≤ℤ (a *ℤ e)
 greatest a l h e n far in_range =
     beyond a l h n e (λ up. let q = far.0 up in omega (arith, ints)) (λ down. let q = far.1 down in omega (arith, ints)) in_range
+
+-- a box is below a plane where its corner that lies furthest along the normal is
+pub below_by_corner : (low high : Vector) (plane : PlaneValue) (n q : Vector) → n ≡ plane.normal
+    → IsFarEnd n.x low.x high.x q.x → IsFarEnd n.y low.y high.y q.y → IsFarEnd n.z low.z high.z q.z
+    → height plane q <ℤ pos 0 → (p : Vector) → IsInBox low high p → height plane p <ℤ pos 0
+below_by_corner low high plane n q e x y z h p w =
+    let at_x = rw e at (greatest n.x low.x high.x q.x p.x x w.x) in
+    let at_y = rw e at (greatest n.y low.y high.y q.y p.y y w.y) in
+    let at_z = rw e at (greatest n.z low.z high.z q.z p.z z w.z) in omega (arith, ints, at_x, at_y, at_z, h)

@@ -1,5 +1,6 @@
 -- What else the contracts of public functions cite.
 pub mod Bounds
+pub mod Corners
 pub mod Planes
 pub mod Ranges
 pub mod Turns

@@ -10,11 +10,13 @@
 #![tactic(auto)]
 
 mod components;
+mod corners;
 mod normal;
 mod plane;
 mod positions;
 mod predicates;
 
+pub use corners::{greatest_of, least_of};
 pub use normal::Normal;
 pub use plane::Plane;
 pub use positions::along;

@@ -9,11 +9,11 @@ use Rattle.qh_model.proofs.Members.{All-In}
 use Rattle.qh_model.proofs.combinations.Alternatives.{combination_or_separator}
 use Rattle.qh_model.proofs.extremes.{ExtremeIds.combination_within}
 use Rattle.qh_regions.specs.declared.bounds.Bounds.{Bounds}
-use Rattle.qh_pred.specs.contract.Ranges.{IsBetween}
+use Rattle.qh_pred.specs.contract.{Corners.IsUnder, Ranges.IsBetween}
 use Rattle.qh_regions.specs.contract.Cells.{IsWithin}
 use Rattle.qh_regions.specs.contract.KeptIds.{HasNoExtreme}
 use Rattle.qh_regions.specs.declared.corner_box.Diagonals.{Diagonals}
-use Rattle.qh_regions.specs.steps.CornerBoxes.{IsUnder, HasEndsOf, AreOutward}
+use Rattle.qh_regions.specs.steps.CornerBoxes.{HasEndsOf, AreOutward}
 use Rattle.qh_regions.specs.contract.CornerBoxes.{IsBeyond, IsOutward, HasOutward, IsEnd, IsCorner, IsHeldBy}
 use Rattle.qh_pred.proofs.Ranges.{beyond}
 

@@ -1,9 +1,8 @@
 -- Numbers that are held in few bits: they fit, and are what they were.
-use Rattle.std.proofs.Common.{◌≡◌, ◌<◌, ◌≤◌, ◌*◌, ◌^◌, ℕ, arith, lit<, FitsSigned, ◌⊎◌, inl, inr}
+use Rattle.std.proofs.Common.{◌≡◌, ◌<◌, ◌≤◌, ◌*◌, ◌^◌, ℕ, arith, FitsSigned}
 use Rattle.std.proofs.Math.Nat.{mul-le-mul}
 use Rattle.std.proofs.lemmas.Int.{ints, to_z-of_z, fits_signed_from_abs, fits_signed_mul, unsigned_abs-mul}
-use Rattle.std.specs.Prelude.{ℤ, ◌+ℤ◌, ◌-ℤ◌, ◌*ℤ◌, ◌≤ℤ◌, unsigned_abs}
-use Rattle.qh_model.specs.headline.Limits.{IsCoordinate}
+use Rattle.std.specs.Prelude.{ℤ, ◌+ℤ◌, ◌-ℤ◌, ◌*ℤ◌, unsigned_abs}
 use lib.Signed.{mag}
 use mir.{Syntax.Width, Syntax.w32, Syntax.w64, Val.hbits, Val.to_z, Val.of_z}
 
@@ -74,20 +73,3 @@ module _ (a b c : ℤ) (p : mag a < 2 ^ 31) (q : mag b < 2 ^ 31) (r : mag c < 2 
 
   pub sub_sub_fits : FitsSigned w64 (held w64 (held w64 a -ℤ held w64 b) -ℤ held w64 c)
   sub_sub_fits = omega (arith, ints)
-
--- ---- ends of ranges of coordinates
--- a coordinate that is read is held as it is
-pub read_is : (x y : ℤ) → mag x < 2 ^ 31 → x ≡ y → held w32 x ≡ y
-read_is x y h e = omega (arith, ints)
-
--- one of two coordinates is a coordinate
-pub one_of_two : (l h e x y : ℤ) → IsCoordinate l → IsCoordinate h → x ≡ l → y ≡ h → (e ≡ x) ⊎ (e ≡ y) → IsCoordinate (held w32 e)
-one_of_two l h e x y p q f g (inl is) = rw (is, f) (held_size w32 l _ p (lit< tt))
-one_of_two l h e x y p q f g (inr is) = rw (is, g) (held_size w32 h _ q (lit< tt))
-
--- an order is kept
-pub held_above : (a x g r : ℤ) → mag x < 2 ^ 31 → mag g < 2 ^ 31 → x ≡ a → r ≡ held w32 g → held w32 x ≤ℤ g → a ≤ℤ r
-held_above a x g r h k e f l = omega (arith, ints)
-
-pub held_below : (a x g r : ℤ) → mag x < 2 ^ 31 → mag g < 2 ^ 31 → x ≡ a → r ≡ held w32 g → g ≤ℤ held w32 x → r ≤ℤ a
-held_below a x g r h k e f l = omega (arith, ints)

@@ -1,14 +1,14 @@
 //! Boxes of space with sides along the axes.
-ghost use Rattle.std.specs.Prelude.{◌≡◌, ◌⊎◌, ◌↔◌, ◌≤ℤ◌, pos, IsTrue};
+ghost use Rattle.std.specs.Prelude.{◌≡◌, ◌⊎◌, ◌↔◌, IsTrue};
 ghost use Rattle.qh_model.specs.contract.Places.{IsPlace};
 ghost use Rattle.qh_model.specs.headline.Vector.{Vector};
 ghost use Rattle.qh_pred.specs.contract.Ranges.{IsBetween, IsFarEnd};
 ghost use Rattle.qh_regions.specs.contract.Cells.{IsWithin, IsBelow};
 ghost use Rattle.qh_regions.specs.contract.CornerBoxes.{IsCorner, IsEnd};
-ghost use Rattle.qh_regions.specs.steps.CornerBoxes.{IsUnder};
 
 use crate::coarse_planes::CoarsePlane;
 use qh_model::Point;
+use qh_pred::{greatest_of, least_of};
 
 /// The points from one corner to the opposite one, these among them. There is no such point where a coordinate
 /// of the first corner is the greater one.
@@ -45,48 +45,6 @@ fn near_end(factor: i32, low: i32, high: i32) -> i32
     ensures { (result ≡ low) ⊎ (result ≡ high) }
 {
     if factor > 0 { low } else { high }
-}
-
-/// Returns the greater of two numbers.
-fn greater(one: i32, two: i32) -> i32
-    ensures end { (result ≡ one) ⊎ (result ≡ two) }
-    ensures one { one ≤ℤ result }
-    ensures two { two ≤ℤ result }
-{
-    if one < two { two } else { one }
-}
-
-/// Returns the lesser of two numbers.
-fn lesser(one: i32, two: i32) -> i32
-    ensures end { (result ≡ one) ⊎ (result ≡ two) }
-    ensures one { result ≤ℤ one }
-    ensures two { result ≤ℤ two }
-{
-    if two < one { two } else { one }
-}
-
-/// Returns the point with the greater of each two coordinates.
-pub fn greatest_of(one: Point, two: Point) -> Point
-    ensures one { IsUnder one result }
-    ensures two { IsUnder two result }
-{
-    Point::new(
-        greater(one.x(), two.x()),
-        greater(one.y(), two.y()),
-        greater(one.z(), two.z()),
-    )
-}
-
-/// Returns the point with the lesser of each two coordinates.
-pub fn least_of(one: Point, two: Point) -> Point
-    ensures one { IsUnder result one }
-    ensures two { IsUnder result two }
-{
-    Point::new(
-        lesser(one.x(), two.x()),
-        lesser(one.y(), two.y()),
-        lesser(one.z(), two.z()),
-    )
 }
 
 impl Bounds {

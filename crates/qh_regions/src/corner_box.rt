@@ -4,17 +4,16 @@
 //! a combination of them, and is not extreme unless it is one of them, and so a corner of the box.
 //!
 //! Source: Akl and Toussaint 1978 (points between the extreme points of a few directions are thrown away).
-ghost use Rattle.std.specs.Prelude.{◌≡◌, ◌<◌, ◌≤ℤ◌, ℕ, List, IsTrue, length, true, false};
+ghost use Rattle.std.specs.Prelude.{◌≡◌, ◌<◌, ℕ, List, length};
 ghost use Rattle.qh_model.specs.headline.Vector.{Vector};
-ghost use Rattle.qh_regions.specs.contract.Cells.{IsWithin};
 ghost use Rattle.qh_regions.specs.steps.CornerBoxes.{AreEndsOf, AreOutward, HasEndsOf};
 ghost use Rattle.qh_regions.specs.contract.CornerBoxes.{HasOutward, IsHeldBy, IsPointOf};
 
-use crate::bounds::{Bounds, greatest_of, least_of};
+use crate::bounds::Bounds;
 use crate::id_set::IdSet;
 use crate::regions::Region;
 use qh_model::Point;
-use qh_pred::point_at;
+use qh_pred::{greatest_of, least_of, point_at};
 
 /// The points that lie furthest along a diagonal of space, one way and the other, and how far they do.
 #[derive(Clone, Copy, Drop)]

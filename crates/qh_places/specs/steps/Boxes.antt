@@ -1,14 +1,12 @@
 -- Boxes round points.
 use Rattle.std.specs.Prelude.{ℕ, ◌<◌, ◌≤◌, List, length, slice_index_or}
 use Rattle.qh_model.specs.headline.Vector.{Vector, origin}
-use Rattle.qh_pred.specs.contract.Ranges.{IsBetween}
+use Rattle.qh_pred.specs.contract.Corners.{IsInBox}
 use Rattle.qh_places.specs.declared.boxes.PointBox.{PointBox}
 
 -- a point from one corner of a box to the other
-pub record IsWithin (b : PointBox) (p : Vector) : Type 0 where
-  pub x : IsBetween b.low.x p.x b.high.x
-  pub y : IsBetween b.low.y p.y b.high.y
-  pub z : IsBetween b.low.z p.z b.high.z
+abbrev pub IsWithin : PointBox → Vector → Type 0
+IsWithin b p = IsInBox b.low b.high p
 
 -- the points from one position to another lie in the box
 abbrev pub IsBoxOf : List Vector → ℕ → ℕ → PointBox → Type 0

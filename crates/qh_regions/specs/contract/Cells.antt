@@ -4,16 +4,14 @@ use Rattle.qh_model.specs.headline.Vector.{Vector, origin}
 use Rattle.qh_model.specs.contract.Places.{IsPlace}
 use Rattle.qh_model.specs.headline.Sets.{In}
 use Rattle.qh_pred.specs.contract.Planes.{PlaneValue, height}
-use Rattle.qh_pred.specs.contract.Ranges.{IsBetween}
+use Rattle.qh_pred.specs.contract.Corners.{IsInBox}
 use Rattle.qh_regions.specs.declared.bounds.Bounds.{Bounds}
 use Rattle.qh_regions.specs.declared.cells.Cell.{Cell}
 use Rattle.qh_regions.specs.declared.columns.Columns.{Columns}
 
 -- a point from one corner of a box to the other
-pub record IsWithin (b : Bounds) (p : Vector) : Type 0 where
-  pub x : IsBetween b.low.x p.x b.high.x
-  pub y : IsBetween b.low.y p.y b.high.y
-  pub z : IsBetween b.low.z p.z b.high.z
+abbrev pub IsWithin : Bounds → Vector → Type 0
+IsWithin b p = IsInBox b.low b.high p
 
 -- the plane is strictly above all points of the box
 abbrev pub IsBelow : Bounds → PlaneValue → Type 0

@@ -1,15 +1,9 @@
 -- Boxes between points of a set that lie furthest along the diagonals of space. This project's own.
-use Rattle.std.specs.Prelude.{ℕ, List, true, false, ◌≤ℤ◌}
+use Rattle.std.specs.Prelude.{ℕ, List, true, false}
 use Rattle.qh_model.specs.headline.Vector.{Vector}
 use Rattle.qh_regions.specs.declared.bounds.Bounds.{Bounds}
 use Rattle.qh_regions.specs.declared.corner_box.Diagonals.{Diagonals}
 use Rattle.qh_regions.specs.contract.CornerBoxes.{IsOutward, IsPointOf}
-
--- no greater along any axis
-pub record IsUnder (p q : Vector) : Type 0 where
-  pub x : p.x ≤ℤ q.x
-  pub y : p.y ≤ℤ q.y
-  pub z : p.z ≤ℤ q.z
 
 -- two points of the set
 abbrev pub AreEndsOf : List Vector → List ℕ → Vector → Vector → Type 0

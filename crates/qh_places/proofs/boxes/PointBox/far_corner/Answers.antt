@@ -1,7 +1,8 @@
 -- The ends of the three ranges that lie furthest.
 use Rattle.std.proofs.Common.{ap}
 use Rattle.qh_model.specs.headline.Vector.{Vector}
-use Rattle.qh_places.proofs.Coordinates.{made_far, one_in_range}
+use Rattle.qh_pred.proofs.Coordinates.{one_of_two, read_is}
+use Rattle.qh_places.proofs.Coordinates.{made_far}
 use Rattle.qh_places.proofs.boxes.PointBox.far_corner.Goals as goal
 
 pub returns : goal.returns
@@ -16,10 +17,13 @@ returns c = record {
 
 pub new-requires : goal.new-requires
 new-requires c = record {
-  x = one_in_range _ _ _ _ _ c.far_end.type_inv c.x-2.type_inv c.x-3.type_inv c.x-2.ensures.value c.x-3.ensures.value c.far_end.ensures.end
-      c.x-2.ensures.limit.x c.x-3.ensures.limit.x;
-  y = one_in_range _ _ _ _ _ c.far_end-2.type_inv c.y-2.type_inv c.y-3.type_inv c.y-2.ensures.value c.y-3.ensures.value c.far_end-2.ensures.end
-      c.x-2.ensures.limit.y c.x-3.ensures.limit.y;
-  z = one_in_range _ _ _ _ _ c.far_end-3.type_inv c.z-2.type_inv c.z-3.type_inv c.z-2.ensures.value c.z-3.ensures.value c.far_end-3.ensures.end
-      c.x-2.ensures.limit.z c.x-3.ensures.limit.z;
+  x = one_of_two _ _ c.far_end.result _ _ c.x-2.ensures.limit.x c.x-3.ensures.limit.x
+      (read_is c.x-2.result _ c.x-2.type_inv c.x-2.ensures.value) (read_is c.x-3.result _ c.x-3.type_inv c.x-3.ensures.value)
+      c.far_end.ensures.end;
+  y = one_of_two _ _ c.far_end-2.result _ _ c.x-2.ensures.limit.y c.x-3.ensures.limit.y
+      (read_is c.y-2.result _ c.y-2.type_inv c.y-2.ensures.value) (read_is c.y-3.result _ c.y-3.type_inv c.y-3.ensures.value)
+      c.far_end-2.ensures.end;
+  z = one_of_two _ _ c.far_end-3.result _ _ c.x-2.ensures.limit.z c.x-3.ensures.limit.z
+      (read_is c.z-2.result _ c.z-2.type_inv c.z-2.ensures.value) (read_is c.z-3.result _ c.z-3.type_inv c.z-3.ensures.value)
+      c.far_end-3.ensures.end;
 }

@@ -2,11 +2,11 @@
 use Rattle.std.proofs.Common.{arith}
 use Rattle.std.proofs.lemmas.Int.{ints}
 use Rattle.std.specs.Prelude.{pos, ◌<ℤ◌}
-use Rattle.qh_places.proofs.PointBoxes.{below_by_corner}
+use Rattle.qh_pred.proofs.Ranges.{below_by_corner}
 use Rattle.qh_places.proofs.boxes.PointBox.is_below.Goals as goal
 
 pub returns : goal.returns
 returns c t =
     let negative : c.height.result <ℤ pos 0 = grind (arith, ints, t) in let far = c.far_corner.ensures in
-    below_by_corner c.args.self.now c.args.plane.now c.normal.result c.far_corner.result c.normal.ensures far.x far.y far.z
+    below_by_corner c.args.self.now.low c.args.self.now.high c.args.plane.now c.normal.result c.far_corner.result c.normal.ensures far.x far.y far.z
     (rw c.height.ensures at negative)

@@ -2,8 +2,8 @@
 use Rattle.std.proofs.Common.{◌≡◌, Bool, IsTrue}
 use Rattle.std.specs.Prelude.{ℤ, ◌↔◌}
 use Rattle.qh_pred.specs.contract.Ranges.{IsBetween}
-use Rattle.qh_regions.proofs.InnerBoxes.{both}
-use Rattle.qh_regions.proofs.Numbers.{read_is}
+use Rattle.qh_regions.proofs.Tests.{both}
+use Rattle.qh_pred.proofs.Coordinates.{read_is}
 use Rattle.qh_regions.proofs.bounds.Bounds.contains.Goals as goal
 
 same : (b : Bool) (l n h l' n' h' : ℤ) → l' ≡ l → n' ≡ n → h' ≡ h → (IsTrue b ↔ IsBetween l' n' h') → IsTrue b ↔ IsBetween l n h

@@ -3,7 +3,8 @@ use Rattle.std.proofs.Common.{◌≡◌, ◌∙◌, ap, refl}
 use Rattle.std.specs.Prelude.{ℤ}
 use Rattle.qh_model.specs.headline.Vector.{Vector}
 use Rattle.qh_pred.specs.contract.Ranges.{IsFarEnd}
-use Rattle.qh_regions.proofs.Numbers.{held, one_of_two, read_is}
+use Rattle.qh_pred.proofs.Coordinates.{one_of_two, read_is}
+use Rattle.qh_regions.proofs.Numbers.{held}
 use Rattle.qh_regions.proofs.bounds.Bounds.far_corner.Goals as goal
 use mir.Syntax.{w32}
 

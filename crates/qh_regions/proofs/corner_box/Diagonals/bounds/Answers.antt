@@ -2,7 +2,7 @@
 use Rattle.std.proofs.Common.{◌∙◌, ap}
 use Rattle.qh_model.specs.headline.Vector.{Vector}
 use Rattle.qh_regions.proofs.CornerBoxes.{box_is_outward, four_under, under_four}
-use Rattle.qh_regions.proofs.Numbers.{read_is}
+use Rattle.qh_pred.proofs.Coordinates.{read_is}
 use Rattle.qh_regions.proofs.corner_box.Diagonals.bounds.Goals as goal
 
 pub returns : goal.returns
