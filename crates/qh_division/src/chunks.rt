@@ -1,5 +1,5 @@
 //! A set cut into parts: consecutive ids of a list, with shared ones.
-ghost use Rattle.std.specs.Prelude.{ℕ, IfOk, IfSome};
+ghost use Rattle.std.specs.Prelude.{IfOk, IfSome};
 ghost use Rattle.std.specs.List.{All};
 ghost use Rattle.qh_model.specs.contract.IdSets.{AreIndices};
 ghost use Rattle.qh_division.specs.contract.Parts.{IsPartOf};

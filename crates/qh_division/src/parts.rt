@@ -52,21 +52,22 @@ fn simplex_of(pts: &[Point], shared: &[Id]) -> Option<Simplex>
     })
 }
 
-/// Returns the listed ids in their order, then the shared ones, each once; where another is listed twice, they rise
-/// instead. `rising` has the same ids.
+/// Returns the ids that are not shared in their order, then the shared ones, each once; where one that is not shared
+/// is listed twice, they rise instead. `rising` has the same ids.
 fn each_once(
     alloc: Global,
-    listed: &[Id],
+    unshared: &[Id],
     shared: &[Id],
     rising: &[Id],
 ) -> Result<Vec<Id>, AllocError>
     requires rising { IsStrictlyIncreasing rising.now }
-    requires same { (l : ℕ) → In l rising.now ↔ In l listed.now }
+    requires all { (l : ℕ) → In l rising.now → In l unshared.now ⊎ In l shared.now }
+    requires unshared { (l : ℕ) → In l unshared.now → In l rising.now }
     requires shared { (l : ℕ) → In l shared.now → In l rising.now }
     ensures once { IfOk result (λ v. Once v.items) }
     ensures same { IfOk result (λ v. (l : ℕ) → In l v.items ↔ In l rising.now) }
 {
-    let mut ids = without(alloc, listed, shared)?;
+    let mut ids = Vec::from_slice(alloc, unshared)?;
     ids.extend_from_slice(shared)?;
     if ids.len() > rising.len() {
         return Vec::from_slice(alloc, rising);
@@ -168,33 +169,28 @@ fn marks_of(alloc: Global, count: usize, ids: &[Id]) -> Result<Vec<bool>, AllocE
     Ok(marks)
 }
 
-/// Returns true if an id is marked and not one of the others.
-fn is_own(marks: &[bool], others: &[Id], id: Id) -> bool
-    ensures { mark_at marks.now id ≡ true → IsTrue result ⊎ In id others.now }
+/// Returns true if an id is marked.
+fn is_marked(marks: &[bool], id: Id) -> bool
+    ensures { mark_at marks.now id ≡ true → IsTrue result }
 {
     let Some(marked) = marks.get(id.index()) else {
         return false;
     };
-    *marked && !has(others, id)
+    *marked
 }
 
-/// Returns the marked ids of a list that are not in another, in their order.
-fn marked_without(
-    alloc: Global,
-    ids: &[Id],
-    marks: &[bool],
-    others: &[Id],
-) -> Result<Vec<Id>, AllocError>
-    ensures all { IfOk result (λ v. (l : ℕ) → In l ids.now → mark_at marks.now l ≡ true → In l v.items ⊎ In l others.now) }
+/// Returns the marked ids of a list, in their order.
+fn marked(alloc: Global, ids: &[Id], marks: &[bool]) -> Result<Vec<Id>, AllocError>
+    ensures all { IfOk result (λ v. (l : ℕ) → In l ids.now → mark_at marks.now l ≡ true → In l v.items) }
     ensures only { IfOk result (λ v. (l : ℕ) → In l v.items → In l ids.now) }
 {
-    let mut left = Vec::new(alloc);
+    let mut found = Vec::new(alloc);
     for id in ids {
-        if is_own(marks, others, *id) {
-            left.push(*id)?;
+        if is_marked(marks, *id) {
+            found.push(*id)?;
         }
     }
-    Ok(left)
+    Ok(found)
 }
 
 impl Part {
@@ -222,11 +218,12 @@ impl Part {
         let Some(first) = simplex_of(pts, shared) else {
             return Ok(None);
         };
-        let order = each_once(alloc, listed, shared, &ids)?;
+        let unshared = without(alloc, listed, shared)?;
+        let order = each_once(alloc, &unshared, shared, &ids)?;
         let surface = surface_along(alloc, pts, order, first)?;
         let corners = corners_of(alloc, &surface)?;
         let marks = marks_of(alloc, pts.len(), &corners)?;
-        let own = marked_without(alloc, listed, &marks, shared)?;
+        let own = marked(alloc, &unshared, &marks)?;
         let outward = outward_of(alloc, &surface, &own)?;
         let places = Places::in_order(alloc, pts, &own, &outward)?;
         Ok(Some(Part {

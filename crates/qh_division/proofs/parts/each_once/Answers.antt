@@ -8,7 +8,8 @@ use Rattle.qh_division.proofs.parts.each_once.Goals as goal
 
 pub returns-then-len-rising-clause-once : goal.returns-then-len-rising-clause-once
 returns-then-len-rising-clause-once c =
-    IfOk-weaker c.from_slice.result _ _ (λ v e. subst Once (sym e) (rising_once _ c.requires.rising)) c.from_slice.ensures.items
+    IfOk-weaker c.from_slice-then-len-rising.result _ _ (λ v e. subst Once (sym e) (rising_once _ c.requires.rising))
+    c.from_slice-then-len-rising.ensures.items
 
 pub returns-clause-once : goal.returns-clause-once
 returns-clause-once c =
@@ -17,14 +18,14 @@ returns-clause-once c =
     let short : length items ≤ length rising = omega (arith, c.len.ensures, ok, c.if-len-rising.false) in
     once_by_length rising (rising_once rising c.requires.rising) items
     (λ l i. subst (In l) (sym c.in_ok-extend_from_slice.ensures.items)
-    (in_append _ c.args.shared.now l (c.in_ok-ids.ensures.all l ((c.requires.same l).0 i)))) short
+    (in_append _ c.args.shared.now l (rw c.in_ok-ids.ensures.items (c.requires.all l i)))) short
 
 pub returns-clause-same : goal.returns-clause-same
 returns-clause-same c = λ l. (
   λ i. elim (of_append _ c.args.shared.now l (subst (In l) c.in_ok-extend_from_slice.ensures.items i)) [
-    | inl o ↦ (c.requires.same l).1 (c.in_ok-ids.ensures.only l o)
+    | inl o ↦ c.requires.unshared l (rw c.in_ok-ids.ensures.items at o)
     | inr s ↦ c.requires.shared l s
   ],
   λ i. subst (In l) (sym c.in_ok-extend_from_slice.ensures.items)
-      (in_append _ c.args.shared.now l (c.in_ok-ids.ensures.all l ((c.requires.same l).0 i))),
+      (in_append _ c.args.shared.now l (rw c.in_ok-ids.ensures.items (c.requires.all l i))),
 )
