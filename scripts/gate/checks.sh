@@ -1,5 +1,5 @@
 #!/bin/sh
-# Runs what is asked of a change beside `rt ci` and takes seconds: definitions, links, counts, the version, the manual page,
+# Runs what is asked of a change beside `rt ci` and takes seconds: definitions, homes of lemmas, links, counts, the version, the manual page,
 # and the unit tests of the scripts.
 #
 #     scripts/gate/checks.sh        from anywhere
@@ -16,6 +16,7 @@ ask() {
     fi
 }
 ask scripts/gate/headline.py
+ask scripts/gate/homes.py
 ask scripts/gate/links.py
 ask scripts/gate/measures.py
 ask scripts/make/version.py

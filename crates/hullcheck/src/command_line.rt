@@ -1,9 +1,8 @@
 //! The words of a command line.
-ghost use Rattle.std.specs.Prelude.{◌≡◌, ◌==◌, ◌∷◌, ℕ, List, None, Some, IfOk, IsSome, MatchResult, codes, map, slice_index, string_bytes};
-ghost use Rattle.std.specs.Str.{bytes_eq};
+ghost use Rattle.std.specs.Prelude.{◌≡◌, ◌==◌, ◌∷◌, ℕ, List, None, Some, IfOk, IsSome, MatchResult, map, slice_index, string_bytes};
 ghost use Rattle.hullcheck.specs.declared.fault.Fault.TheVariants.{Usage};
 ghost use Rattle.hullcheck.specs.declared.command_line.Next.TheVariants.{Any};
-ghost use Rattle.hullcheck.specs.contract.CommandLine.{asked_by, asked_by_default, asked_in, with_file, with_points, with_word, workers_in};
+ghost use Rattle.hullcheck.specs.contract.CommandLine.{asked_by, asked_by_default, asked_in, with_file, with_word, workers_in};
 ghost use Rattle.hullcheck.specs.steps.Words.{with_next};
 
 use crate::fault::Fault;

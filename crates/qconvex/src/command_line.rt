@@ -1,13 +1,11 @@
 //! The words of a command line, judged by clap.
-ghost use Rattle.std.specs.Prelude.{◌≡◌, ◌≢◌, ◌<◌, ◌^◌, ℕ, [], ◌∷◌, true, false, map, codes, IfOk, IfErr, IfSome, IfNone, string_bytes};
+ghost use Rattle.std.specs.Prelude.{◌≡◌, ◌≢◌, ◌<◌, ◌^◌, ℕ, [], ◌∷◌, false, map, IfOk, IfErr, IfSome, IfNone, string_bytes};
 ghost use Rattle.std.specs.Option.{option_map};
-ghost use Rattle.clap.specs.Words.{app_of, kind_of, rule_of, found_of, matched_of, one_text, raw_values};
+ghost use Rattle.clap.specs.Words.{app_of, kind_of, rule_of, found_of, one_text};
 ghost use Rattle.qh_model.specs.declared.form.Form.{Form};
 ghost use Rattle.qh_model.specs.declared.form.Form.TheVariants as forms;
 ghost use Rattle.qh_model.specs.declared.out.Out.{Out};
 ghost use Rattle.qh_model.specs.declared.out.Out.TheVariants.{Rank, Summary, Fx, Off, OffTriangles};
-ghost use Rattle.qh_serve.specs.headline.SettingsValue.{SettingsValue};
-ghost use Rattle.qh_serve.specs.contract.Ranges.{IsInRange};
 ghost use Rattle.qconvex.specs.contract.CommandLine.{AreOutsOf, AreSettingsOf, IsArgFaultOf, IsFormOf, IsProgram, NumberOf};
 ghost use Rattle.qconvex.specs.contract.CommandLine.{form_word, from_one_to, from_option, number_option, outs_rule, word_of};
 ghost use Rattle.qconvex.specs.contract.CommandLine.{words_taken};

@@ -1,5 +1,5 @@
 //! A hull as lists of numbers: what the buffers of a caller take.
-ghost use Rattle.std.specs.Prelude.{◌≡◌, ◌++◌, IfOk, OnOk, List, length};
+ghost use Rattle.std.specs.Prelude.{◌≡◌, ◌++◌, IfOk, OnOk, List};
 ghost use Rattle.qh_model.specs.headline.Hull.{IsHull};
 ghost use Rattle.qh_model.specs.headline.Vector.{Vector};
 ghost use Rattle.qconvex_c.specs.contract.Flat.{IsFlatHull, corners_of, offsets_of};

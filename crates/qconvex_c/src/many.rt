@@ -1,5 +1,5 @@
 //! The call for many sets that C makes.
-ghost use Rattle.std.specs.Prelude.{◌≡◌, ◌≢◌, ◌≤◌, ◌<◌, ◌↔◌, ◌⊎◌, ◌+◌, ◌*◌, length, drop, slice_index};
+ghost use Rattle.std.specs.Prelude.{◌≡◌, ◌≢◌, ◌↔◌, ◌⊎◌, ◌+◌, ◌*◌, length, drop, slice_index};
 ghost use Rattle.qconvex_c.specs.contract.Sets.{AreStarts, HaveRoom, AreSetHulls, AreKeptBetween, sets_in, end_of};
 ghost use Rattle.qconvex_c.specs.contract.Codes.{QCONVEX_DONE, QCONVEX_ROOM, QCONVEX_STARTS};
 

@@ -1,5 +1,5 @@
 //! Sets of points that stand in one list, one after the other.
-ghost use Rattle.std.specs.Prelude.{◌≡◌, ◌≤◌, ◌<◌, ◌↔◌, ◌+◌, ◌*◌, ◌-◌, IsTrue, length, slice_index};
+ghost use Rattle.std.specs.Prelude.{◌≡◌, ◌<◌, ◌↔◌, ◌+◌, ◌*◌, ◌-◌, IsTrue, length, slice_index};
 ghost use Rattle.qconvex_c.specs.contract.Sets.{AreStarts, HaveRoom};
 
 /// A set: its number, and where its points begin and end.

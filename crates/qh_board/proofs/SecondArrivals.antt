@@ -7,7 +7,7 @@ use mathlib.Core.{Logic.dite, Option.some, Option.none}
 use native.Mathlib.Decide.{ℕ_discrete}
 use lib.ListN.{get_elem?}
 use Rattle.atomic_table.specs.Table.{State}
-use Rattle.qh_model.specs.contract.BoardMachine.{Place, untouched, held, parked, used, Machine, Event, arrive_second, Can, after, settled, put, sibling, parent}
+use Rattle.qh_model.specs.contract.BoardMachine.{Place, untouched, held, parked, used, Event, arrive_second, Can, after, settled, put, sibling, parent}
 use Rattle.qh_model.proofs.board.{Grown.ranged, Joined.same, Joined.spent, Joined.got, Joined.joined, Joined.cases, Joined.fresh, Joined.at_i}
 use Rattle.qh_model.proofs.board.{Joined.at_p, Reached.reach_good, Siblings.ArePair, Siblings.near, Updates.put_else}
 use Rattle.qh_board.specs.{contract.Records.come_second, declared.view.Record.Record, declared.view.Setup.Setup, declared.view.View.View}

@@ -6,7 +6,7 @@ use Rattle.std.specs.Prelude.{◌↔◌}
 use Rattle.qh_model.specs.headline.{Vector.Vector, Sets.In, Sets.Once, Sets.Members, Dimension.IsDimension}
 use Rattle.qh_model.specs.contract.IdSets.{HasDistinctPoints}
 use Rattle.qh_model.specs.headline.{Polygon.FollowsAlong, Polygon.Follows, Polygons.AreFaces, Polygons.IsEdge, Polygons.IsEdgeCount}
-use Rattle.qh_model.proofs.polygons.{Edges.one_face_each_way, Neighbours.along_members}
+use Rattle.qh_model.proofs.polygons.{Edges.one_face_a_step, Neighbours.along_members}
 use Rattle.qh_model.proofs.polygons.OtherFace.{other_face}
 use Rattle.qh_model.proofs.lists.Joined.{once_append, in_flat_map, of_flat_map}
 use Rattle.qh_bodies.specs.contract.SolidEdges.{ups_along, ups, all_edges_up}
@@ -56,15 +56,11 @@ pub edges_of_faces : (at : ℕ → Vector) (ids : List ℕ) (qs : List (List ℕ
     → IsDimension at (Members ids) 3 → AreFaces at (Members ids) qs → Once qs → IsEdgeCount qs (all_edges_up qs)
 edges_of_faces at ids qs d solid faces once = record {
   list = flat_map ups qs;
-  once = all_once qs once (λ q i. (faces.only q i).4.once) one;
+  once = all_once qs once (λ q i. (faces.only q i).4.once) (one_face_a_step at ids qs d faces);
   all = λ u v. (λ i. (let r = of_flat_map ups qs (u, v) i in let h = (in_ups u v r.0).0 r.2 in (h.0, (r.0, r.1, inl h.1))), to u v);
   count = refl;
 }
   where
-    one : (p q : List ℕ) → In p qs → In q qs → (u v : ℕ) → Follows u v p → Follows u v q → p ≡ q
-    one p q i j u v f g = let x = faces.only p i in let y = faces.only q j in
-        one_face_each_way at ids x.0 x.1 x.2 y.0 y.1 y.2 p q u v d x.3 y.3 x.4 y.4 f g
-
     -- where a face goes down along an edge, another goes up
     to : (u v : ℕ) → IsEdge qs u v → Has u v (flat_map ups qs)
     to u v (h, (q, i, inl f)) = in_flat_map ups qs q (u, v) i ((in_ups u v q).1 (h, f))

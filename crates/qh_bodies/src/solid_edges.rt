@@ -1,5 +1,5 @@
 //! The number of edges of polygons.
-ghost use Rattle.std.specs.Prelude.{◌≡◌, ◌≤◌, IfOk, List, ℕ, length};
+ghost use Rattle.std.specs.Prelude.{◌≡◌, ◌≤◌, IfOk, length};
 ghost use Rattle.qh_bodies.specs.contract.SolidEdges.{ups, all_edges_up};
 
 use qh_model::{Id, Memory, Polygon};

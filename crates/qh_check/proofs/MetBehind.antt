@@ -4,6 +4,7 @@ use Rattle.std.proofs.lemmas.List.{get_or-append_right, get_or_append_left, get_
 use Rattle.qh_model.specs.headline.Sets.{In}
 use Rattle.qh_model.proofs.Members.{In-get_or}
 use Rattle.qh_model.proofs.lists.Joined.{of_append}
+use Rattle.qh_places.proofs.ListMembers.{in_back, in_front}
 use Rattle.qh_check.specs.contract.Pieces.{IsMetAlong, IsMetRound}
 use Rattle.qh_check.specs.steps.Rounds.{IsBehind, way_behind}
 
@@ -64,23 +65,12 @@ along_has (u ∷ p) (v ∷ q) (inl h) x (inl e) = inl (e ∙ h.0)
 along_has (u ∷ p) (v ∷ q) (inl h) x (inr m) = inr (along_has p q h.1 x m)
 along_has (u ∷ p) (v ∷ q) (inr h) x m = inr (along_has (u ∷ p) q h x m)
 
-in_drop : (n : ℕ) (xs : List ℕ) (x : ℕ) → In x (drop n xs) → In x xs
-in_drop zero xs x m = m
-in_drop (suc n) [] x m = m
-in_drop (suc n) (y ∷ xs) x m = inr (in_drop n xs x m)
-
-in_take : (n : ℕ) (xs : List ℕ) (x : ℕ) → In x (take n xs) → In x xs
-in_take zero xs x m = absurd m
-in_take (suc n) [] x m = absurd m
-in_take (suc n) (y ∷ xs) x (inl e) = inl e
-in_take (suc n) (y ∷ xs) x (inr m) = inr (in_take n xs x m)
-
 -- who is met round a polygon is one of its corners
 pub round_has : (q face : List ℕ) → IsMetRound q face → (x : ℕ) → In x q → In x face
 round_has [] face h x m = absurd m
 round_has (u ∷ p) face (k, (l, at, along)) x (inl e) = subst (λ y. In y face) (at ∙ sym e) (In-get_or face k 0 l)
 round_has (u ∷ p) face (k, (l, at, along)) x (inr m) =
     elim (of_append (drop (k + 1) face) (take k face) x (along_has p (drop (k + 1) face ++ take k face) along x m)) [
-      | inl d ↦ in_drop (k + 1) face x d
-      | inr t ↦ in_take k face x t
+      | inl d ↦ in_back (k + 1) face x d
+      | inr t ↦ in_front k face x t
     ]

@@ -1,12 +1,12 @@
 -- Steps along edges pair off, each taken once.
 use Rattle.std.proofs.Common.{◌≡◌, ℕ, suc, ◌+◌, ◌*◌, ◌/◌, ◌%◌, ◌<◌, ◌≤◌, arith, refl, sym, ap, subst, ◌∙◌, inl, inr}
 use Rattle.std.proofs.Common.{Bool, true, false, cond, List, [], ◌∷◌, get_or, length, map}
-use Rattle.std.proofs.{lemmas.Bool.cases_Bool, lemmas.Bool.cases_lt, lemmas.Bool.Decides.nat_tests, lemmas.List.Sorted.sum_by-IsPermutation}
+use Rattle.std.proofs.{lemmas.Bool.cases_lt, lemmas.Bool.Decides.nat_tests, lemmas.List.Sorted.sum_by-IsPermutation}
 use Rattle.std.specs.{Prelude.count_by, Prelude.filter, Prelude.nat_lt, List.flat_map}
 use Rattle.qh_model.specs.headline.Vector.{Vector}
 use Rattle.qh_model.specs.contract.{ClosedSurface.Triple, ClosedSurface.edges, ClosedSurface.is_edge, ClosedPolygons.steps_round}
 use Rattle.qh_model.proofs.lists.Counts.{count-map}
-use Rattle.qh_model.proofs.closed_surfaces.{SignedVolume.edge_tests, SignedVolume.is_edge-back, Sums.count, Sums.count-is}
+use Rattle.qh_model.proofs.closed_surfaces.{SignedVolume.edge_tests, SignedVolume.is_edge-back, Sums.count, Sums.count-is, Sums.count_kept}
 use Rattle.qh_convex.specs.declared.steps.TheConstants.{ROOM}
 use Rattle.qh_convex.specs.steps.StepKeys.{step_in, turns, goes_up, goes_down, back, AreSteps, AreSharpPairs, EdgesRise}
 use Rattle.qh_convex.specs.steps.Triangles.{corners}
@@ -29,21 +29,9 @@ pub steps_are : (ts : List Triple) → flat_map steps_round (map corners ts) ≡
 steps_are [] = refl
 steps_are (t ∷ ts) = ap (λ (es : List (ℕ × ℕ)). (t.i, t.j) ∷ (t.j, t.k) ∷ (t.k, t.i) ∷ es) (steps_are ts)
 
--- where all that count pass, a filter keeps the count
-kept : (f p : Triple → Bool) → ((s : Triple) → f s ≡ true → p s ≡ true) → (ss : List Triple) → count f (filter p ss) ≡ count f ss
-kept f p h [] = refl
-kept f p h (s ∷ ss) = elim (cases_Bool (p s)) [
-  | inl t ↦ rw t (ap (λ n. cond (f s) 1 0 + n) (kept f p h ss))
-  | inr t ↦ rw t (kept f p h ss ∙ skip (f s) refl t)
-]
-  where
-    skip : (b : Bool) → f s ≡ b → p s ≡ false → count f ss ≡ cond b 1 0 + count f ss
-    skip true e t = let q = h s e in cc
-    skip false e t = omega arith
-
--- the same of std's count
+-- where all that count pass, a filter keeps std's count
 kept_by : (f p : Triple → Bool) → ((s : Triple) → f s ≡ true → p s ≡ true) → (ss : List Triple) → count_by f (filter p ss) ≡ count_by f ss
-kept_by f p h ss = sym (count-is f (filter p ss)) ∙ kept f p h ss ∙ count-is f ss
+kept_by f p h ss = sym (count-is f (filter p ss)) ∙ count_kept f p h ss ∙ count-is f ss
 
 up_by : (u v : ℕ) → u < v → (s : Triple) → on u v s ≡ true → goes_up s ≡ true
 up_by u v l s e = ap (λ (p : ℕ × ℕ). nat_lt p.0 p.1) (sym (edge_tests.same (u, v) (ends s) e)) ∙ grind (arith, nat_tests, l)

@@ -1,5 +1,5 @@
 //! Polygons of three ids.
-ghost use Rattle.std.specs.Prelude.{◌≡◌, IfOk, IfSome, length};
+ghost use Rattle.std.specs.Prelude.{◌≡◌, IfOk, IfSome};
 ghost use Rattle.qh_model.specs.contract.ClosedSurface.{Triple};
 ghost use Rattle.qh_convex.specs.steps.Triangles.{AreTriangles, IsBelow, corners};
 

@@ -1,9 +1,9 @@
 -- A walk in a finite list on which a fraction grows at each step comes to an end.
 use Rattle.std.proofs.Common.{◌≡◌, ℕ, zero, suc, ◌+◌, ◌<◌, ◌≤◌, refl, sym, ap, ◌∙◌, arith, List, [], ◌∷◌, Bool, true, false, cond, ◌&&◌, ◌⊎◌, inl, inr}
 use Rattle.std.proofs.lemmas.{Bool.and_from, Bool.and_parts, Bool.and_right, Int.ints, Int.by_lt_z}
-use Rattle.std.specs.Prelude.{ℤ, pos, ◌*ℤ◌, ◌≤ℤ◌, ◌<ℤ◌, int_lt}
+use Rattle.std.specs.Prelude.{ℤ, pos, ◌*ℤ◌, ◌<ℤ◌, int_lt}
 use Rattle.qh_model.specs.headline.Sets.{In}
-use Rattle.qh_model.proofs.{algebra.Signs.less_le, closed_surfaces.Sums.count}
+use Rattle.qh_model.proofs.{algebra.Signs.less_le, algebra.Signs.not_less, closed_surfaces.Sums.count}
 use Rattle.qh_convex_laws.proofs.{Greatest.ratio-trans, Signs.above, Signs.above_is, Signs.is_above}
 
 -- ---- tests that are told apart by a member
@@ -72,12 +72,9 @@ module _ {X : Type 0} (num den : X → ℤ) (P : X → Type 0) (D : Type 0) (xs 
       let p = and_parts (above (den z)) (int_lt (num y *ℤ den z) (num z *ℤ den y)) e in
       and_from (above (den z)) (int_lt (num x *ℤ den z) (num z *ℤ den x)) p.0 (is_less _ _ (go (above_is (den z) p.0) (omega (arith, ints, p.1))))
     where
-      clash : (a b : ℤ) → a <ℤ b → b ≤ℤ a → ⊥
-      clash a b h k = omega (arith, ints)
-
       go : pos 0 <ℤ den z → (num y *ℤ den z) <ℤ (num z *ℤ den y) → (num x *ℤ den z) <ℤ (num z *ℤ den x)
       go hz k =
-          by_lt_z (num x *ℤ den z) (num z *ℤ den x) (λ q. q) (λ q. absurd (clash (num y *ℤ den z) (num z *ℤ den y) k
+          by_lt_z (num x *ℤ den z) (num z *ℤ den x) (λ q. q) (λ q. absurd (not_less (num y *ℤ den z) (num z *ℤ den y) k
           (ratio-trans (num z) (num x) (num y) (den z) (den x) (den y) hz hx hy q (less_le _ _ l))))
 
   -- the walk

@@ -1,32 +1,30 @@
 -- The laws of locally convex surfaces.
-use Rattle.std.proofs.Common.{◌≡◌, ℕ, ◌≤◌, refl, sym, subst, ◌∙◌, arith, List, [], ◌∷◌, length, true, inl, inr, ⊎_elim}
+use Rattle.std.proofs.Common.{◌≡◌, ℕ, ◌≤◌, refl, sym, subst, ◌∙◌, arith, List, [], ◌∷◌, length, inl, inr, ⊎_elim}
 use Rattle.std.proofs.lemmas.Int.{ints}
-use Rattle.std.specs.Prelude.{ℤ, pos, neg_ℤ, count_by, ◌≤ℤ◌, ◌<ℤ◌}
+use Rattle.std.specs.Prelude.{ℤ, pos, count_by, ◌≤ℤ◌, ◌<ℤ◌}
 use Rattle.qh_model.specs.contract.ClosedSurface.{Triple}
 use Rattle.qh_model.specs.headline.{Predicates.cross, Predicates.vol, Predicates.AreInLine, Sets.In, Sets.Members, Vector.Vector, Vector.minus, Vector.dot}
 use Rattle.qh_model.specs.laws.{ClosedFaceLaws.AreSupporting, ClosedSurfaceLaws.IsCornerOf}
-use Rattle.qh_model.proofs.{algebra.Signs.less_le, algebra.VectorIdentities.in_line-vol, closed_surfaces.Sums.count, closed_surfaces.Sums.count-is}
+use Rattle.qh_model.proofs.{algebra.Order.neg-positive, algebra.Signs.less_le, algebra.VectorIdentities.in_line-vol, closed_surfaces.Sums.count}
+use Rattle.qh_model.proofs.{closed_surfaces.Sums.count-is}
 use Rattle.qh_convex_laws.specs.contract.LocallyConvex.{IsLocallyConvex, HasAllUnder, is_met}
 use Rattle.qh_convex_laws.specs.laws.ConvexLaws.{LocalIsConvex, UnderIsBelow, LocalSupports}
 use Rattle.qh_convex_laws.proofs.{Directions.IsOffEdges, Greatest.IsGreatest, Greatest.greatest, Highest.rise, Highest.depth, Highest.height}
 use Rattle.qh_convex_laws.proofs.{Highest.HighestMet, NoneAbove.middle, NoneAbove.middle-first, NoneAbove.middle-second, NoneAbove.middle-third}
-use Rattle.qh_convex_laws.proofs.{NoneAbove.outwards, NoneAbove.none_above, OffPoints.plus, OffPoints.vol-plus, OffPoints.PointOff, OffPoints.PointOffEdges}
+use Rattle.qh_convex_laws.proofs.{NoneAbove.outwards, NoneAbove.none_above, OffPoints.plus, OffPoints.edge_above, OffPoints.PointOff, OffPoints.PointOffEdges}
 use Rattle.qh_convex_laws.proofs.{OffPoints.off_all, OffPoints.off_edges, Perturbed.AllUp, Rays.Forms, Rays.MeetsSame, Rays.of_all, Rays.count-alike}
-use Rattle.qh_convex_laws.proofs.{Signs.above, Signs.is_above, UnderTriangles.under_is_below, Walks.walked}
+use Rattle.qh_convex_laws.proofs.{UnderTriangles.under_is_below, Walks.walked}
 
 module _ (at : ℕ → Vector) (ts : List Triple) (z d : Vector) (c : IsLocallyConvex at ts z d) where
   -- a triangle that is highest at x, of a list that is not empty
   highest : (x : Vector) (t : Triple) → In t ts → (g : Triple) × In g ts × IsGreatest (height at z x ts) (depth at z x ts) g ts
   highest x t i = go ts refl t i
     where
-      deep : (v : ℤ) → v <ℤ pos 0 → pos 0 <ℤ neg_ℤ v
-      deep v h = omega (arith, ints)
-
       go : (us : List Triple) → us ≡ ts → (t : Triple) → In t ts → (g : Triple) × In g ts × IsGreatest (height at z x ts) (depth at z x ts) g ts
       go [] e t i = absurd (subst (λ us. In t us) (sym e) i)
       go (u ∷ us) e t i =
           subst (λ vs. (g : Triple) × In g vs × IsGreatest (height at z x ts) (depth at z x ts) g vs) e
-          (greatest (height at z x ts) (depth at z x ts) u us (λ y j. deep (rise at y z) (c.inside y (subst (λ vs. In y vs) e j))))
+          (greatest (height at z x ts) (depth at z x ts) u us (λ y j. neg-positive (rise at y z) (c.inside y (subst (λ vs. In y vs) e j))))
 
   -- the walk, from the middle of a triangle
   highest_met : (t : Triple) → In t ts → (x : Vector) → IsOffEdges at ts z x → HighestMet at z x ts
@@ -50,14 +48,12 @@ module _ (at : ℕ → Vector) (ts : List Triple) (z d : Vector) (c : IsLocallyC
           here p (inr (inr (inl e))) = subst (λ q. pos 0 <ℤ dot q m) (sym e) (omega (arith, ints, middle-third z (at g.i) (at g.j) (at g.k), out))
           here p (inr (inr (inr n))) = absurd n
 
-          edge : (y a b : Vector) → pos 0 <ℤ dot (cross z a b) y → above (vol z a b (plus z y)) ≡ true
-          edge y a b h = is_above (vol z a b (plus z y)) (omega (arith, ints, vol-plus z a b y))
-
           go : PointOff at z ts c.inside x inner → HighestMet at z x ts
           go (y, up, off_q, corner) =
-              walked at z ts c.inside c.convex x off (plus z y) off_q corner g j top (edge y (at g.i) (at g.j) (up (cross z (at g.i) (at g.j)) (inl refl)))
-              (edge y (at g.j) (at g.k) (up (cross z (at g.j) (at g.k)) (inr (inl refl))))
-              (edge y (at g.k) (at g.i) (up (cross z (at g.k) (at g.i)) (inr (inr (inl refl)))))
+              walked at z ts c.inside c.convex x off (plus z y) off_q corner g j top
+              (edge_above z y (at g.i) (at g.j) (up (cross z (at g.i) (at g.j)) (inl refl)))
+              (edge_above z y (at g.j) (at g.k) (up (cross z (at g.j) (at g.k)) (inr (inl refl))))
+              (edge_above z y (at g.k) (at g.i) (up (cross z (at g.k) (at g.i)) (inr (inr (inl refl)))))
 
   -- no corner is above a triangle
   pub convex : (l : ℕ) → IsCornerOf ts l → (t : Triple) → In t ts → rise at t (at l) ≤ℤ pos 0

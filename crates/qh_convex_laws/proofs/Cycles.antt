@@ -6,7 +6,8 @@ use mathlib.Core.Logic.{dite}
 use native.Mathlib.Decide.{ℕ_discrete}
 use Rattle.qh_model.specs.headline.{Polygon.Follows, Polygon.FollowsAlong, Predicates.cross, Predicates.vol, Predicates.AreInLine, Sets.In, Sets.Once}
 use Rattle.qh_model.specs.headline.Vector.{Vector, minus, cross_product, dot}
-use Rattle.qh_model.proofs.algebra.{Integers.zero_mul, Order.mul-pos, Order.mul-neg_neg, Order.cancel-nonpos, Order.product_zero, Ring.ring}
+use Rattle.qh_model.proofs.algebra.{Integers.mul_comm, Integers.zero_mul, Order.mul-pos, Order.mul-neg_neg, Order.cancel-nonpos}
+use Rattle.qh_model.proofs.algebra.{Order.product_zero, Ring.ring, Signs.gap_positive}
 use Rattle.qh_model.proofs.algebra.Ring.Expr.{var, sub as less, mul}
 use Rattle.qh_model.proofs.algebra.VectorIdentities.{vec, put, crossE, dotE, edge_product, in_line-vol, vol-swap_last}
 use Rattle.qh_model.proofs.{extremes.Directions.square-positive, polygons.Neighbours.follows_members, polygons.Neighbours.next_member}
@@ -74,11 +75,8 @@ pub beyond_volume : (z l m w n : Vector) → pos 0 <ℤ dot n (minus l z) → do
 beyond_volume z l m w n h e far =
     subst (λ k. pos 0 <ℤ k) (sym (vol-plus z l m (cross_product w n) ∙ square_volume z l m w n
     ∙ plain (dot n (minus l z)) (dot n (minus m z)) (dot w (minus l z)) (dot w (minus m z)) e))
-    (mul-pos (dot n (minus l z)) (dot w (minus l z) -ℤ dot w (minus m z)) h (gap (dot w (minus m z)) (dot w (minus l z)) far))
+    (mul-pos (dot n (minus l z)) (dot w (minus l z) -ℤ dot w (minus m z)) h (gap_positive (dot w (minus m z)) (dot w (minus l z)) far))
   where
-    gap : (a b : ℤ) → a <ℤ b → pos 0 <ℤ (b -ℤ a)
-    gap a b h = omega (arith, ints)
-
     split : (h a b : ℤ) → a *ℤ h -ℤ h *ℤ b ≡ h *ℤ (a -ℤ b)
     split h a b = ring (h ∷ a ∷ b ∷ []) (less (mul (var 1) (var 0)) (mul (var 0) (var 2))) (mul (var 0) (less (var 1) (var 2))) refl
 
@@ -129,12 +127,9 @@ module _ (at : ℕ → Vector) (z l : Vector) (q : List ℕ) (sides : (u v : ℕ
         seen : pos 0 ≤ℤ vol z l (at u) (at v)
         seen = subst (λ s. pos 0 ≤ℤ s) (sym (vol-round z l (at u) (at v))) (sides u v k)
 
-        turned : (a b : ℤ) → a *ℤ b ≡ b *ℤ a
-        turned a b = omega (arith, ints)
-
         zero : vol z l (at u) (at v) ≡ pos 0
         zero =
-            let product = subst (λ s. s ≤ℤ pos 0) (turned (vol z l (at u) (at v)) (vol z l e f)) (omega (arith, ints, step u v, g v j)) in
+            let product = subst (λ s. s ≤ℤ pos 0) (mul_comm (vol z l (at u) (at v)) (vol z l e f)) (omega (arith, ints, step u v, g v j)) in
             omega (arith, ints, seen, cancel-nonpos (vol z l e f) (vol z l (at u) (at v)) positive product)
 
         next : IsGreatest num den v q

@@ -3,7 +3,7 @@ use Rattle.std.proofs.Common.{◌≡◌, ℕ, ◌+◌, ◌≤◌, refl, sym, ap,
 use Rattle.std.proofs.lemmas.Int.{ints, by_lt_z}
 use Rattle.std.specs.Prelude.{ℤ, pos, ◌-ℤ◌, ◌*ℤ◌, ◌≤ℤ◌, ◌<ℤ◌}
 use Rattle.qh_model.specs.headline.Sets.{In}
-use Rattle.qh_model.proofs.algebra.{Integers.mul_swap, Integers.mul_comm, Order.mul-le, Order.mul-pos, Ring.ring, Ring.Expr.var, Ring.Expr.sub as less}
+use Rattle.qh_model.proofs.algebra.{Integers.mul_sub, Integers.mul_swap, Integers.mul_comm, Order.mul-le, Order.mul-pos}
 use Rattle.qh_model.proofs.{algebra.Ring.Expr.mul, algebra.Signs.less_le, closed_surfaces.Sums.count}
 
 -- a positive factor goes
@@ -13,11 +13,8 @@ cancel-le k a b h e = by_lt_z b a (λ l. absurd (go l)) (λ l. l)
     gap : (a b : ℤ) → b <ℤ a → pos 0 <ℤ (a -ℤ b)
     gap a b l = omega (arith, ints)
 
-    split : (k a b : ℤ) → k *ℤ (a -ℤ b) ≡ k *ℤ a -ℤ k *ℤ b
-    split k a b = ring (k ∷ a ∷ b ∷ []) (mul (var 0) (less (var 1) (var 2))) (less (mul (var 0) (var 1)) (mul (var 0) (var 2))) refl
-
     go : b <ℤ a → ⊥
-    go l = omega (arith, ints, split k a b, mul-pos k (a -ℤ b) h (gap a b l))
+    go l = omega (arith, ints, mul_sub k a b, mul-pos k (a -ℤ b) h (gap a b l))
 
 -- fractions are in order
 pub ratio-trans : (a b c p q r : ℤ) → pos 0 <ℤ p → pos 0 <ℤ q → pos 0 <ℤ r → (a *ℤ q) ≤ℤ (b *ℤ p) → (b *ℤ r) ≤ℤ (c *ℤ q) → (a *ℤ r) ≤ℤ (c *ℤ p)
@@ -72,20 +69,17 @@ module _ {X : Type 0} (p : X → Bool) where
       plain : (b : Bool) (k : ℕ) → 1 ≤ k → 1 ≤ cond b 1 0 + k
       plain b k e = omega arith
 
+  -- one that passes and another are two
+  two : (b : Bool) (n : ℕ) → b ≡ true → cond b 1 0 + n ≤ 1 → 1 ≤ n → ⊥
+  two true n e l m = omega arith
+  two false n e l m = cc
+
   -- where one passes at most, two that pass are one
   pub only_one : (xs : List X) (x y : X) → count p xs ≤ 1 → In x xs → In y xs → p x ≡ true → p y ≡ true → x ≡ y
   only_one [] x y c i j h k = absurd i
   only_one (w ∷ ws) x y c (inl e) (inl f) h k = e ∙ sym f
   only_one (w ∷ ws) x y c (inl e) (inr j) h k = absurd (two (p w) (count p ws) (ap p (sym e) ∙ h) c (counted ws y j k))
-    where
-      two : (b : Bool) (n : ℕ) → b ≡ true → cond b 1 0 + n ≤ 1 → 1 ≤ n → ⊥
-      two true n e l m = omega arith
-      two false n e l m = cc
   only_one (w ∷ ws) x y c (inr i) (inl f) h k = absurd (two (p w) (count p ws) (ap p (sym f) ∙ k) c (counted ws x i h))
-    where
-      two : (b : Bool) (n : ℕ) → b ≡ true → cond b 1 0 + n ≤ 1 → 1 ≤ n → ⊥
-      two true n e l m = omega arith
-      two false n e l m = cc
   only_one (w ∷ ws) x y c (inr i) (inr j) h k = only_one ws x y (rest (p w) (count p ws) c) i j h k
     where
       rest : (b : Bool) (n : ℕ) → cond b 1 0 + n ≤ 1 → n ≤ 1

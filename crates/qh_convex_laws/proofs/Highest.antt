@@ -4,7 +4,7 @@ use Rattle.std.proofs.lemmas.Int.{ints}
 use Rattle.std.specs.Prelude.{ℤ, pos, ◌-ℤ◌, ◌*ℤ◌, neg_ℤ, ◌≤ℤ◌, ◌<ℤ◌}
 use Rattle.qh_model.specs.contract.ClosedSurface.{Triple, edges}
 use Rattle.qh_model.specs.headline.{Predicates.cross, Predicates.vol, Sets.In, Vector.Vector}
-use Rattle.qh_model.proofs.algebra.{Order.mul-nonpos, Ring.ring, Ring.Expr.var, Ring.Expr.mul, Ring.Expr.neg, Signs.less_le}
+use Rattle.qh_model.proofs.algebra.{Order.mul-nonpos, Order.neg-positive, Ring.ring, Ring.Expr.var, Ring.Expr.mul, Ring.Expr.neg, Signs.less_le}
 use Rattle.qh_model.proofs.algebra.VectorIdentities.{vec, put, volE, edge_product, vol-flip}
 use Rattle.qh_convex_laws.specs.contract.LocallyConvex.{IsRound, HasLowNeighbour, is_met}
 use Rattle.qh_convex_laws.proofs.Greatest.{IsGreatest, ratio-trans}
@@ -76,13 +76,10 @@ module _ (at : ℕ → Vector) where
         → (u v w : ℕ) → IsRound t u v w → (n : HasLowNeighbour at ts t u v) → vol z (at u) (at v) x <ℤ pos 0 → IsGreatest height depth n.next ts
     neighbour_greatest inside t i g u v w r n l s j =
         ratio-trans (height s) (height t) (height n.next) (depth s) (depth t) (depth n.next)
-        (deep (rise s z) (inside s j)) (deep (rise t z) (inside t i)) (deep (rise n.next z) (inside n.next n.there)) (g s j)
+        (neg-positive (rise s z) (inside s j)) (neg-positive (rise t z) (inside t i)) (neg-positive (rise n.next z) (inside n.next n.there)) (g s j)
         (plain (height n.next *ℤ depth t) (height t *ℤ depth n.next) (rise t (at n.third) *ℤ vol z (at u) (at v) x)
         (past_edge t u v w r n) (mul-nonpos (rise t (at n.third)) (vol z (at u) (at v) x) n.below (less_le (vol z (at u) (at v) x) (pos 0) l)))
       where
-        deep : (v : ℤ) → v <ℤ pos 0 → pos 0 <ℤ neg_ℤ v
-        deep v h = omega (arith, ints)
-
         plain : (a b c : ℤ) → a -ℤ b ≡ c → pos 0 ≤ℤ c → b ≤ℤ a
         plain a b c e h = omega (arith, ints)
 

@@ -6,12 +6,13 @@ use Rattle.std.specs.Prelude.{ℤ, pos, ◌+ℤ◌, ◌-ℤ◌, ◌*ℤ◌, neg_
 use Rattle.qh_model.specs.{contract.ClosedSurface.Triple, contract.ClosedSurface.IsClosed, headline.Predicates.cross, headline.Predicates.vol, headline.Sets.In}
 use Rattle.qh_model.specs.{headline.Vector.Vector, headline.Vector.minus, headline.Vector.dot, laws.ClosedSurfaceLaws.IsCornerOf}
 use Rattle.qh_model.proofs.algebra.{Order.mul-pos, Ring.ring, Ring.Expr.var, Ring.Expr.add, Ring.Expr.sub as less, Ring.Expr.mul, Ring.Expr.neg}
+use Rattle.qh_model.proofs.algebra.Signs.{equal_positive, negated_positive, not_less}
 use Rattle.qh_model.proofs.algebra.VectorIdentities.{VE, vec, put, subE, crossE, dotE, detE, vol-dot, vol-first, vol-second, vol-third}
 use Rattle.qh_model.proofs.closed_surfaces.Sums.{count}
 use Rattle.qh_convex_laws.specs.contract.LocallyConvex.{is_met}
 use Rattle.qh_convex_laws.proofs.{Directions.IsOffEdges, Directions.met_alike, Greatest.only_one, Highest.rise, Highest.depth, Highest.height}
-use Rattle.qh_convex_laws.proofs.{Highest.HighestMet, OffPoints.plus, OffPoints.minus-plus, OffPoints.vol-plus, OffPoints.PointOff, OffPoints.off_all}
-use Rattle.qh_convex_laws.proofs.{Perturbed.AllUp, Perturbed.Rises, Perturbed.risen, Rounds.vol-round, Rounds.vol-outwards, Signs.above, Signs.is_above}
+use Rattle.qh_convex_laws.proofs.{Highest.HighestMet, OffPoints.plus, OffPoints.minus-plus, OffPoints.edge_above, OffPoints.PointOff, OffPoints.off_all}
+use Rattle.qh_convex_laws.proofs.{Perturbed.AllUp, Perturbed.Rises, Perturbed.risen, Rounds.vol-round, Rounds.vol-outwards}
 
 -- ---- forms of directions from z
 -- the sum of three points, seen from z
@@ -87,12 +88,9 @@ module _ (at : ℕ → Vector) (z : Vector) (ts : List Triple) (inside : (t : Tr
   -- a point where they are positive meets s
   met_there : (s t : Triple) (y : Vector) → AllUp (forms s t) y → is_met at z (plus z y) s ≡ true
   met_there s t y up =
-      and_from _ _ (edge (at s.i) (at s.j) (up (cross z (at s.i) (at s.j)) (inl refl)))
-      (and_from _ _ (edge (at s.j) (at s.k) (up (cross z (at s.j) (at s.k)) (inr (inl refl))))
-      (edge (at s.k) (at s.i) (up (cross z (at s.k) (at s.i)) (inr (inr (inl refl))))))
-    where
-      edge : (a b : Vector) → pos 0 <ℤ dot (cross z a b) y → above (vol z a b (plus z y)) ≡ true
-      edge a b h = is_above (vol z a b (plus z y)) (subst (λ v. pos 0 <ℤ v) (sym (vol-plus z a b y)) h)
+      and_from _ _ (edge_above z y (at s.i) (at s.j) (up (cross z (at s.i) (at s.j)) (inl refl)))
+      (and_from _ _ (edge_above z y (at s.j) (at s.k) (up (cross z (at s.j) (at s.k)) (inr (inl refl))))
+      (edge_above z y (at s.k) (at s.i) (up (cross z (at s.k) (at s.i)) (inr (inr (inl refl))))))
 
   -- and t is higher there
   higher_there : (s t : Triple) (y : Vector) → AllUp (forms s t) y
@@ -121,10 +119,7 @@ module _ (at : ℕ → Vector) (z : Vector) (ts : List Triple) (inside : (t : Tr
 
   -- z is behind s
   pub outwards : (s : Triple) → In s ts → pos 0 <ℤ vol z (at s.i) (at s.j) (at s.k)
-  outwards s i = turned (vol z (at s.i) (at s.j) (at s.k)) (rise at s z) (vol-outwards z (at s.i) (at s.j) (at s.k)) (inside s i)
-    where
-      turned : (v w : ℤ) → v ≡ neg_ℤ w → w <ℤ pos 0 → pos 0 <ℤ v
-      turned v w e h = omega (arith, ints)
+  outwards s i = negated_positive (vol z (at s.i) (at s.j) (at s.k)) (rise at s z) (vol-outwards z (at s.i) (at s.j) (at s.k)) (inside s i)
 
   corner_in : (s : Triple) → In s ts → (l : ℕ) → In l (s.i ∷ s.j ∷ s.k ∷ []) → IsIn s (at l)
   corner_in s i l m = pick m
@@ -157,12 +152,9 @@ module _ (at : ℕ → Vector) (z : Vector) (ts : List Triple) (inside : (t : Tr
   forms_up : (s t : Triple) → In s ts → In t ts → (l : Vector) → IsIn s l → pos 0 <ℤ rise at t l → (y : Vector) × AllUp (forms s t) y
   forms_up s t i j l m h = risen (forms s t) (minus l z) (middle z (at s.i) (at s.j) (at s.k)) each
     where
-      moved : (v w : ℤ) → v ≡ w → pos 0 <ℤ w → pos 0 <ℤ v
-      moved v w e h = omega (arith, ints)
-
       edge : (a b : Vector) → pos 0 ≤ℤ vol z a b l → dot (cross z a b) (middle z (at s.i) (at s.j) (at s.k)) ≡ vol z (at s.i) (at s.j) (at s.k)
           → Rises (cross z a b) (minus l z) (middle z (at s.i) (at s.j) (at s.k))
-      edge a b k e = inr (omega (arith, ints, vol-dot z a b l), moved _ _ e (outwards s i))
+      edge a b k e = inr (omega (arith, ints, vol-dot z a b l), equal_positive _ _ (sym e) (outwards s i))
 
       same : (g a b p q hs ht : ℤ) → g ≡ neg_ℤ a *ℤ q -ℤ neg_ℤ b *ℤ p → hs ≡ p +ℤ a → ht ≡ q +ℤ b → hs ≡ pos 0 → neg_ℤ a *ℤ ht ≡ g
       same g a b p q hs ht e f k n = finish (sym e) (solve p a hs f n) k
@@ -203,13 +195,10 @@ module _ (at : ℕ → Vector) (z : Vector) (ts : List Triple) (inside : (t : Tr
       → (l : ℕ) → IsCornerOf ts l → (t : Triple) → In t ts → rise at t (at l) ≤ℤ pos 0
   none_above closed d apart once highest l (s, i, m) t j = by_lt_z (pos 0) (rise at t (at l)) (λ h. absurd (start h)) (λ h. h)
     where
-      less_both : (a b : ℤ) → a <ℤ b → b ≤ℤ a → ⊥
-      less_both a b h k = omega (arith, ints)
-
       -- two are met in one direction
       two : (y : Vector) → AllUp (forms s t) y → count (is_met at z (plus z y)) ts ≤ 1 → HighestMet at z (plus z y) ts → ⊥
       two y up one (g, there, top, met) =
-          less_both (height at z (plus z y) ts s *ℤ depth at z (plus z y) ts t) (height at z (plus z y) ts t *ℤ depth at z (plus z y) ts s)
+          not_less (height at z (plus z y) ts s *ℤ depth at z (plus z y) ts t) (height at z (plus z y) ts t *ℤ depth at z (plus z y) ts s)
           (higher_there s t y up)
           (subst (λ r. (height at z (plus z y) ts t *ℤ depth at z (plus z y) ts r) ≤ℤ (height at z (plus z y) ts r *ℤ depth at z (plus z y) ts t))
           (only_one (is_met at z (plus z y)) ts g s one there i met (met_there s t y up)) (top t j))

@@ -1,12 +1,14 @@
 -- Points near a given one that are off the planes through z and the edges of a surface.
-use Rattle.std.proofs.Common.{◌≡◌, ℕ, refl, sym, ap, subst, ◌∙◌, arith, List, [], ◌∷◌, ◌++◌, map, ◌⊎◌, inl, inr}
+use Rattle.std.proofs.Common.{◌≡◌, ℕ, refl, sym, ap, subst, ◌∙◌, arith, List, [], ◌∷◌, ◌++◌, map, ◌⊎◌, inl, inr, true}
 use Rattle.std.proofs.lemmas.Int.{ints}
 use Rattle.std.specs.Prelude.{ℤ, pos, ◌+ℤ◌, ◌-ℤ◌, neg_ℤ, ◌<ℤ◌}
 use Rattle.qh_model.specs.contract.ClosedSurface.{Triple, edges}
 use Rattle.qh_model.specs.headline.{Predicates.cross, Predicates.vol, Predicates.AreInLine, Sets.In, Vector.Vector, Vector.origin, Vector.minus, Vector.dot}
+use Rattle.qh_model.proofs.algebra.Signs.{opposite_zero}
 use Rattle.qh_model.proofs.algebra.VectorIdentities.{vector_path, vol-dot, in_line-vol, vol-swap_last}
 use Rattle.qh_model.proofs.lists.{Images.in_map, Images.of_map, Joined.in_append, Joined.of_append}
-use Rattle.qh_convex_laws.proofs.{Directions.IsOffEdges, Perturbed.AllUp, Perturbed.Perturbed, Perturbed.perturbed, Rounds.vol-round, Rounds.vol-outwards}
+use Rattle.qh_convex_laws.proofs.{Directions.IsOffEdges, Perturbed.AllUp, Perturbed.Perturbed, Perturbed.perturbed, Rounds.vol-round}
+use Rattle.qh_convex_laws.proofs.{Rounds.vol-outwards, Signs.above, Signs.is_above}
 
 -- z + y
 abbrev pub plus : Vector → Vector → Vector
@@ -22,6 +24,10 @@ minus-plus z y = vector_path (minus (plus z y) z) y (back z.x y.x) (back z.y y.y
 -- a volume from z with it
 pub vol-plus : (z a b y : Vector) → vol z a b (plus z y) ≡ dot (cross z a b) y
 vol-plus z a b y = vol-dot z a b (plus z y) ∙ ap (dot (cross z a b)) (minus-plus z y)
+
+-- so z + y is above the plane through z and an edge where y goes along its normal
+pub edge_above : (z y a b : Vector) → pos 0 <ℤ dot (cross z a b) y → above (vol z a b (plus z y)) ≡ true
+edge_above z y a b h = is_above (vol z a b (plus z y)) (subst (λ v. pos 0 <ℤ v) (sym (vol-plus z a b y)) h)
 
 -- no edge of triangles that have z below is in line with z
 pub edge_spans : (at : ℕ → Vector) (z : Vector) (ts : List Triple) → ((t : Triple) → In t ts → vol (at t.i) (at t.j) (at t.k) z <ℤ pos 0)
@@ -85,12 +91,9 @@ module _ (at : ℕ → Vector) (z : Vector) (ts : List Triple) (inside : (t : Tr
   pub off_all : (d : Vector) → IsOffEdges at ts z d → (ps : List Vector) (x : Vector) → AllUp ps x → PointOff d ps
   off_all d apart ps x h = go (perturbed (map edge_normal (edges ts) ++ map (corner_normal d) (edges ts)) ps x none h)
     where
-      zero_neg : (v w : ℤ) → v ≡ neg_ℤ w → w ≡ pos 0 → v ≡ pos 0
-      zero_neg v w e f = omega (arith, ints)
-
       with_corner : (e : ℕ × ℕ) → In e (edges ts) → ¬ (corner_normal d e ≡ origin)
       with_corner e i f =
-          apart e i (zero_neg (vol z (at e.0) (at e.1) d) (vol z (at e.0) d (at e.1)) (vol-swap_last z (at e.0) (at e.1) d)
+          apart e i (opposite_zero (vol z (at e.0) (at e.1) d) (vol z (at e.0) d (at e.1)) (vol-swap_last z (at e.0) (at e.1) d)
           (in_line-vol z (at e.0) d (at e.1) f))
 
       none : (l : Vector) → In l (map edge_normal (edges ts) ++ map (corner_normal d) (edges ts)) → ¬ (l ≡ origin)

@@ -5,6 +5,7 @@ use Rattle.std.specs.Prelude.{ℤ, pos, ◌+ℤ◌, ◌*ℤ◌, neg_ℤ, ◌≤�
 use Rattle.qh_model.specs.headline.{Sets.In, Vector.Vector, Vector.origin, Vector.dot}
 use Rattle.qh_model.proofs.algebra.Order.{mul-nonneg, mul-le, zero_or_not, le_less}
 use Rattle.qh_model.proofs.algebra.Ring.{Expr, ring, Expr.var, Expr.add, Expr.mul}
+use Rattle.qh_model.proofs.algebra.Signs.{negated_positive}
 use Rattle.qh_model.proofs.algebra.VectorIdentities.{VE, vec, put, dotE, opposite, dot-opposite}
 use Rattle.qh_model.proofs.{closed_surfaces.Supporting.ceiling, extremes.Directions.square-positive}
 
@@ -90,13 +91,10 @@ pub perturbed : (ls ps : List Vector) (x : Vector) → ((l : Vector) → In l ls
 perturbed [] ps x n h = (x, h, λ l i. absurd i)
 perturbed (l ∷ ls) ps x n h = start (λ qs w k. perturbed ls qs w (λ m i. n m (inr i)) k) (zero_or_not (dot l x))
   where
-    turned : (v w : ℤ) → w ≡ neg_ℤ v → v <ℤ pos 0 → pos 0 <ℤ w
-    turned v w e h = omega (arith, ints)
-
     settled : ((qs : List Vector) (w : Vector) → AllUp qs w → Perturbed ls qs) → (w : Vector) → AllUp ps w → ¬ (dot l w ≡ pos 0) → Perturbed (l ∷ ls) ps
     settled step w k o =
         by_lt_z (pos 0) (dot l w) (λ q. more_off l ls ps (inl (step (l ∷ ps) w (more_up l ps w q k)))) (λ q. more_off l ls ps (inr (step (opposite l ∷ ps) w
-        (more_up (opposite l) ps w (turned (dot l w) (dot (opposite l) w) (dot-opposite l w) (le_less (dot l w) (pos 0) q o)) k))))
+        (more_up (opposite l) ps w (negated_positive (dot (opposite l) w) (dot l w) (dot-opposite l w) (le_less (dot l w) (pos 0) q o)) k))))
 
     start : ((qs : List Vector) (w : Vector) → AllUp qs w → Perturbed ls qs) → (dot l x ≡ pos 0) ⊎ (¬ (dot l x ≡ pos 0)) → Perturbed (l ∷ ls) ps
     start step (inr o) = settled step x h o

@@ -8,7 +8,7 @@ use Rattle.qh_model.specs.headline.{Extreme.Extreme, Extreme.Others, Polygon.Fol
 use Rattle.qh_model.specs.headline.{Sets.In, Sets.Members, SupportingPlane.OnPlane, Vector.Vector, Vector.minus, Vector.cross_product, Vector.dot}
 use Rattle.qh_model.specs.laws.Separator.{Separator}
 use Rattle.qh_model.proofs.algebra.{Integers.zero_mul, Order.cancel-zero, Order.mul-neg_neg, Order.mul-pos_neg, Order.mul-nonneg, Order.mul-nonneg_nonpos}
-use Rattle.qh_model.proofs.algebra.{Order.product_zero, Ring.ring, Ring.Expr.add, Signs.less_le}
+use Rattle.qh_model.proofs.algebra.{Order.product_zero, Ring.ring, Ring.Expr.add, Signs.less_le, Signs.negated_positive}
 use Rattle.qh_model.proofs.algebra.VectorIdentities.{vec, put, dotE, vol-linear, dot-minus, opposite, dot-opposite, left-turn, left-flip, in_line-left}
 use Rattle.qh_model.proofs.algebra.VectorIdentities.{in_line-twice, vol-second, vol-third}
 use Rattle.qh_model.proofs.{combinations.Alternatives.all_lower, extremes.Directions.square-positive}
@@ -143,12 +143,9 @@ module _ (at : ℕ → Vector) (ids : List ℕ) (ts : List Triple) (z d : Vector
         let w = third_member q p.three p.once 0 0 in
         none_ahead at z (at l) q (sides l m) turns (plus z (cross_product s.w normal)) ahead w.0 w.1
       where
-        up : (a b : ℤ) → a ≡ neg_ℤ b → b <ℤ pos 0 → pos 0 <ℤ a
-        up a b e h = omega (arith, ints)
-
         ahead : (v : ℕ) → In v q → pos 0 <ℤ vol z (at l) (at v) (plus z (cross_product s.w normal))
         ahead v k =
-            beyond_volume z (at l) (at v) s.w normal (up (dot normal (minus (at l) z)) (rise at t z) (distance l m.1) (c.inside t i))
+            beyond_volume z (at l) (at v) s.w normal (negated_positive (dot normal (minus (at l) z)) (rise at t z) (distance l m.1) (c.inside t i))
             (distance v (p.level v k) ∙ sym (distance l m.1)) (omega (arith, ints, dot-minus s.w (at v) z, dot-minus s.w (at l) z, s.past v k))
 
     extreme_corner : (l : ℕ) → OnPlane at (Extreme at (Members ids)) t.i t.j t.k l → In l q

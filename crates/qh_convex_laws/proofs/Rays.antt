@@ -4,10 +4,10 @@ use Rattle.std.proofs.lemmas.{Bool.and_parts, Bool.and_from, Bool.and_left, Bool
 use Rattle.std.specs.Prelude.{ℤ, pos, neg_ℤ, ◌<ℤ◌}
 use Rattle.qh_model.specs.contract.ClosedSurface.{Triple}
 use Rattle.qh_model.specs.headline.{Predicates.cross, Predicates.vol, Sets.In, Vector.Vector, Vector.minus, Vector.dot}
-use Rattle.qh_model.proofs.algebra.{Signs.less_le, VectorIdentities.opposite, VectorIdentities.dot-opposite, VectorIdentities.vol-dot}
+use Rattle.qh_model.proofs.algebra.{Signs.less_le, Signs.negated_positive, VectorIdentities.opposite, VectorIdentities.dot-opposite, VectorIdentities.vol-dot}
 use Rattle.qh_model.proofs.{closed_surfaces.Sums.count, lists.Joined.in_append, lists.Joined.of_append}
 use Rattle.qh_convex_laws.specs.contract.LocallyConvex.{is_met, IsMissed}
-use Rattle.qh_convex_laws.proofs.{OffPoints.plus, OffPoints.vol-plus, Perturbed.AllUp, Signs.above, Signs.above_is, Signs.is_above, Signs.not_above}
+use Rattle.qh_convex_laws.proofs.{OffPoints.plus, OffPoints.edge_above, OffPoints.vol-plus, Perturbed.AllUp, Signs.above, Signs.above_is, Signs.not_above}
 
 -- tests that are alike count alike
 pub count-alike : {X : Type 0} (p q : X → Bool) (xs : List X) → ((x : X) → In x xs → p x ≡ q x) → count p xs ≡ count q xs
@@ -42,26 +42,21 @@ module _ (at : ℕ → Vector) (z d : Vector) where
       here p (inr (inr (inl f))) = subst (λ v. pos 0 <ℤ dot v (minus d z)) (sym f) (at_least (at t.k) (at t.i) (above_is _ part.2))
       here p (inr (inr (inr x))) = absurd x
 
-      edge : (y a b : Vector) → pos 0 <ℤ dot (cross z a b) y → above (vol z a b (plus z y)) ≡ true
-      edge y a b h = is_above (vol z a b (plus z y)) (subst (λ v. pos 0 <ℤ v) (sym (vol-plus z a b y)) h)
-
       tell : (y : Vector) → AllUp (cross z (at t.i) (at t.j) ∷ cross z (at t.j) (at t.k) ∷ cross z (at t.k) (at t.i) ∷ []) y → MeetsSame t y
       tell y up =
-          and_from _ _ (edge y (at t.i) (at t.j) (up (cross z (at t.i) (at t.j)) (inl refl)))
-          (and_from _ _ (edge y (at t.j) (at t.k) (up (cross z (at t.j) (at t.k)) (inr (inl refl))))
-          (edge y (at t.k) (at t.i) (up (cross z (at t.k) (at t.i)) (inr (inr (inl refl)))))) ∙ sym e
+          and_from _ _ (edge_above z y (at t.i) (at t.j) (up (cross z (at t.i) (at t.j)) (inl refl)))
+          (and_from _ _ (edge_above z y (at t.j) (at t.k) (up (cross z (at t.j) (at t.k)) (inr (inl refl))))
+          (edge_above z y (at t.k) (at t.i) (up (cross z (at t.k) (at t.i)) (inr (inr (inl refl)))))) ∙ sym e
 
   -- a triangle that is missed over an edge
   of_edge : (t : Triple) (a b : Vector) → vol z a b d <ℤ pos 0 → ((q : Vector) → above (vol z a b q) ≡ false → is_met at z q t ≡ false) → Forms (MeetsSame t)
   of_edge t a b h out = record { list = opposite (cross z a b) ∷ []; here = here; tell = tell }
     where
-      turned : (v w : ℤ) → w ≡ neg_ℤ v → v <ℤ pos 0 → pos 0 <ℤ w
-      turned v w e h = omega (arith, ints)
-
       here : AllUp (opposite (cross z a b) ∷ []) (minus d z)
       here p (inl f) =
           subst (λ v. pos 0 <ℤ dot v (minus d z)) (sym f)
-          (turned (vol z a b d) (dot (opposite (cross z a b)) (minus d z)) (dot-opposite (cross z a b) (minus d z) ∙ ap neg_ℤ (sym (vol-dot z a b d))) h)
+          (negated_positive (dot (opposite (cross z a b)) (minus d z)) (vol z a b d)
+          (dot-opposite (cross z a b) (minus d z) ∙ ap neg_ℤ (sym (vol-dot z a b d))) h)
       here p (inr x) = absurd x
 
       tell : (y : Vector) → AllUp (opposite (cross z a b) ∷ []) y → MeetsSame t y

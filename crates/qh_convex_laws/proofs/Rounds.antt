@@ -4,7 +4,7 @@ use Rattle.std.proofs.lemmas.{Bool.and_from, Int.ints}
 use Rattle.std.specs.Prelude.{ℤ, pos, ◌+ℤ◌, ◌-ℤ◌, ◌*ℤ◌, neg_ℤ, ◌<ℤ◌}
 use Rattle.qh_model.specs.headline.{Predicates.cross, Predicates.vol, Vector.Vector, Vector.minus}
 use Rattle.qh_model.proofs.algebra.{Order.zero_product, Ring.ring, Ring.ring_zero, Ring.Expr.add, Ring.Expr.sub as less, Ring.Expr.mul, Ring.Expr.neg}
-use Rattle.qh_model.proofs.algebra.VectorIdentities.{vec, put, volE, detE}
+use Rattle.qh_model.proofs.algebra.{Signs.negated_positive, VectorIdentities.vec, VectorIdentities.put, VectorIdentities.volE, VectorIdentities.detE}
 use Rattle.qh_convex_laws.proofs.Crossings.{signs_fit}
 use Rattle.qh_convex_laws.proofs.Signs.{above, same, is_above, above_product, fits_difference, difference_fits, fits_sum, sum_fits}
 
@@ -93,11 +93,8 @@ round_fits z a b c d x h u₁ u₂ u₃ v₁ v₂ v₃ sa sb sc =
     (and_from _ _ (products_fit _ _ _ _ (vol z c a b) _ u₃ v₁ v₃ u₁ sa third (turn_product z c a b d x))
     (and_from _ _ (three_fit _ _ _ _ _ _ u₂ sa u₃ sb u₁ sc (first_sum z a b c d x)) (three_fit _ _ _ _ _ _ v₂ sa v₃ sb v₁ sc (second_sum z a b c d x)))))
   where
-    turned : (v w : ℤ) → v ≡ neg_ℤ w → w <ℤ pos 0 → pos 0 <ℤ v
-    turned v w e h = omega (arith, ints)
-
     outwards : pos 0 <ℤ vol z a b c
-    outwards = turned (vol z a b c) (vol a b c z) (vol-outwards z a b c) h
+    outwards = negated_positive (vol z a b c) (vol a b c z) (vol-outwards z a b c) h
 
     second : pos 0 <ℤ vol z b c a
     second = omega (arith, ints, vol-round z a b c, outwards)

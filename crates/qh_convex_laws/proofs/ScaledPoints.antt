@@ -2,7 +2,7 @@
 use Rattle.std.proofs.{Common.◌≡◌, Common.ℕ, Common.◌+◌, Common.refl, Common.sym, Common.ap, Common.◌∙◌, Common.arith, Common.[], Common.◌∷◌, lemmas.Int.ints}
 use Rattle.std.specs.Prelude.{ℤ, pos, ◌+ℤ◌, ◌-ℤ◌, ◌*ℤ◌, ◌<ℤ◌}
 use Rattle.qh_model.specs.headline.{Combination.IsBalanced, Predicates.cross, Predicates.vol, Predicates.left, Vector.Vector, Vector.dot}
-use Rattle.qh_model.proofs.algebra.{Order.cancel-zero, Ring.ring, Ring.Expr.var, Ring.Expr.add, Ring.Expr.sub as less, Ring.Expr.mul}
+use Rattle.qh_model.proofs.algebra.{Integers.mul_sub, Integers.mul_swap, Order.cancel-zero, Ring.ring, Ring.Expr.var, Ring.Expr.add, Ring.Expr.mul}
 use Rattle.qh_model.proofs.algebra.VectorIdentities.{vec, put, volE, dotE, left-dot}
 use Rattle.qh_model.proofs.closed_surfaces.Beyond.{scaled, scaledE, cross-scaled}
 
@@ -29,41 +29,27 @@ left-scaled m i j k u v w =
     ∙ dot-scaled (m *ℤ m) (cross u v w) (cross i j k)
     ∙ ap (λ s. m *ℤ m *ℤ (m *ℤ m) *ℤ s) (sym (left-dot (cross i j k) u v w))
 
+-- a factor over a weighted sum
+weigh : (m a b c d r s t u : ℤ) → m *ℤ (r *ℤ a +ℤ s *ℤ b +ℤ t *ℤ c +ℤ u *ℤ d) ≡ r *ℤ (m *ℤ a) +ℤ s *ℤ (m *ℤ b) +ℤ t *ℤ (m *ℤ c) +ℤ u *ℤ (m *ℤ d)
+weigh m a b c d r s t u =
+    ring (m ∷ a ∷ b ∷ c ∷ d ∷ r ∷ s ∷ t ∷ u ∷ [])
+    (mul (var 0) (add (add (add (mul (var 5) (var 1)) (mul (var 6) (var 2))) (mul (var 7) (var 3))) (mul (var 8) (var 4))))
+    (add (add (add (mul (var 5) (mul (var 0) (var 1))) (mul (var 6) (mul (var 0) (var 2)))) (mul (var 7) (mul (var 0) (var 3))))
+    (mul (var 8) (mul (var 0) (var 4)))) refl
+
 -- one coordinate of a combination at the scale
 pub balanced_up : (m : ℤ) (w₁ w₂ w₃ w₄ : ℕ) (p a b c d : ℤ) → IsBalanced w₁ w₂ w₃ w₄ p a b c d
     → IsBalanced w₁ w₂ w₃ w₄ (m *ℤ p) (m *ℤ a) (m *ℤ b) (m *ℤ c) (m *ℤ d)
-balanced_up m w₁ w₂ w₃ w₄ p a b c d e = swapped (pos (w₁ + w₂ + w₃ + w₄)) m p ∙ ap (λ s. m *ℤ s) e ∙ spread (pos w₁) (pos w₂) (pos w₃) (pos w₄)
-  where
-    swapped : (w m p : ℤ) → w *ℤ (m *ℤ p) ≡ m *ℤ (w *ℤ p)
-    swapped w m p = ring (w ∷ m ∷ p ∷ []) (mul (var 0) (mul (var 1) (var 2))) (mul (var 1) (mul (var 0) (var 2))) refl
-
-    spread : (r s t u : ℤ) → m *ℤ (r *ℤ a +ℤ s *ℤ b +ℤ t *ℤ c +ℤ u *ℤ d) ≡ r *ℤ (m *ℤ a) +ℤ s *ℤ (m *ℤ b) +ℤ t *ℤ (m *ℤ c) +ℤ u *ℤ (m *ℤ d)
-    spread r s t u =
-        ring (m ∷ a ∷ b ∷ c ∷ d ∷ r ∷ s ∷ t ∷ u ∷ [])
-        (mul (var 0) (add (add (add (mul (var 5) (var 1)) (mul (var 6) (var 2))) (mul (var 7) (var 3))) (mul (var 8) (var 4))))
-        (add (add (add (mul (var 5) (mul (var 0) (var 1))) (mul (var 6) (mul (var 0) (var 2)))) (mul (var 7) (mul (var 0) (var 3))))
-        (mul (var 8) (mul (var 0) (var 4)))) refl
+balanced_up m w₁ w₂ w₃ w₄ p a b c d e =
+    mul_swap (pos (w₁ + w₂ + w₃ + w₄)) m p ∙ ap (λ s. m *ℤ s) e ∙ weigh m a b c d (pos w₁) (pos w₂) (pos w₃) (pos w₄)
 
 -- a positive factor goes from both sides
 pub cancel-both : (m a b : ℤ) → pos 0 <ℤ m → m *ℤ a ≡ m *ℤ b → a ≡ b
-cancel-both m a b h e = omega (arith, ints, cancel-zero m (a -ℤ b) h (split m a b ∙ (omega (arith, ints))))
-  where
-    split : (m a b : ℤ) → m *ℤ (a -ℤ b) ≡ m *ℤ a -ℤ m *ℤ b
-    split m a b = ring (m ∷ a ∷ b ∷ []) (mul (var 0) (less (var 1) (var 2))) (less (mul (var 0) (var 1)) (mul (var 0) (var 2))) refl
+cancel-both m a b h e = omega (arith, ints, cancel-zero m (a -ℤ b) h (mul_sub m a b ∙ (omega (arith, ints))))
 
 -- and back
 pub balanced_down : (m : ℤ) → pos 0 <ℤ m → (w₁ w₂ w₃ w₄ : ℕ) (p a b c d : ℤ)
     → IsBalanced w₁ w₂ w₃ w₄ (m *ℤ p) (m *ℤ a) (m *ℤ b) (m *ℤ c) (m *ℤ d) → IsBalanced w₁ w₂ w₃ w₄ p a b c d
 balanced_down m h w₁ w₂ w₃ w₄ p a b c d e =
     cancel-both m (pos (w₁ + w₂ + w₃ + w₄) *ℤ p) (pos w₁ *ℤ a +ℤ pos w₂ *ℤ b +ℤ pos w₃ *ℤ c +ℤ pos w₄ *ℤ d) h
-    (swapped (pos (w₁ + w₂ + w₃ + w₄)) ∙ e ∙ spread (pos w₁) (pos w₂) (pos w₃) (pos w₄))
-  where
-    swapped : (w : ℤ) → m *ℤ (w *ℤ p) ≡ w *ℤ (m *ℤ p)
-    swapped w = ring (w ∷ m ∷ p ∷ []) (mul (var 1) (mul (var 0) (var 2))) (mul (var 0) (mul (var 1) (var 2))) refl
-
-    spread : (r s t u : ℤ) → r *ℤ (m *ℤ a) +ℤ s *ℤ (m *ℤ b) +ℤ t *ℤ (m *ℤ c) +ℤ u *ℤ (m *ℤ d) ≡ m *ℤ (r *ℤ a +ℤ s *ℤ b +ℤ t *ℤ c +ℤ u *ℤ d)
-    spread r s t u =
-        ring (m ∷ a ∷ b ∷ c ∷ d ∷ r ∷ s ∷ t ∷ u ∷ [])
-        (add (add (add (mul (var 5) (mul (var 0) (var 1))) (mul (var 6) (mul (var 0) (var 2)))) (mul (var 7) (mul (var 0) (var 3))))
-        (mul (var 8) (mul (var 0) (var 4))))
-        (mul (var 0) (add (add (add (mul (var 5) (var 1)) (mul (var 6) (var 2))) (mul (var 7) (var 3))) (mul (var 8) (var 4)))) refl
+    (mul_swap m (pos (w₁ + w₂ + w₃ + w₄)) p ∙ e ∙ sym (weigh m a b c d (pos w₁) (pos w₂) (pos w₃) (pos w₄)))

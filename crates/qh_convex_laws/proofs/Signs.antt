@@ -1,7 +1,7 @@
 -- Signs of whole numbers as tests, and what the signs round a triangle can be.
 use Rattle.std.proofs.{Common.◌≡◌, Common.arith, Common.refl, Common.Bool, Common.true, Common.false, Common.not, Common.◌&&◌, Common.◌||◌, lemmas.Int.ints}
 use Rattle.std.specs.Prelude.{ℤ, pos, ◌+ℤ◌, ◌-ℤ◌, ◌*ℤ◌, neg_ℤ, int_lt, ◌≤ℤ◌, ◌<ℤ◌}
-use Rattle.qh_model.proofs.algebra.Order.{mul-pos, mul-pos_neg, mul-neg_pos, mul-neg_neg, le_less}
+use Rattle.qh_model.proofs.algebra.Order.{mul-pos, mul-pos_neg, mul-neg_pos, mul-neg_neg, le_less, neg-positive, negative_le}
 
 -- is a number above 0?
 abbrev pub above : ℤ → Bool
@@ -43,25 +43,19 @@ same false b = not b
 pub above_product : (x y : ℤ) → ¬ (x ≡ pos 0) → ¬ (y ≡ pos 0) → above (x *ℤ y) ≡ same (above x) (above y)
 above_product x y m n = by (above x) (above y) refl refl
   where
-    less_le : (v : ℤ) → v <ℤ pos 0 → v ≤ℤ pos 0
-    less_le v h = omega (arith, ints)
-
     by : (a b : Bool) → above x ≡ a → above y ≡ b → above (x *ℤ y) ≡ same (above x) (above y)
     by true true e f = rw (e, f) (is_above (x *ℤ y) (mul-pos x y (above_is x e) (above_is y f)))
-    by true false e f = rw (e, f) (not_above (x *ℤ y) (less_le (x *ℤ y) (mul-pos_neg x y (above_is x e) (below_is y n f))))
-    by false true e f = rw (e, f) (not_above (x *ℤ y) (less_le (x *ℤ y) (mul-neg_pos x y (below_is x m e) (above_is y f))))
+    by true false e f = rw (e, f) (not_above (x *ℤ y) (negative_le (x *ℤ y) (mul-pos_neg x y (above_is x e) (below_is y n f))))
+    by false true e f = rw (e, f) (not_above (x *ℤ y) (negative_le (x *ℤ y) (mul-neg_pos x y (below_is x m e) (above_is y f))))
     by false false e f = rw (e, f) (is_above (x *ℤ y) (mul-neg_neg x y (below_is x m e) (below_is y n f)))
 
 -- the sign of an opposite
 pub above-neg : (x : ℤ) → ¬ (x ≡ pos 0) → above (neg_ℤ x) ≡ not (above x)
 above-neg x n = by (above x) refl
   where
-    up : (v : ℤ) → v <ℤ pos 0 → pos 0 <ℤ neg_ℤ v
-    up v h = omega (arith, ints)
-
     by : (b : Bool) → above x ≡ b → above (neg_ℤ x) ≡ not (above x)
     by true e = rw e (not_above (neg_ℤ x) (omega (arith, ints, above_is x e)))
-    by false e = rw e (is_above (neg_ℤ x) (up x (below_is x n e)))
+    by false e = rw e (is_above (neg_ℤ x) (neg-positive x (below_is x n e)))
 
 -- ---- what signs can be together
 -- the signs of p, q and r with p - q = r

@@ -2,7 +2,7 @@
 use Rattle.std.proofs.{Common.◌≡◌, Common.refl, Common.ap, Common.◌∙◌, Common.arith, Common.[], Common.◌∷◌, lemmas.Int.ints}
 use Rattle.std.specs.Prelude.{ℤ, pos, ◌+ℤ◌, ◌-ℤ◌, ◌*ℤ◌, neg_ℤ, ◌≤ℤ◌, ◌<ℤ◌}
 use Rattle.qh_model.specs.headline.{Predicates.cross, Predicates.vol, Vector.Vector, Vector.minus, Vector.dot}
-use Rattle.qh_model.proofs.algebra.{Order.mul-nonneg_nonpos, Order.cancel-nonpos, Ring.ring}
+use Rattle.qh_model.proofs.algebra.{Integers.mul_add, Order.mul-nonneg_nonpos, Order.cancel-nonpos, Ring.ring}
 use Rattle.qh_model.proofs.algebra.Ring.Expr.{var, add, sub as less, mul, neg}
 use Rattle.qh_model.proofs.algebra.VectorIdentities.{vec, put, volE, detE, dotE}
 use Rattle.qh_convex_laws.proofs.NoneAbove.{vol-from}
@@ -49,11 +49,8 @@ under_is_below i j k z a b c p out hz ha hb hc u₁ u₂ u₃ low =
         (add (add (add (mul (var 2) (add (var 4) (var 7))) (mul (var 3) (add (var 5) (var 7)))) (mul (var 1) (add (var 6) (var 7))))
         (mul (neg (less (add (add (var 1) (var 2)) (var 3)) (var 0))) (var 7))) refl
 
-    split : (v np s : ℤ) → v *ℤ (np +ℤ s) ≡ v *ℤ np +ℤ v *ℤ s
-    split v np s = ring (v ∷ np ∷ s ∷ []) (mul (var 0) (add (var 1) (var 2))) (add (mul (var 0) (var 1)) (mul (var 0) (var 2))) refl
-
     weights : (v u₁ u₂ u₃ na nb nc np s ra rb rc rp rt : ℤ) → ra ≡ na +ℤ s → rb ≡ nb +ℤ s → rc ≡ nc +ℤ s → rp ≡ np +ℤ s
         → rt ≡ u₁ +ℤ u₂ +ℤ u₃ -ℤ v → v *ℤ np ≡ u₂ *ℤ na +ℤ u₃ *ℤ nb +ℤ u₁ *ℤ nc
         → v *ℤ rp ≡ u₂ *ℤ ra +ℤ u₃ *ℤ rb +ℤ u₁ *ℤ rc +ℤ neg_ℤ rt *ℤ s
     weights v u₁ u₂ u₃ na nb nc np s ra rb rc rp rt ea eb ec ep et id =
-        rw (ea, eb, ec, ep, et) (split v np s ∙ ap (λ m. m +ℤ v *ℤ s) id ∙ grown v u₁ u₂ u₃ na nb nc s)
+        rw (ea, eb, ec, ep, et) (mul_add v np s ∙ ap (λ m. m +ℤ v *ℤ s) id ∙ grown v u₁ u₂ u₃ na nb nc s)

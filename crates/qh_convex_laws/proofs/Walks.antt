@@ -4,7 +4,8 @@ use Rattle.std.proofs.Common.{◌≡◌, ℕ, refl, sym, ap, subst, ◌∙◌, a
 use Rattle.std.proofs.lemmas.{Bool.and_parts, Int.ints}
 use Rattle.std.specs.Prelude.{ℤ, pos, ◌-ℤ◌, ◌*ℤ◌, neg_ℤ, ◌<ℤ◌}
 use Rattle.qh_model.specs.{contract.ClosedSurface.Triple, contract.ClosedSurface.edges, headline.Predicates.vol, headline.Sets.In, headline.Vector.Vector}
-use Rattle.qh_model.proofs.algebra.{Integers.mul_comm, Order.mul-pos, Order.mul-pos_neg, Ring.ring, Ring.Expr.var, Ring.Expr.mul, Ring.Expr.neg}
+use Rattle.qh_model.proofs.algebra.{Integers.mul_comm, Order.mul-pos, Order.mul-pos_neg, Order.neg-positive, Ring.ring, Ring.Expr.var}
+use Rattle.qh_model.proofs.algebra.{Ring.Expr.mul, Ring.Expr.neg, Signs.equal_negative}
 use Rattle.qh_convex_laws.specs.contract.LocallyConvex.{IsRound, HasLowNeighbour, IsConvexAround, is_met}
 use Rattle.qh_convex_laws.proofs.{Ascents.Next, Ascents.ascent, Crossings.signs_fit, Crossings.GoesOn, Crossings.goes_on, Crossings.Begins, Crossings.begins}
 use Rattle.qh_convex_laws.proofs.{Directions.IsOffEdges, Greatest.IsGreatest, Highest.rise, Highest.rise_round, Highest.depth, Highest.height}
@@ -54,13 +55,10 @@ module _ (at : ℕ → Vector) (z : Vector) (ts : List Triple) (inside : (t : Tr
     signs_round : (t : Triple) → In t ts → (u v w : ℕ) → IsRound t u v w
         → signs_fit (side u) (side v) (side w) (inwards u v) (inwards v w) (inwards w u) (behind u v) (behind v w) (behind w u) ≡ true
     signs_round t i u v w r =
-        round_fits z (at u) (at v) (at w) x q (moved (rise at t z) (vol (at u) (at v) (at w) z) (rise_round at t u v w r z) (inside t i))
+        round_fits z (at u) (at v) (at w) x q (equal_negative (rise at t z) (vol (at u) (at v) (at w) z) (rise_round at t u v w r z) (inside t i))
         (off (u, v) first) (off (v, w) second) (off (w, u) third) (off_q (u, v) first) (off_q (v, w) second) (off_q (w, u) third)
         (corners (u, v) first) (corners (v, w) second) (corners (w, u) third)
       where
-        moved : (a b : ℤ) → a ≡ b → a <ℤ pos 0 → b <ℤ pos 0
-        moved a b e h = omega (arith, ints)
-
         first : In (u, v) (edges ts)
         first = edge_of ts t i u v w r
 
@@ -94,10 +92,7 @@ module _ (at : ℕ → Vector) (z : Vector) (ts : List Triple) (inside : (t : Tr
     past e h = below_is (vol z (at e.0) (at e.1) x) (off e (edge_of ts h.t h.there e.0 e.1 h.w h.round)) h.out
 
     positive : (e : ℕ × ℕ) → IsExit e → pos 0 <ℤ left_over e
-    positive e h = up (vol z (at e.0) (at e.1) x) (past e h)
-      where
-        up : (v : ℤ) → v <ℤ pos 0 → pos 0 <ℤ neg_ℤ v
-        up v h = omega (arith, ints)
+    positive e h = neg-positive (vol z (at e.0) (at e.1) x) (past e h)
 
     abbrev Goes : (ℕ × ℕ) → Type 0
     Goes e = (HighestMet at z x ts) ⊎ Next gone left_over IsExit (HighestMet at z x ts) (edges ts) e

@@ -1,11 +1,11 @@
 -- The unit square and small lists, computed: polygons, their order and their edges.
-use Rattle.std.proofs.Common.{◌≡◌, ℕ, refl, List, [], ◌∷◌, arith, subst, sym, inl, inr}
+use Rattle.std.proofs.Common.{◌≡◌, ℕ, refl, List, [], ◌∷◌, arith, inl, inr}
 use Rattle.std.proofs.lemmas.Int.{ints}
 use Rattle.std.specs.Prelude.{pos, negsuc, ◌<ℤ◌}
 use Rattle.qh_model.specs.contract.Simplex.{one_of}
 use Rattle.qh_model.specs.headline.{Polygon.Follows, Polygon.TurnsLeft, Polygon.IsPolygon, Polygons.ComesBefore, Polygons.PointsForward, Polygons.IsEdge}
-use Rattle.qh_model.specs.headline.{Predicates.left, Predicates.cross, Sets.In, Sets.Members, Vector.Vector}
-use Rattle.qh_model.proofs.polygons.Cycles.{round_holds}
+use Rattle.qh_model.specs.headline.{Predicates.left, Predicates.cross, Sets.Members, Vector.Vector}
+use Rattle.qh_model.proofs.{polygons.Cycles.round_holds, surfaces.Simplex.four}
 
 -- ---- the unit square
 abbrev flat : ℕ → ℕ → Vector
@@ -23,36 +23,28 @@ upward = record { x = pos 0; y = pos 0; z = pos 1 }
 abbrev around : List ℕ
 around = 0 ∷ 1 ∷ 2 ∷ 3 ∷ []
 
--- what holds of the four corners
-corners : (P : ℕ → Type 0) → P 0 → P 1 → P 2 → P 3 → (w : ℕ) → In w around → P w
-corners P p q r s w (inl e) = subst P (sym e) p
-corners P p q r s w (inr (inl e)) = subst P (sym e) q
-corners P p q r s w (inr (inr (inl e))) = subst P (sym e) r
-corners P p q r s w (inr (inr (inr (inl e)))) = subst P (sym e) s
-corners P p q r s w (inr (inr (inr (inr n)))) = absurd n
-
 -- the way from 0 to 1 has the others to its left
 turn_0 : TurnsLeft square upward around 0 1
 unfolding left cross
-turn_0 = corners (λ w. ¬ (w ≡ 0) → ¬ (w ≡ 1) → pos 0 <ℤ left upward (square 0) (square 1) (square w))
+turn_0 = four (λ w. ¬ (w ≡ 0) → ¬ (w ≡ 1) → pos 0 <ℤ left upward (square 0) (square 1) (square w))
     (λ a b. absurd (a refl)) (λ a b. absurd (b refl)) (λ a b. omega (arith, ints)) (λ a b. omega (arith, ints))
 
 -- so has the way from 1 to 2
 turn_1 : TurnsLeft square upward around 1 2
 unfolding left cross
-turn_1 = corners (λ w. ¬ (w ≡ 1) → ¬ (w ≡ 2) → pos 0 <ℤ left upward (square 1) (square 2) (square w))
+turn_1 = four (λ w. ¬ (w ≡ 1) → ¬ (w ≡ 2) → pos 0 <ℤ left upward (square 1) (square 2) (square w))
     (λ a b. omega (arith, ints)) (λ a b. absurd (a refl)) (λ a b. absurd (b refl)) (λ a b. omega (arith, ints))
 
 -- and that from 2 to 3
 turn_2 : TurnsLeft square upward around 2 3
 unfolding left cross
-turn_2 = corners (λ w. ¬ (w ≡ 2) → ¬ (w ≡ 3) → pos 0 <ℤ left upward (square 2) (square 3) (square w))
+turn_2 = four (λ w. ¬ (w ≡ 2) → ¬ (w ≡ 3) → pos 0 <ℤ left upward (square 2) (square 3) (square w))
     (λ a b. omega (arith, ints)) (λ a b. omega (arith, ints)) (λ a b. absurd (a refl)) (λ a b. absurd (b refl))
 
 -- and that from 3 to 0
 turn_3 : TurnsLeft square upward around 3 0
 unfolding left cross
-turn_3 = corners (λ w. ¬ (w ≡ 3) → ¬ (w ≡ 0) → pos 0 <ℤ left upward (square 3) (square 0) (square w))
+turn_3 = four (λ w. ¬ (w ≡ 3) → ¬ (w ≡ 0) → pos 0 <ℤ left upward (square 3) (square 0) (square w))
     (λ a b. absurd (b refl)) (λ a b. omega (arith, ints)) (λ a b. omega (arith, ints)) (λ a b. absurd (a refl))
 
 -- its polygon from above

@@ -1,5 +1,5 @@
 //! A face, taken from the words of a text.
-ghost use Rattle.std.specs.Prelude.{◌≡◌, ℕ, List, Option, IfOk, IfErr};
+ghost use Rattle.std.specs.Prelude.{◌≡◌, List, Option, IfOk, IfErr};
 ghost use Rattle.qh_model.specs.declared.read_fault.ReadFault.{ReadFault};
 ghost use Rattle.qh_read.specs.declared.numerals.Numeral.{Numeral};
 ghost use Rattle.qh_faces.specs.contract.FaceFaults.{counted_face_fault, face_fault};

@@ -1,5 +1,5 @@
 //! All faces of a text.
-ghost use Rattle.std.specs.Prelude.{◌≡◌, ◌⊎◌, [], ℕ, IfOk, IfErr, Some, drop, length};
+ghost use Rattle.std.specs.Prelude.{◌≡◌, ◌⊎◌, [], IfOk, IfErr, Some, drop, length};
 ghost use Rattle.qh_model.specs.declared.read_fault.ReadFault.TheVariants as faults;
 ghost use Rattle.qh_faces.specs.declared.reading.Layout.{Layout};
 ghost use Rattle.qh_faces.specs.contract.FaceFaults.{faces_fault, list_fault};

@@ -1,7 +1,6 @@
 //! The hull of a few ids of a set, spread over it, as planes.
 ghost use Rattle.std.specs.Prelude.{◌≡◌, ◌*◌, ◌<◌, ℕ, slice_index, IfOk, IfSome, IsTrue, length};
 ghost use Rattle.std.specs.List.Sorted.{IsStrictlyIncreasing};
-ghost use Rattle.qh_model.specs.headline.Sets.{Members};
 ghost use Rattle.qh_interior.specs.steps.InnerPoints.{HasPlanes, AreInner};
 ghost use Rattle.qh_surface.specs.contract.Corners.{AreCornersBelow};
 

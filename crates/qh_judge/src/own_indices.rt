@@ -1,5 +1,5 @@
 //! Faces whose corners are the distinct ids themselves, so that no corner has to be renamed.
-ghost use Rattle.std.specs.Prelude.{◌≡◌, ◌<◌, ℕ, All, IsTrue, length};
+ghost use Rattle.std.specs.Prelude.{◌<◌, All, IsTrue};
 ghost use Rattle.qh_judge.specs.contract.Naming.{AreNamedFaces};
 ghost use Rattle.qh_judge.specs.steps.OwnIndices.{AreAllIndices, AreSamePoints};
 

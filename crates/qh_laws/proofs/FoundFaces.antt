@@ -3,11 +3,11 @@ use Rattle.std.proofs.Common.{◌≡◌, ◌∙◌, ℕ, ◌<◌, List, [], ◌�
 use Rattle.std.proofs.lemmas.Bool.{cases_order}
 use Rattle.std.specs.{List.flat_map, Prelude.ℤ, Prelude.pos, Prelude.◌≤ℤ◌, Prelude.◌↔◌}
 use Rattle.qh_model.proofs.Decisions.{Decided, both, contrary, decided_as, each_or_not, in_or_not, same_vector, at_most_or_above}
-use Rattle.qh_model.proofs.algebra.{Order.zero_or_not, VectorIdentities.vol-first, VectorIdentities.vol-second, VectorIdentities.vol-third}
+use Rattle.qh_model.proofs.algebra.Order.{zero_or_not}
 use Rattle.qh_model.proofs.extremes.{Dimensions.segment_of_triangle, Directions.along_itself, Directions.from_plane, Directions.square-positive}
-use Rattle.qh_model.proofs.extremes.ExtremeIds.{listed_itself, listed_part}
+use Rattle.qh_model.proofs.extremes.{ExtremeIds.listed_itself, ExtremeIds.listed_part, SpanningTriples.own_triangle}
 use Rattle.qh_model.proofs.{extremes.Faces.extremes_of_face, lists.Images.in_map, lists.Joined.in_flat_map, polygons.Direction.polygon_as}
-use Rattle.qh_model.specs.{contract.IdSets.HasDistinctPoints, headline.Dimension.HasTriangle, headline.Extreme.Extreme}
+use Rattle.qh_model.specs.{contract.IdSets.HasDistinctPoints, headline.Extreme.Extreme}
 use Rattle.qh_model.specs.headline.Polygons.{ComesBefore, RisesFrom, RiseStrictly, IsFacePolygon, AreFaces}
 use Rattle.qh_model.specs.headline.{Predicates.cross, Predicates.vol, Predicates.AreInLine, Sets.In, Sets.Members, SupportingPlane.Supports}
 use Rattle.qh_model.specs.headline.{SupportingPlane.IsSupportingTriple, SupportingPlane.OnPlane, Vector.Vector, Vector.origin}
@@ -54,24 +54,13 @@ module _ (at : ℕ → Vector) (ids : List ℕ) (distinct : HasDistinctPoints at
       volume : ℕ → ℤ
       volume l = vol (at i) (at j) (at k) (at l)
 
-      own : HasTriangle at (OnPlane at (Members ids) i j k)
-      own = record {
-        i = i;
-        j = j;
-        k = k;
-        has_i = (t.has_i, vol-first (at i) (at j) (at k));
-        has_j = (t.has_j, vol-second (at i) (at j) (at k));
-        has_k = (t.has_k, vol-third (at i) (at j) (at k));
-        area = t.area;
-      }
-
       from_witness : (ys : List ℕ) × ((l : ℕ) → OnPlane at (Members ids) i j k l ↔ In l ys) → (q : List ℕ) × IsFacePolygon at (Members ids) i j k q
       from_witness (ys, l) =
           let F = OnPlane at (Members ids) i j k in
           let n = cross (at i) (at j) (at k) in
           let E = OnPlane at (Extreme at (Members ids)) i j k in
           let flat = flat_plane at (Members ids) i j k t.area in
-          let p = polygon_found n at F ys l (λ x y a b e. distinct x y a.0 b.0 e) flat (segment_of_triangle at F own) in
+          let p = polygon_found n at F ys l (λ x y a b e. distinct x y a.0 b.0 e) flat (segment_of_triangle at F (own_triangle at (Members ids) i j k t)) in
           (p.0, polygon_as at (Extreme at F) E n n p.0 (extremes_of_face at ids i j k t.supports) (along_itself n) p.1)
 
   -- three ids are a supporting triple or not

@@ -3,7 +3,8 @@ use Rattle.std.proofs.Common.{◌≡◌, ◌≢◌, ◌∙◌, ℕ, ◌<◌, Lis
 use Rattle.std.proofs.lemmas.{Bool.cases_order, Int.ints, Int.by_lt_z}
 use Rattle.std.specs.Prelude.{ℤ, pos, neg_ℤ, ◌-ℤ◌, ◌*ℤ◌, ◌<ℤ◌}
 use Rattle.qh_model.proofs.Decisions.{Decided, same_id, same_vector}
-use Rattle.qh_model.proofs.algebra.{Order.le_antisym, Ring.ring, Ring.equal_from_zero, Ring.Expr.neg, Signs.less_differ, Signs.opposite_zero}
+use Rattle.qh_model.proofs.algebra.{Order.le_antisym, Order.neg-positive, Ring.ring, Ring.equal_from_zero, Ring.Expr.neg, Signs.less_differ}
+use Rattle.qh_model.proofs.algebra.{Signs.opposite_zero}
 use Rattle.qh_model.proofs.algebra.VectorIdentities.{vec, put, dotE, crossE, vector_path, opposite, in_line-left, dot-origin}
 use Rattle.qh_model.proofs.extremes.{Dimensions.segment_of, Dimensions.segment_of_triangle, Directions.cross-flip, Directions.in_line-flip}
 use Rattle.qh_model.proofs.extremes.{Directions.from_plane, Directions.square-positive, ExtremeIds.listed_itself, ExtremeIds.combination_of_extremes}
@@ -18,10 +19,7 @@ use Rattle.qh_laws.proofs.FoundPolygons.{polygon_found}
 -- ---- directions
 -- a number is above 0, is 0 or is below it
 sign : (x : ℤ) → (pos 0 <ℤ x) ⊎ ((x ≡ pos 0) ⊎ (pos 0 <ℤ neg_ℤ x))
-sign x = by_lt_z (pos 0) x (λ h. inl h) (λ h. by_lt_z x (pos 0) (λ k. inr (inr (turned x k))) (λ k. inr (inl (le_antisym x (pos 0) h k))))
-  where
-    turned : (x : ℤ) → x <ℤ pos 0 → pos 0 <ℤ neg_ℤ x
-    turned x h = omega (arith, ints)
+sign x = by_lt_z (pos 0) x (λ h. inl h) (λ h. by_lt_z x (pos 0) (λ k. inr (inr (neg-positive x k))) (λ k. inr (inl (le_antisym x (pos 0) h k))))
 
 -- of two opposite directions one points forward
 forward_or_back : (n : Vector) → n ≢ origin → PointsForward n ⊎ PointsForward (opposite n)

@@ -1,5 +1,5 @@
 //! The horizon of removed facets: their sides across which a facet stays.
-ghost use Rattle.std.specs.Prelude.{All, ◌≡◌, ◌+◌, ◌*◌, ◌/◌, ◌<◌, ◌≤◌, ℕ, length, filter, [], ◌∷◌, ◌++◌, vec_len, vec_capacity};
+ghost use Rattle.std.specs.Prelude.{All, ◌≡◌, ◌+◌, ◌*◌, ◌<◌, ◌≤◌, length, filter, [], ◌∷◌, ◌++◌, vec_len, vec_capacity};
 ghost use Rattle.qh_model.specs.contract.StoredSurface.{facet_at};
 ghost use Rattle.qh_mesh.specs.contract.Edges.{facet_of};
 ghost use Rattle.qh_mesh.specs.steps.Horizons.{is_open, open_sides, HasSidesInside};

@@ -1,5 +1,5 @@
 //! The mesh, its questions, and how it is made and grows.
-ghost use Rattle.std.specs.Prelude.{◌≡◌, ◌≢◌, ◌<◌, length, map, max, OnErr, IfOk, true, pos, [], ◌∷◌, ℕ, ◌<ℤ◌};
+ghost use Rattle.std.specs.Prelude.{◌≡◌, ◌≢◌, ◌<◌, length, map, max, OnErr, IfOk, pos, [], ◌∷◌, ℕ, ◌<ℤ◌};
 ghost use Rattle.qh_model.specs.headline.Predicates.{vol, place};
 ghost use Rattle.qh_model.specs.headline.Vector.{Vector};
 ghost use Rattle.qh_model.specs.contract.Weighted.{Weighted};

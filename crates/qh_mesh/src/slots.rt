@@ -1,5 +1,5 @@
 //! The order of the horizon's sides, by a table of the corners.
-ghost use Rattle.std.specs.Prelude.{◌≡◌, ◌+◌, ◌<◌, ◌≤◌, ◌^◌, length, true, take, nat_eq, count_by};
+ghost use Rattle.std.specs.Prelude.{◌≡◌, ◌+◌, ◌<◌, length, true};
 ghost use Rattle.qh_mesh.specs.steps.Horizons.{AreNoted, IsBalanced, IsMate, corner, other, rank, side_at, noted};
 
 use crate::facets::FacetSide;

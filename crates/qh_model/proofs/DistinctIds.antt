@@ -15,7 +15,7 @@ pub some_id : (pts : List Vector) (ids : List ℕ) → AreDistinctIds pts ids �
 some_id pts ids d h = let r = in_at ids 0 ((d.members 0).1 (h, λ j l. absurd (omega (arith, l)))) in omega (arith, r.1)
 
 -- the k-th of rising numbers is at least k
-rising_least : (xs : List ℕ) → IsStrictlyIncreasing xs → (k : ℕ) → k < length xs → k ≤ get_or xs k 0
+pub rising_least : (xs : List ℕ) → IsStrictlyIncreasing xs → (k : ℕ) → k < length xs → k ≤ get_or xs k 0
 rising_least xs r zero h = omega arith
 rising_least xs r (suc k) h =
     let before : k ≤ get_or xs k 0 = rising_least xs r k (omega arith) in

@@ -10,7 +10,7 @@
 //! Source: Barber, Dobkin and Huhdanpaa 1996 (each facet has an outside set; the points of those that
 //! go are partitioned among the new facets).
 ghost use Rattle.std.specs.Prelude.{◌≡◌, ◌+◌, ◌-◌, ◌<◌, ◌≤◌, ◌↔◌, ℕ, IsTrue, IfSome, IsNone, IfOk, OnOk, OnErr};
-ghost use Rattle.std.specs.Prelude.{length, drop, [], ◌∷◌, ◌++◌, slice_set, slice_index, replicate, true, false, ◌≢◌};
+ghost use Rattle.std.specs.Prelude.{length, drop, [], ◌∷◌, ◌++◌, slice_set, slice_index, replicate, false, ◌≢◌};
 ghost use Rattle.std.specs.List.{range_with_len};
 ghost use Rattle.qh_outside.specs.contract.OutsideSets.{set_of, listed, joined};
 

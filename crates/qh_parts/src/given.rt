@@ -1,7 +1,6 @@
 //! What the parts of a set contribute: their faces that stay and those that go, each part's seen to be right by a thread
 //! of its own.
-ghost use Rattle.std.specs.Prelude.{All, ◌≡◌, ◌<◌, ◌⊎◌, ℕ, List, IfOk, IfSome, OnOk, length};
-ghost use Rattle.qh_model.specs.headline.Sets.{In};
+ghost use Rattle.std.specs.Prelude.{All, ◌<◌, IfOk, IfSome};
 ghost use Rattle.qh_division.specs.contract.Parts.{IsPartOf};
 ghost use Rattle.qh_parts.specs.steps.Given.{IsContribution, IsGiven};
 

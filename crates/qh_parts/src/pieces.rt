@@ -1,5 +1,5 @@
 //! The parts of a set, each made by a thread of its own.
-ghost use Rattle.std.specs.Prelude.{All, ◌≡◌, ◌<◌, ℕ, List, IfOk, IfSome, IsTrue, length};
+ghost use Rattle.std.specs.Prelude.{All, ◌<◌, IfOk, IfSome, IsTrue, length};
 ghost use Rattle.qh_model.specs.contract.IdSets.{AreIndices};
 ghost use Rattle.qh_division.specs.contract.Parts.{IsPartOf};
 

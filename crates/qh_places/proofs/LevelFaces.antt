@@ -1,5 +1,5 @@
 -- A plane that has no id of the set above it, with the polygon of the ids in it, is a face.
-use Rattle.std.proofs.Common.{◌≡◌, ℕ, ◌<◌, sym, subst, ◌∙◌, inl, refl, List, length}
+use Rattle.std.proofs.Common.{◌≡◌, ℕ, sym, subst, ◌∙◌, inl, refl, List}
 use Rattle.std.specs.Prelude.{pos, ◌≤ℤ◌, ◌↔◌}
 use Rattle.std.specs.List.Sorted.{IsStrictlyIncreasing}
 use Rattle.qh_model.specs.headline.Vector.{Vector}
@@ -9,9 +9,8 @@ use Rattle.qh_model.specs.headline.Extreme.{Extreme}
 use Rattle.qh_model.specs.headline.SupportingPlane.{Supports, IsSupportingTriple, OnPlane}
 use Rattle.qh_model.specs.headline.Polygon.{IsPolygon}
 use Rattle.qh_model.specs.headline.Polygons.{IsFacePolygon}
-use Rattle.qh_model.specs.contract.IdSets.{AreIndices, HasDistinctPoints}
+use Rattle.qh_model.specs.contract.IdSets.{HasDistinctPoints}
 use Rattle.qh_model.proofs.algebra.VectorIdentities.{vol-first, vol-second, vol-third}
-use Rattle.qh_model.proofs.Members.{All-of, All-In}
 use Rattle.qh_model.proofs.extremes.Directions.{along_itself}
 use Rattle.qh_model.proofs.extremes.Faces.{extremes_of_face}
 use Rattle.qh_model.proofs.hulls.SameSets.{extreme_as}
@@ -27,12 +26,6 @@ level_as pts ids plane found level h same = record {
   below = h.below;
   members = λ l. (λ m. (h.members l).0 ((same l).0 m), λ o. (same l).1 ((h.members l).1 o));
 }
-
--- ids among indices of points are such indices
-pub part_indices : (pts : List Vector) (ids part : List ℕ) → AreIndices pts ids → ((l : ℕ) → In l part → In l ids)
-    → AreIndices pts part
-part_indices pts ids part ok within =
-    All-of (λ i. i < length pts) part (λ l m. All-In (λ i. i < length pts) ids l ok (within l m))
 
 module _ (pts : List Vector) (ids : List ℕ) (plane : PlaneValue) (level : List ℕ) (h : AreLevel pts ids plane level)
     (i j k : ℕ) (told : (p : Vector) → height plane p ≡ vol (place pts i) (place pts j) (place pts k) p) where

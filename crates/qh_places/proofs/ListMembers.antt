@@ -1,5 +1,5 @@
 -- Members of a list: a test that finds them, and those before and behind a cut.
-use Rattle.std.proofs.Common.{◌≡◌, ℕ, zero, suc, ◌≤◌, ◌⊎◌, inl, inr, List, [], ◌∷◌, length, take, drop, subst, arith}
+use Rattle.std.proofs.Common.{◌≡◌, ℕ, zero, suc, ◌⊎◌, inl, inr, List, [], ◌∷◌, length, take, drop, subst, arith}
 use Rattle.std.proofs.Common.{refl, sym, Bool, true, false, eqb, eqb-true}
 use Rattle.std.specs.Prelude.{◌||◌}
 use Rattle.std.specs.Cmp.Lexicographic.{pointwise}

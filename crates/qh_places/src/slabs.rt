@@ -1,6 +1,6 @@
 //! Blocks of points: a box, and how far its points reach along a direction that slants as the surface does there.
 ghost use Rattle.std.specs.Prelude.{◌≡◌, ◌<◌, ◌≤◌, ◌^◌, ◌+ℤ◌, ◌*ℤ◌, ◌≤ℤ◌, ℕ, length, slice_index_or, unsigned_abs};
-ghost use Rattle.qh_model.specs.headline.Vector.{Vector, origin, dot};
+ghost use Rattle.qh_model.specs.headline.Vector.{origin, dot};
 ghost use Rattle.qh_places.specs.steps.Slabs.{vector_of, IsBlockOf};
 
 use crate::boxes::PointBox;

@@ -5,7 +5,7 @@
 //! Equal points have one hash. Different points hardly ever have; where they do, some stand next to each
 //! other among the sorted keys, and are told as long as they are the first two of that hash.
 ghost use Rattle.std.specs.Prelude.{◌≡◌, ◌<◌, ◌≤◌, ◌+◌, ◌*◌, ◌/◌, ◌%◌, ◌↔◌, IfOk, IsTrue, length};
-ghost use Rattle.qh_plane.specs.steps.HashedKeys.{place_number, place_hash, hashed_key, AllHashes, AreKeysBelow, IsRepeat};
+ghost use Rattle.qh_plane.specs.steps.HashedKeys.{place_number, place_hash, AllHashes, AreKeysBelow, IsRepeat};
 
 use crate::close_points::same_point;
 use qh_model::{Id, POINT_LIMIT, Point};

@@ -1,8 +1,7 @@
 //! Points that stand in a list before, told by sorted keys of 64 bits.
-ghost use Rattle.std.specs.Prelude.{◌≡◌, ◌≤◌, ◌<◌, ◌%◌, IfOk, IfSome, length};
+ghost use Rattle.std.specs.Prelude.{◌≤◌, ◌<◌, ◌%◌, IfOk, IfSome, length};
 ghost use Rattle.std.specs.List.{All};
-ghost use Rattle.std.specs.List.Sorted.{IsNonDecreasing};
-ghost use Rattle.qh_plane.specs.steps.HashedKeys.{AreHashedKeys, RepeatsTold};
+ghost use Rattle.qh_plane.specs.steps.HashedKeys.{RepeatsTold};
 ghost use Rattle.qh_plane.specs.steps.Repeats.{AreAllRepeats};
 
 use crate::found_ids::FoundIds;

@@ -5,7 +5,7 @@ use Rattle.std.specs.List.Sorted.{IsStrictlyIncreasing}
 use Rattle.qh_model.proofs.{Members.In-get_or, Members.in_at, extremes.Directions.square-positive}
 use Rattle.qh_model.specs.{contract.IdSets.IsIdSet, headline.Dimension.HasTriangle}
 use Rattle.qh_model.specs.headline.{Dimension.HasSegment, Dimension.IsDimension, Predicates.place, Sets.In, Sets.Members, Vector.Vector, Vector.minus}
-use Rattle.qh_polygon.proofs.LinesAndPlanes.{three_line, four_plane, same_point}
+use Rattle.qh_polygon.proofs.{LinesAndPlanes.three_line, LinesAndPlanes.four_plane, LinesAndPlanes.same_point, ShapeIds.first_two_in}
 use Rattle.qh_polygon.specs.contract.Shapes.{IsInLine, IsInPlane, IsFirstNot, Each, AreFirstTwo}
 
 -- what holds of each position holds of each member
@@ -21,13 +21,9 @@ pub first_two : (ids : List ℕ) (i j : ℕ) → 1 < length ids → i ≡ get_or
 first_two ids i j h p q =
     record { two = h; first = sym (get_or_default_zero ids 0 i (omega arith)) ∙ sym p; second = sym (get_or_default_zero ids 1 j h) ∙ sym q }
 
--- the first two are members
-ends : (ids : List ℕ) (i j : ℕ) → AreFirstTwo ids i j → In i ids × In j ids
-ends ids i j t = let h = t.two in (listed ids 0 i (omega arith) t.first, listed ids 1 j h t.second)
-
 -- the first two are a segment
 two : (ids : List ℕ) (i j : ℕ) → AreFirstTwo ids i j → IsStrictlyIncreasing ids → HasSegment (Members ids)
-two ids i j t r = let e = ends ids i j t in
+two ids i j t r = let e = first_two_in ids i j t in
     record { i = i; j = j; has_i = e.0; has_j = e.1; differ = λ q. ne_of_lt (r 0 t.two) (t.first ∙ q ∙ sym t.second) }
 
 -- all in line with the first two: a segment
@@ -46,7 +42,7 @@ segment pts ids i j t h s =
 
 -- the first off their line makes a triangle
 three : (pts : List Vector) (ids : List ℕ) (i j k : ℕ) → AreFirstTwo ids i j → IsFirstNot (IsInLine pts i j) ids k → HasTriangle (place pts) (Members ids)
-three pts ids i j k t f = let e = ends ids i j t in
+three pts ids i j k t f = let e = first_two_in ids i j t in
     record { i = i; j = j; k = k; has_i = e.0; has_j = e.1; has_k = listed ids f.at k f.within f.is; area = f.not }
 
 -- one off the line of the first two, and all in the plane of the three: a polygon
@@ -64,5 +60,5 @@ flat pts ids i j k t f h =
 -- one off the plane of three: a solid
 pub solid : (pts : List Vector) (ids : List ℕ) (i j k l : ℕ) → AreFirstTwo ids i j → IsFirstNot (IsInLine pts i j) ids k
     → IsFirstNot (IsInPlane pts i j k) ids l → IsDimension (place pts) (Members ids) 3
-solid pts ids i j k l t f g = let e = ends ids i j t in let third = listed ids f.at k f.within f.is in let last = listed ids g.at l g.within g.is in
+solid pts ids i j k l t f g = let e = first_two_in ids i j t in let third = listed ids f.at k f.within f.is in let last = listed ids g.at l g.within g.is in
     inl (refl, record { i = i; j = j; k = k; l = l; has_i = e.0; has_j = e.1; has_k = third; has_l = last; volume = g.not })

@@ -1,5 +1,5 @@
 //! Chains of ids that turn left, in a plane that is seen from the side of a normal.
-ghost use Rattle.std.specs.Prelude.{◌≡◌, ◌<◌, IfOk, reverse, length, [], vec_len};
+ghost use Rattle.std.specs.Prelude.{◌≡◌, ◌<◌, IfOk, reverse, length, []};
 ghost use Rattle.qh_polygon.specs.steps.Chains.{turn_of, is_left, is_dropped, kept, chain};
 ghost use Rattle.qh_model.specs.contract.IdSets.{AreIndices};
 

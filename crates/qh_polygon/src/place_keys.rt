@@ -1,6 +1,6 @@
 //! One number for the place of a point and its id. The numbers of points are in order of x, then y,
 //! then z, then id, so that a sort of numbers sorts points, and faster than a sort of records.
-ghost use Rattle.std.specs.Prelude.{◌≡◌, ◌+◌, ◌*◌, ◌/◌, ◌%◌, ◌^◌, ◌<◌, IfOk, map, unsigned_abs};
+ghost use Rattle.std.specs.Prelude.{◌≡◌, ◌+◌, ◌*◌, ◌/◌, ◌%◌, ◌<◌, IfOk, map};
 ghost use Rattle.std.specs.List.{All};
 ghost use Rattle.qh_model.specs.headline.Limits.{IsCoordinate};
 ghost use Rattle.qh_model.specs.contract.Places.{IsPlace};

@@ -1,5 +1,5 @@
 //! Sources for tests: one that fails at a chosen read, and one that never ends.
-ghost use Rattle.std.specs.Prelude.{◌≡◌, ◌<◌, ◌↔◌, ℕ, List, Option, Some, None, IsTrue};
+ghost use Rattle.std.specs.Prelude.{◌≡◌, ◌<◌, ◌↔◌, Option, Some, None, IsTrue};
 
 use crate::source::{DeviceFault, Source};
 

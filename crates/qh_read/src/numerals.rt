@@ -1,7 +1,7 @@
 //! The words of a text one by one, each as the number that it is.
 //!
 //! Words and comments are those of an OFF file, whose faces are such numbers.
-ghost use Rattle.std.specs.Prelude.{◌≡◌, ◌≤◌, ◌<◌, ◌+◌, ◌^◌, ◌++◌, [], ◌∷◌, ℕ, List, true, false, None, Some, length, MatchOption};
+ghost use Rattle.std.specs.Prelude.{◌≡◌, ◌≤◌, ◌<◌, ◌+◌, [], ◌∷◌, ℕ, List, true, false, None, Some, length, MatchOption};
 ghost use Rattle.qh_model.specs.declared.limits.TheConstants.{BYTE_LIMIT};
 ghost use Rattle.qh_read.specs.contract.Numerals.{IsElsewhere, numerals_in};
 ghost use Rattle.qh_read.specs.contract.Tokens.{grown};

@@ -1,8 +1,7 @@
 //! The step from bytes to words, in any pieces.
-ghost use Rattle.std.specs.Prelude.{ℕ, ◌≡◌, ◌≤◌, ◌<◌, ◌+◌, ◌^◌, false, length, OnOk, vec_len, vec_capacity};
+ghost use Rattle.std.specs.Prelude.{ℕ, ◌≡◌, ◌≤◌, ◌<◌, ◌+◌, ◌^◌, false, length, OnOk};
 ghost use Rattle.std.specs.Char.{is_ascii_digit};
 ghost use Rattle.qh_read.specs.steps.SmallTokens.{IsSmall};
-ghost use Rattle.qh_read.specs.steps.Building.{shown, taken_count};
 ghost use Rattle.qh_read.specs.contract.Holding.{held_at_start, ended_held, held_marked, next_held, held_by};
 ghost use Rattle.qh_read.specs.steps.Scanning.{held, under_way, HasRoom};
 

@@ -2,7 +2,7 @@
 ghost use Rattle.std.specs.Prelude.{◌≡◌, ◌↔◌, ◌<◌, All, IfOk, IfSome, IsSome, Some, length};
 ghost use Rattle.qh_model.specs.contract.BoardMachine.{InSpan};
 ghost use Rattle.qh_board.specs.declared.view.Mark.TheVariants as marks;
-ghost use Rattle.qh_board.specs.contract.Tokens.{IsOf, IsRightAt};
+ghost use Rattle.qh_board.specs.contract.Tokens.{IsRightAt};
 ghost use Rattle.qh_model.specs.contract.IdSets.{AreIndices, IsIdSet};
 ghost use Rattle.qh_run.specs.steps.Parts.{StandsFor};
 ghost use Rattle.qh_run.specs.steps.Turns.{IsWorked};

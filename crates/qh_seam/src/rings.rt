@@ -1,8 +1,7 @@
 //! The ring of the facets that stay beside one that is removed.
-ghost use Rattle.std.specs.Prelude.{◌≡◌, ◌<◌, ◌↔◌, ◌⊎◌, ◌++◌, ◌∷◌, [], ℕ, List, length, map, IfOk, OnOk, IsTrue, false};
+ghost use Rattle.std.specs.Prelude.{◌≡◌, ◌<◌, ◌↔◌, ◌⊎◌, ◌++◌, ◌∷◌, [], ℕ, List, map, IfOk, OnOk, IsTrue, false};
 ghost use Rattle.qh_model.specs.headline.Predicates.{place};
 ghost use Rattle.qh_model.specs.headline.Sets.{In};
-ghost use Rattle.qh_model.specs.headline.Vector.{Vector};
 ghost use Rattle.qh_model.specs.contract.StoredSurface.{surface_of};
 ghost use Rattle.qh_mesh.specs.contract.Edges.{nth_side};
 ghost use Rattle.qh_mesh.specs.contract.Replacement.{IsLive};

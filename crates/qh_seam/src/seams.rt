@@ -1,5 +1,5 @@
 //! Seams of a marked part to the corners of another.
-ghost use Rattle.std.specs.Prelude.{◌<◌, ℕ, List, length, IfOk, IsTrue};
+ghost use Rattle.std.specs.Prelude.{◌<◌, ℕ, List, IfOk, IsTrue};
 ghost use Rattle.qh_model.specs.headline.Predicates.{place};
 ghost use Rattle.qh_model.specs.headline.Sets.{In};
 ghost use Rattle.qh_model.specs.contract.StoredSurface.{surface_of};

@@ -3,7 +3,7 @@ ghost use Rattle.std.specs.Prelude.{◌≡◌, ◌<◌, ℕ, List, IfOk, IfSome,
 ghost use Rattle.std.specs.List.{All, flat_map};
 ghost use Rattle.qh_model.specs.headline.Predicates.{place};
 ghost use Rattle.qh_model.specs.headline.Sets.{In, Members};
-ghost use Rattle.qh_model.specs.contract.IdSets.{AreIndices, HasDistinctPoints};
+ghost use Rattle.qh_model.specs.contract.IdSets.{HasDistinctPoints};
 ghost use Rattle.qh_surface.specs.contract.Walks.{mark_at};
 ghost use Rattle.qh_seam_laws.specs.contract.Parts.{IsPartFace};
 ghost use Rattle.qh_division.specs.declared.parts.Part.{Part};

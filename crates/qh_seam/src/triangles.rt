@@ -1,5 +1,5 @@
 //! Triangles of points: their planes, and what lies between them and the middle of four points.
-ghost use Rattle.std.specs.Prelude.{◌≡◌, pos, ◌+ℤ◌, ◌<ℤ◌, ◌≤ℤ◌, IfSome, IsTrue, true, false};
+ghost use Rattle.std.specs.Prelude.{◌≡◌, pos, ◌+ℤ◌, ◌≤ℤ◌, IfSome, IsTrue, false};
 ghost use Rattle.qh_model.specs.headline.Vector.{Vector};
 ghost use Rattle.qh_model.specs.headline.Predicates.{vol};
 ghost use Rattle.qh_model.specs.contract.IdSets.{AreIndices};

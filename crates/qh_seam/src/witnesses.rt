@@ -1,5 +1,5 @@
 //! Witnesses: a facet for each point of the other parts, which shows that no facet that stays need be tested.
-ghost use Rattle.std.specs.Prelude.{◌≡◌, ◌<◌, ◌⊎◌, ℕ, length, IsTrue, pos, ◌<ℤ◌, true, false};
+ghost use Rattle.std.specs.Prelude.{◌≡◌, ◌<◌, ◌⊎◌, IsTrue, pos, ◌<ℤ◌, true, false};
 ghost use Rattle.qh_model.specs.headline.Vector.{Vector};
 ghost use Rattle.qh_model.specs.headline.Predicates.{place, vol};
 ghost use Rattle.qh_model.specs.headline.Sets.{In};

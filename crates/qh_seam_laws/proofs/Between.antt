@@ -6,13 +6,13 @@ use Rattle.qh_model.specs.contract.{FinishedSurface.weighted_at, FinishedSurface
 use Rattle.qh_model.specs.contract.Weighted.{Weighted, weighted, weighted_dot, plane_of}
 use Rattle.qh_model.specs.{headline.Sets.In, headline.Sets.Members, headline.Vector.dot, laws.Separator.Separator}
 use Rattle.qh_model.proofs.algebra.Order.{mul-pos, mul-nonneg_nonpos, neg-positive, neg-nonneg, negative_le}
-use Rattle.qh_model.proofs.algebra.Signs.{not_less, less_differ, equal_nonpos, equal_negative, equal_positive, no_sum}
+use Rattle.qh_model.proofs.algebra.Signs.{at_most_zero, not_less, less_differ, equal_nonpos, equal_negative, equal_positive, no_sum}
 use Rattle.qh_model.proofs.extremes.{ExtremeIds.listed_itself, ExtremeIds.alternative_in, Faces.face_combination}
 use Rattle.qh_model.proofs.surfaces.{CoveredPlanes.nothing_outside, Determinants.dot-together, Determinants.above-together, Facets.plane-is}
 use Rattle.qh_model.proofs.surfaces.{Finished.unseen_above, Located.Located, Located.shares, Located.mix, Simplex.middle_is_below, SurfaceLaws.rise_is_vol}
 use Rattle.qh_seam_laws.specs.contract.Seam.{height_over}
 use Rattle.qh_seam_laws.specs.laws.PointLaws.{LevelIsInPolygon, WithinIsBelow, BetweenIsBelow, MiddleIsInner, BetweenFourIsBelow, BelowIsCombination}
-use Rattle.qh_seam_laws.proofs.{Decisions.at_most_zero, Heights.rise_is_height, Heights.blind_rise, Heights.seen_rise}
+use Rattle.qh_seam_laws.proofs.{Heights.rise_is_height, Heights.blind_rise, Heights.seen_rise}
 
 -- the law
 pub within_is_below : WithinIsBelow

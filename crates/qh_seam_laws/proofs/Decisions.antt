@@ -1,11 +1,6 @@
--- Claims that are decided, as marks, and numbers that cannot be above 0.
+-- Claims that are decided, as marks.
 use Rattle.std.proofs.Common.{◌≡◌, refl, sym, ◌⊎◌, inl, inr, Bool, true, false}
-use Rattle.std.proofs.lemmas.{Bool.both_ways, Int.by_lt_z}
-use Rattle.std.specs.Prelude.{ℤ, pos, ◌≤ℤ◌, ◌<ℤ◌}
-
--- what cannot be above 0 is at most 0
-pub at_most_zero : (v : ℤ) → (pos 0 <ℤ v → ⊥) → v ≤ℤ pos 0
-at_most_zero v never = by_lt_z (pos 0) v (λ above. absurd (never above)) (λ below. below)
+use Rattle.std.proofs.lemmas.{Bool.both_ways}
 
 -- the mark of a claim
 pub flag : {P : Type 0} → P ⊎ (¬ P) → Bool

@@ -6,13 +6,13 @@ use Rattle.qh_model.specs.contract.{FinishedSurface.weighted_at, FinishedSurface
 use Rattle.qh_model.specs.contract.{Surface.Surface, Surface.IsCorner, Surface.rise, Surface.Sees, Weighted.Weighted, Weighted.weighted, Weighted.above}
 use Rattle.qh_model.specs.{headline.Sets.In, headline.Vector.Vector, laws.FacetPlanes.IsLevelFacet, laws.FacetPlanes.IsPlaneWalk}
 use Rattle.qh_model.proofs.algebra.{Integers.one_mul, Order.mul-nonneg, Order.mul-nonneg_nonpos, Order.positive_le, Order.product_zero, Signs.less_differ}
-use Rattle.qh_model.proofs.{algebra.Signs.equal_positive, extremes.Directions.vol_along, extremes.Directions.zero_along}
+use Rattle.qh_model.proofs.{algebra.Signs.at_most_zero, algebra.Signs.equal_positive, extremes.Directions.vol_along, extremes.Directions.zero_along}
 use Rattle.qh_model.proofs.surfaces.CoveredPlanes.{above-last, beyond, on_sees_beyond, sees_beyond_on}
 use Rattle.qh_model.proofs.surfaces.FacetPlanes.{level_facets_span, plane_walk_finds_all, level_itself, level_back, seen_level}
 use Rattle.qh_model.proofs.surfaces.Facets.{middle, sum_blind, sum_level}
 use Rattle.qh_model.proofs.surfaces.{Finished.unseen_above, PerturbedInwards.bound, PerturbedInwards.scale, SurfaceLaws.walk_finds_all}
 use Rattle.qh_seam_laws.specs.{contract.Seam.height_over, contract.Seam.IsBelowAll, contract.Seam.IsRing, laws.PointLaws.IsBeside, laws.PointLaws.SidesHideRest}
-use Rattle.qh_seam_laws.proofs.Decisions.{at_most_zero, flag, flag-holds, flag-true}
+use Rattle.qh_seam_laws.proofs.Decisions.{flag, flag-holds, flag-true}
 use Rattle.qh_seam_laws.proofs.Heights.{rise_is_height, blind_rise, seen_rise, level_or_not}
 
 -- a plane that y is not below and o strictly below sees what is beyond y

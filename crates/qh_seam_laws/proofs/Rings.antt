@@ -5,9 +5,9 @@ use Rattle.std.specs.Prelude.{pos, ◌≤ℤ◌, not}
 use Rattle.qh_model.specs.contract.{FinishedSurface.weighted_at, FinishedSurface.middle_at, SoundSurface.IsSound}
 use Rattle.qh_model.specs.contract.Surface.{Side, Surface, IsWhole, rise, Sees}
 use Rattle.qh_model.specs.{contract.Weighted.Weighted, contract.Weighted.weighted, headline.Sets.In, laws.Horizons.IsWalked}
-use Rattle.qh_model.proofs.{algebra.Signs.not_less, surfaces.SurfaceLaws.walk_finds_all}
+use Rattle.qh_model.proofs.{algebra.Signs.at_most_zero, algebra.Signs.not_less, surfaces.SurfaceLaws.walk_finds_all}
 use Rattle.qh_seam_laws.specs.{contract.Seam.IsRing, laws.PointLaws.RingHidesRest}
-use Rattle.qh_seam_laws.proofs.{Decisions.at_most_zero, Heights.blind_rise, Heights.blind_height, Heights.seen_rise}
+use Rattle.qh_seam_laws.proofs.{Heights.blind_rise, Heights.blind_height, Heights.seen_rise}
 
 -- a walk over what p sees does not come from what goes to what stays but over the ring
 ring_hides : (m : Surface) (home : ℕ → Weighted) (o : Weighted) → IsWhole m → IsSound m home o → (stay : ℕ → Bool) (p : Weighted)

@@ -1,5 +1,5 @@
 //! The settings of a run, and their limits.
-ghost use Rattle.std.specs.Prelude.{◌≡◌, ◌≤◌, ◌<◌, ◌↔◌, IfOk, IsErrOf};
+ghost use Rattle.std.specs.Prelude.{◌≡◌, ◌<◌, ◌↔◌, IfOk, IsErrOf};
 
 use qh_model::{Form, POINT_LIMIT, WORKER_LIMIT};
 use qh_write::Out;

@@ -5,9 +5,9 @@
 //!
 //! Source: Barber, Dobkin and Huhdanpaa 1996 (the initial simplex has points with the least and the
 //! greatest coordinates).
-ghost use Rattle.std.specs.Prelude.{◌≡◌, ◌≢◌, ◌<◌, pos, length};
+ghost use Rattle.std.specs.Prelude.{◌<◌, length};
 ghost use Rattle.std.specs.List.{All};
-ghost use Rattle.qh_model.specs.headline.Predicates.{place, vol};
+ghost use Rattle.qh_model.specs.headline.Predicates.{vol};
 ghost use Rattle.qh_model.specs.headline.Sets.{Members};
 ghost use Rattle.qh_model.specs.contract.IdSets.{AreIndices};
 ghost use Rattle.qh_starts.specs.contract.Simplexes.{IsSimplexOf};

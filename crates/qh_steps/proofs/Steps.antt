@@ -13,7 +13,7 @@ use Rattle.qh_model.specs.contract.ClosedSurface.{is_edge}
 use Rattle.qh_model.specs.contract.ClosedPolygons.{steps_round, step_count, AreClosed}
 use Rattle.qh_model.proofs.lists.Counts.{count-map}
 use Rattle.qh_model.proofs.closed_surfaces.SignedVolume.{edge_tests, eqb-refl, is_edge-back}
-use Rattle.qh_model.proofs.closed_surfaces.Sums.{count, count-is}
+use Rattle.qh_model.proofs.closed_surfaces.Sums.{count, count-is, count_kept}
 use Rattle.qh_steps.specs.steps.StepKeys.{back, goes_up, goes_down, CountOtherwise, EachOnce, IsTwice}
 
 -- ---- keys
@@ -44,19 +44,7 @@ on u v k = is_edge (u, v) (halves k)
 pub key_counts : (z : ℕ) (ks : List ℕ) → count_by (eqb z) ks ≡ count_by (on (high_of z) (low_of z)) ks
 key_counts z ks = ap (λ (f : ℕ → Bool). count_by f ks) (λ i k. same_step z k i)
 
--- where all that count pass, a filter keeps the count
-kept : {X : Type 0} (f p : X → Bool) → ((k : X) → f k ≡ true → p k ≡ true) → (ks : List X) → count f (filter p ks) ≡ count f ks
-kept f p h [] = refl
-kept f p h (k ∷ ks) = elim (cases_Bool (p k)) [
-  | inl t ↦ rw t (ap (λ n. cond (f k) 1 0 + n) (kept f p h ks))
-  | inr t ↦ rw t (kept f p h ks ∙ skip (f k) refl t)
-]
-  where
-    skip : (b : Bool) → f k ≡ b → p k ≡ false → count f ks ≡ cond b 1 0 + count f ks
-    skip true e t = let q = h k e in cc
-    skip false e t = omega arith
-
--- where none of them passes, nothing
+-- where none of those that count passes, a filter leaves nothing to count
 lost : {X : Type 0} (f p : X → Bool) → ((k : X) → f k ≡ true → p k ≡ false) → (ks : List X) → count f (filter p ks) ≡ 0
 lost f p h [] = refl
 lost f p h (k ∷ ks) = elim (cases_Bool (p k)) [
@@ -68,10 +56,10 @@ lost f p h (k ∷ ks) = elim (cases_Bool (p k)) [
     first true e t z = let q = h k e in cc
     first false e t z = omega arith
 
--- so by a test that goes by what counts
+-- a filter by a test that goes by what counts keeps the count, or nothing
 pub halved : {X : Type 0} (f p : X → Bool) (b : Bool) → ((k : X) → f k ≡ true → p k ≡ b) → (ks : List X)
     → count f (filter p ks) ≡ cond b (count f ks) 0
-halved f p true h ks = kept f p h ks
+halved f p true h ks = count_kept f p h ks
 halved f p false h ks = lost f p h ks
 
 up_by : (u v k : ℕ) → on u v k ≡ true → goes_up k ≡ nat_lt u v

@@ -6,6 +6,7 @@ use Rattle.qh_model.specs.contract.{Weighted.Weighted, FinishedSurface.weighted_
 use Rattle.qh_model.specs.contract.Surface.{Surface, Side, Sees, rise}
 use Rattle.qh_model.specs.contract.StoredSurface.{StoredFacet, facet_at, surface_of}
 use Rattle.qh_model.specs.laws.Horizons.{IsWalked}
+use Rattle.qh_model.proofs.algebra.Signs.{equal_positive}
 use Rattle.qh_model.proofs.surfaces.SurfaceLaws.{rise_is_vol, walk_finds_all}
 use Rattle.qh_mesh.proofs.{Rewiring.live_in, Rewiring.in_live, ListedFacets.in_listed, ListedFacets.listed_in}
 use Rattle.qh_pred.specs.contract.Planes.{PlaneValue, height}
@@ -47,11 +48,8 @@ module _ (at : ℕ → Vector) (fs : List StoredFacet) (ps : List PlaneValue) (o
   abbrev vol : ℕ → ℤ
   vol g = facet_vol at fs g (at l)
 
-  above : (x y : ℤ) → x ≡ y → pos 0 <ℤ x → pos 0 <ℤ y
-  above x y = subst (λ t. pos 0 <ℤ t)
-
   seen : (g : ℕ) → In g vs → pos 0 <ℤ vol g
-  seen g h = above _ _ (a.right g (found_live (IsSeen at ps l) fs before after f vs w g h) (at l))
+  seen g h = equal_positive _ _ (a.right g (found_live (IsSeen at ps l) fs before after f vs w g h) (at l))
       (found_passes (IsSeen at ps l) fs before after f vs w g h)
 
   rise_is : (g : ℕ) → vol g ≡ rise m (weighted_at at) g (weighted_at at l)
@@ -61,13 +59,13 @@ module _ (at : ℕ → Vector) (fs : List StoredFacet) (ps : List PlaneValue) (o
   grows g i s h t =
       let n = live_in fs (m.over g s) (z.0 g i s).live in
       found_over (IsSeen at ps l) fs before after f vs w g s h
-      (above _ _ (sym (a.right (m.over g s) n (at l) ∙ rise_is (m.over g s))) t) (λ q. (let e = none (m.over g s) in cc))
+      (equal_positive _ _ (sym (a.right (m.over g s) n (at l) ∙ rise_is (m.over g s))) t) (λ q. (let e = none (m.over g s) in cc))
 
   walk : IsWalked m (weighted_at at) (weighted_at at l) (is_listed vs)
   walk = record {
     f0 = f;
     live = in_live fs f (found_live (IsSeen at ps l) fs before after f vs w f w.start);
-    seen = above _ _ (rise_is f) (seen f w.start);
+    seen = equal_positive _ _ (rise_is f) (seen f w.start);
     has = in_listed vs f w.start;
     grows = λ g i s h t. in_listed vs (m.over g s) (grows g i s (listed_in vs g h) t);
   }
@@ -79,5 +77,5 @@ module _ (at : ℕ → Vector) (fs : List StoredFacet) (ps : List PlaneValue) (o
     seen = λ g i e. seen g (listed_in vs g e);
     unseen = λ g i e. by_lt_z (pos 0) (vol g)
         (λ h. (let t = walk_finds_all m (weighted_at at) o z.0 z.1 (weighted_at at l) (is_listed vs) walk g (in_live fs g i)
-        (above _ _ (rise_is g) h) in cc)) (λ h. h);
+        (equal_positive _ _ (rise_is g) h) in cc)) (λ h. h);
   }

@@ -3,7 +3,7 @@
 //! From a facet that passes all are found by going over the sides of those that are found.
 //!
 //! Source: Barber, Dobkin and Huhdanpaa 1996 (the visible set is found by a search over neighbours).
-ghost use Rattle.std.specs.Prelude.{◌≡◌, ◌≤◌, ◌<◌, ◌+◌, ◌↔◌, IsTrue, ℕ, List, OnOk, [], length, false, vec_len, vec_capacity};
+ghost use Rattle.std.specs.Prelude.{◌≡◌, ◌≤◌, ◌<◌, ◌+◌, ◌↔◌, IsTrue, ℕ, List, OnOk, length, false, vec_len, vec_capacity};
 ghost use Rattle.qh_model.specs.contract.StoredSurface.{StoredFacet, surface_of};
 ghost use Rattle.qh_mesh.specs.contract.Edges.{edge_end, edge_start, facet_of, nth_side, twin_of};
 ghost use Rattle.qh_mesh.specs.contract.Replacement.{IsLive};

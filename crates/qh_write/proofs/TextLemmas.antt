@@ -61,14 +61,6 @@ table_numbers extremes count table rising within is =
       is = λ i h. ap (λ (t : List ℕ). slice_index t i) is ∙ vertex_number_at extremes count rising within i h;
     }
 
--- an id of a rising list stands in it no later than it is high
-pub position_below : (ids : List ℕ) → IsStrictlyIncreasing ids → (k : ℕ) → k < length ids → k ≤ get_or ids k 0
-position_below ids rising zero h = omega arith
-position_below ids rising (suc k) h =
-    let before : k ≤ get_or ids k 0 = position_below ids rising k (omega (arith, h)) in
-    let more : get_or ids k 0 < get_or ids (suc k) 0 = subst (λ n. get_or ids k 0 < get_or ids n 0) (omega arith) (rising k (omega (arith, h))) in
-    omega (arith, before, more)
-
 -- a search of a rising list finds the number of an id that it has
 pub number_found : (ids : List ℕ) (i : ℕ) (found : Result ℕ ℕ) → IsStrictlyIncreasing ids → In i ids
     → IsBinarySearchResult (λ y. nat_cmp y i) ids found → MatchResult found (λ k. k ≡ vertex_number ids i) (λ _. ⊥)

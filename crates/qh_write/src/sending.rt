@@ -1,5 +1,5 @@
 //! A text on its way to a sink, piece by piece.
-ghost use Rattle.std.specs.Prelude.{◌≡◌, ℕ, ◌+◌, ◌-◌, ◌^◌, ◌<◌, OnOk, OnErr, true};
+ghost use Rattle.std.specs.Prelude.{◌≡◌, ◌+◌, ◌-◌, ◌^◌, ◌<◌, OnOk, OnErr, true};
 ghost use Rattle.std.specs.Io.KnownBytes.{Appends, Keeps};
 ghost use Rattle.qh_write.specs.contract.Pieces.{bytes_in};
 ghost use Rattle.qh_write.specs.headline.Sinks.{AppendsBeginning};

@@ -1,5 +1,5 @@
 -- What is read from clap's matches, and what a fault on the way says.
-use Rattle.std.specs.Prelude.{ℕ, ◌≡◌, ◌≢◌, List, Option, codes}
+use Rattle.std.specs.Prelude.{◌≡◌, ◌≢◌, List, Option, codes}
 use Rattle.std.specs.Option.{option_map}
 use Rattle.clap.specs.Words.{Text, matched_of, one_text, raw_values}
 use Rattle.clap.specs.declared.parser.matches.Found.{Found}

@@ -1,5 +1,5 @@
 -- Orders of whole numbers, of equal ones and of opposites.
-use Rattle.std.proofs.{Common.◌≡◌, Common.arith, lemmas.Int.ints}
+use Rattle.std.proofs.{Common.◌≡◌, Common.arith, lemmas.Int.ints, lemmas.Int.by_lt_z}
 use Rattle.std.specs.Prelude.{ℤ, pos, ◌+ℤ◌, ◌-ℤ◌, neg_ℤ, ◌≤ℤ◌, ◌<ℤ◌}
 
 -- what is less is not as much
@@ -17,6 +17,10 @@ less_differ a b h e = omega (arith, ints)
 -- what is less is at most as much
 pub less_le : (a b : ℤ) → a <ℤ b → a ≤ℤ b
 less_le a b h = omega (arith, ints)
+
+-- what is not above 0 is at most 0
+pub at_most_zero : (v : ℤ) → (pos 0 <ℤ v → ⊥) → v ≤ℤ pos 0
+at_most_zero v never = by_lt_z (pos 0) v (λ above. absurd (never above)) (λ below. below)
 
 -- equal numbers are at most each other
 pub equal_le : (a b : ℤ) → a ≡ b → a ≤ℤ b
@@ -72,6 +76,11 @@ opposite_negative x r e h = omega (arith, ints)
 -- of 0
 pub opposite_zero : (x r : ℤ) → x ≡ neg_ℤ r → r ≡ pos 0 → x ≡ pos 0
 opposite_zero x r e h = omega (arith, ints)
+
+-- ---- the sign of a number that is told as an opposite
+-- of a negative number
+pub negated_positive : (x r : ℤ) → x ≡ neg_ℤ r → r <ℤ pos 0 → pos 0 <ℤ x
+negated_positive x r e h = omega (arith, ints)
 
 -- ---- where a and b are the opposites of x and y
 -- equal numbers have equal opposites

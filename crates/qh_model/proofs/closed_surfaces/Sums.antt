@@ -1,6 +1,6 @@
 -- Sums of whole numbers over a list, by how often each element is there.
-use Rattle.std.proofs.Common.{◌≡◌, ℕ, ◌+◌, ◌<◌, arith, ap, sym, ◌∙◌, refl, List, [], ◌∷◌, Bool, true, cond, inl, inr}
-use Rattle.std.specs.Prelude.{ℤ, pos, ◌+ℤ◌, count_by}
+use Rattle.std.proofs.Common.{◌≡◌, ℕ, ◌+◌, ◌<◌, arith, ap, sym, ◌∙◌, refl, List, [], ◌∷◌, Bool, true, false, cond, inl, inr}
+use Rattle.std.specs.Prelude.{ℤ, pos, ◌+ℤ◌, count_by, filter}
 use Rattle.std.proofs.lemmas.{Bool.cases_Bool, List.Sums.sum_by-cons}
 use Rattle.qh_model.proofs.algebra.Integers.{add_swap}
 
@@ -56,3 +56,15 @@ sum_z-same_counts eq t f (x ∷ xs) ys h =
 pub count-is : {X : Type 0} (p : X → Bool) (xs : List X) → count p xs ≡ count_by p xs
 count-is p [] = refl
 count-is p (x ∷ xs) = rw (count-is p xs) (sym (sum_by-cons (λ y. cond (p y) 1 0) x xs))
+
+-- where all that count pass, a filter keeps the count
+pub count_kept : {X : Type 0} (f p : X → Bool) → ((k : X) → f k ≡ true → p k ≡ true) → (ks : List X) → count f (filter p ks) ≡ count f ks
+count_kept f p h [] = refl
+count_kept f p h (k ∷ ks) = elim (cases_Bool (p k)) [
+  | inl t ↦ rw t (ap (λ n. cond (f k) 1 0 + n) (count_kept f p h ks))
+  | inr t ↦ rw t (count_kept f p h ks ∙ skip (f k) refl t)
+]
+  where
+    skip : (b : Bool) → f k ≡ b → p k ≡ false → count f ks ≡ cond b 1 0 + count f ks
+    skip true e t = let q = h k e in cc
+    skip false e t = omega arith

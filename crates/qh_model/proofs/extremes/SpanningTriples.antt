@@ -2,7 +2,7 @@
 use Rattle.std.proofs.Common.{◌≡◌, ℕ, sym, ◌∙◌, ◌⊎◌, inl, inr}
 use Rattle.std.specs.Prelude.{pos, ◌*ℤ◌}
 use Rattle.qh_model.specs.headline.{Dimension.HasTriangle, Extreme.Extreme, Predicates.cross, Predicates.vol, Predicates.AreInLine, Sets.Members}
-use Rattle.qh_model.specs.headline.{SupportingPlane.Supports, SupportingPlane.OnPlane, Vector.Vector}
+use Rattle.qh_model.specs.headline.{SupportingPlane.IsSupportingTriple, SupportingPlane.Supports, SupportingPlane.OnPlane, Vector.Vector}
 use Rattle.qh_model.specs.laws.FaceLaws.{IsAlong, SpannedByExtremes, PlanesOfExtremes}
 use Rattle.qh_model.proofs.algebra.{Order.zero_or_not, VectorIdentities.vol-first, VectorIdentities.vol-second, VectorIdentities.vol-third}
 use Rattle.qh_model.proofs.extremes.{Dimensions.triangle_of, Directions.at_most_along, Directions.zero_along, Directions.normal_along, Directions.in_line-flip}
@@ -37,26 +37,28 @@ either_way : (at : ℕ → Vector) (A : ℕ → Type 0) (i j k : ℕ) → Suppor
 either_way at A i j k s u v w hu hv hw z n (inl h) = spanned at A i j k s u v w hu hv hw z n h
 either_way at A i j k s u v w hu hv hw z n (inr h) = spanned at A i j k s u w v hu hw hv z (λ q. n (in_line-flip (at u) (at v) (at w) q)) h
 
+-- a supporting triple is a triangle of its plane
+pub own_triangle : (at : ℕ → Vector) (A : ℕ → Type 0) (i j k : ℕ) → IsSupportingTriple at A i j k → HasTriangle at (OnPlane at A i j k)
+own_triangle at A i j k t = record {
+  i = i;
+  j = j;
+  k = k;
+  has_i = (t.has_i, vol-first (at i) (at j) (at k));
+  has_j = (t.has_j, vol-second (at i) (at j) (at k));
+  has_k = (t.has_k, vol-third (at i) (at j) (at k));
+  area = t.area;
+}
+
 -- the law
 pub planes_of_extremes : PlanesOfExtremes
 planes_of_extremes at ids d i j k t =
     let (ys, q) = listed_part (Members ids) (λ l. vol (at i) (at j) (at k) (at l) ≡ pos 0)
     (λ l. zero_or_not (vol (at i) (at j) (at k) (at l))) ids (listed_itself ids) in
-    done (triangle_of at F (Extreme at F) (λ l f. combination_of_extremes at F ys q (λ x y fx fy e. d x y fx.0 fy.0 e) l f) own)
+    done (triangle_of at F (Extreme at F) (λ l f. combination_of_extremes at F ys q (λ x y fx fy e. d x y fx.0 fy.0 e) l f)
+    (own_triangle at (Members ids) i j k t))
   where
     F : ℕ → Type 0
     F = OnPlane at (Members ids) i j k
-
-    own : HasTriangle at F
-    own = record {
-      i = i;
-      j = j;
-      k = k;
-      has_i = (t.has_i, vol-first (at i) (at j) (at k));
-      has_j = (t.has_j, vol-second (at i) (at j) (at k));
-      has_k = (t.has_k, vol-third (at i) (at j) (at k));
-      area = t.area;
-    }
 
     done : HasTriangle at (Extreme at F) → SpannedByExtremes at (Members ids) i j k
     done h = either_way at (Members ids) i j k t.supports h.i h.j h.k (up h.i h.has_i) (up h.j h.has_j) (up h.k h.has_k) h.has_i.0.1 h.area

@@ -1,8 +1,11 @@
 -- The edges of a solid: at most one face goes along each this way.
 use Rattle.std.proofs.{Common.◌≡◌, Common.ℕ, Common.arith, Common.sym, Common.◌∙◌, Common.List, lemmas.Int.ints}
 use Rattle.std.specs.Prelude.{pos, ◌*ℤ◌, ◌≤ℤ◌}
-use Rattle.qh_model.specs.headline.{Extreme.Extreme, Polygons.IsFacePolygon, Predicates.cross, Predicates.vol, Predicates.left, Sets.Members}
-use Rattle.qh_model.specs.{headline.SupportingPlane.OnPlane, headline.Vector.Vector, laws.EdgeLaws.OneFaceEachWay, laws.FaceLaws.IsAlong}
+use Rattle.qh_model.specs.contract.IdSets.{HasDistinctPoints}
+use Rattle.qh_model.specs.headline.{Extreme.Extreme, Polygon.Follows, Polygons.AreFaces, Polygons.IsFacePolygon, Predicates.cross, Predicates.vol}
+use Rattle.qh_model.specs.headline.{Predicates.left}
+use Rattle.qh_model.specs.{headline.Sets.In, headline.Sets.Members, headline.SupportingPlane.OnPlane, headline.Vector.Vector}
+use Rattle.qh_model.specs.{laws.EdgeLaws.OneFaceEachWay, laws.FaceLaws.IsAlong}
 use Rattle.qh_model.proofs.algebra.{Order.cancel-zero, Order.positive_le, Order.product_zero, VectorIdentities.vol-swap_last}
 use Rattle.qh_model.proofs.{extremes.Directions.vol_along, extremes.Directions.zero_along, polygons.Direction.polygon_as}
 use Rattle.qh_model.proofs.polygons.LeftOfEdge.{at_most, Way, Third, has_u, has_v, to_left, third, square, over}
@@ -53,3 +56,9 @@ one_face_each_way at ids i j k a b c p q u v d t r f g x y = from_thirds (third 
 
         level : vol (at i) (at j) (at k) (at s.w) ≡ pos 0
         level = cancel-zero _ _ w.turns flat
+
+-- of the faces of a set one alone goes from u to v
+pub one_face_a_step : (at : ℕ → Vector) (ids : List ℕ) (qs : List (List ℕ)) → HasDistinctPoints at (Members ids) → AreFaces at (Members ids) qs
+    → (p q : List ℕ) → In p qs → In q qs → (u v : ℕ) → Follows u v p → Follows u v q → p ≡ q
+one_face_a_step at ids qs d faces p q i j u v f g = let x = faces.only p i in let y = faces.only q j in
+    one_face_each_way at ids x.0 x.1 x.2 y.0 y.1 y.2 p q u v d x.3 y.3 x.4 y.4 f g

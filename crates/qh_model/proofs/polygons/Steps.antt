@@ -6,7 +6,7 @@ use Rattle.qh_model.specs.headline.{Polygon.FollowsAlong, Polygon.Follows, Polyg
 use Rattle.qh_model.specs.laws.ClosedFaceLaws.{FacesClose}
 use Rattle.qh_model.proofs.{closed_surfaces.SignedVolume.back, closed_surfaces.SignedVolume.is_edge-back, lists.Counts.count_twins, lists.Joined.once_append}
 use Rattle.qh_model.proofs.lists.{Joined.in_flat_map, Joined.of_flat_map, Lexicographic.before-asymmetric, Lexicographic.rising-ordered, Ordered.Ordered}
-use Rattle.qh_model.proofs.polygons.{Edges.one_face_each_way, Neighbours.along_members, OtherFace.other_face}
+use Rattle.qh_model.proofs.polygons.{Edges.one_face_a_step, Neighbours.along_members, OtherFace.other_face}
 
 -- there is a step for each corner
 pub length_steps : (q : List ℕ) → length (steps_round q) ≡ length q
@@ -71,12 +71,8 @@ ordered_once (q ∷ qs) o = (λ i. before-asymmetric q q (o.0 q i) (o.0 q i), or
 pub faces_close : FacesClose
 faces_close at ids qs d solid faces u v = le_antisymm (half u v) (half v u)
   where
-    one : (p q : List ℕ) → In p qs → In q qs → (u v : ℕ) → Follows u v p → Follows u v q → p ≡ q
-    one p q i j u v f g = let x = faces.only p i in let y = faces.only q j in
-        one_face_each_way at ids x.0 x.1 x.2 y.0 y.1 y.2 p q u v d x.3 y.3 x.4 y.4 f g
-
     once : Once (flat_map steps_round qs)
-    once = all_once qs (ordered_once qs (rising-ordered qs faces.rising)) (λ q i. (faces.only q i).4.once) one
+    once = all_once qs (ordered_once qs (rising-ordered qs faces.rising)) (λ q i. (faces.only q i).4.once) (one_face_a_step at ids qs d faces)
 
     -- the step back is one of the steps
     turned : (x : ℕ × ℕ) → In x (flat_map steps_round qs) → In (back x) (flat_map steps_round qs)

@@ -97,10 +97,6 @@ each_more P ws w k h i l = let n = length_push ws w in
     (λ m. rw (get_or_push ws w no_wedge i (omega arith)) h)
 
 -- ---- the answers
--- a height that is not above 0
-pub not_above : (z : ℤ) → (pos 0 <ℤ z → ⊥) → z ≤ℤ pos 0
-not_above z n = grind (arith, ints)
-
 -- a point that the search places between rays of the ring, those of two wedges v, the first, and w
 pub among : {a p : Vector} {ws : List Wedge} (i : ℕ) (v w : Wedge) (half : PlaneValue) → i < length ws
     → v ≡ wedge_at ws 0 → w ≡ wedge_at ws i → AreTriangles a ws → ((q : Vector) → height half q ≡ vol a v.from p q)

@@ -3,7 +3,7 @@
 //! Neighbouring facets of a cone meet in an edge from the apex, so a walk over these edges meets all facets.
 //! In that order a search can find the one facet that a point has to be tested against
 //! (`cone_search`). The ring begins where the cone is strictly convex.
-ghost use Rattle.std.specs.Prelude.{All, ◌≡◌, ◌<◌, ◌⊎◌, ℕ, List, length, OnOk, [], pos, IfOk};
+ghost use Rattle.std.specs.Prelude.{All, ◌≡◌, ◌<◌, length, OnOk, []};
 ghost use Rattle.qh_model.specs.headline.Sets.{In};
 ghost use Rattle.qh_model.specs.headline.Predicates.{place};
 ghost use Rattle.qh_model.specs.contract.Surface.Side.{second};

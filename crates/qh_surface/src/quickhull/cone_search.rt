@@ -7,11 +7,9 @@
 //!
 //! Nothing is proved of the search. Each answer has its certificate: the facet that sees the point, or
 //! the three rays. Where there is neither, the answer says so, and all facets are asked.
-ghost use Rattle.std.specs.Prelude.{◌≡◌, ◌<◌, ℕ, IsTrue, ◌↔◌, length, pos, ◌≤ℤ◌, ◌<ℤ◌};
-ghost use Rattle.qh_model.specs.headline.Vector.{Vector};
-ghost use Rattle.qh_model.specs.headline.Predicates.{vol};
+ghost use Rattle.std.specs.Prelude.{◌≡◌, ◌<◌, IsTrue, length, pos, ◌≤ℤ◌, ◌<ℤ◌};
 ghost use Rattle.qh_pred.specs.contract.Planes.{height};
-ghost use Rattle.qh_surface.specs.steps.Cones.{wedge_at, AreTriangles, IsBetweenRays, IsAnswer};
+ghost use Rattle.qh_surface.specs.steps.Cones.{wedge_at, AreTriangles, IsAnswer};
 
 use crate::quickhull::cone_ring::{ConeRing, Wedge};
 use qh_mesh::FacetNo;

@@ -1,6 +1,5 @@
 //! New outside sets for the points of removed facets.
-ghost use Rattle.std.specs.Prelude.{All, ◌≡◌, ◌≤◌, ◌<◌, ℕ, List, [], ◌∷◌, length, drop, map, pos, ◌<ℤ◌, IfNone, IfSome};
-ghost use Rattle.qh_model.specs.headline.Vector.{Vector};
+ghost use Rattle.std.specs.Prelude.{All, ◌≡◌, ◌≤◌, ◌<◌, ℕ, List, [], ◌∷◌, length, drop, pos, ◌<ℤ◌, IfNone, IfSome};
 ghost use Rattle.qh_model.specs.headline.Sets.{In};
 ghost use Rattle.qh_model.specs.headline.Predicates.{place};
 ghost use Rattle.qh_model.specs.contract.StoredSurface.{StoredFacet};

@@ -3,7 +3,7 @@ ghost use Rattle.std.specs.Prelude.{◌≡◌, ◌++◌, ◌<◌, OnOk, IfOk, Al
 ghost use Rattle.std.specs.List.{flat_map};
 ghost use Rattle.qh_model.specs.headline.Fan.{fan, fans, edge_count};
 ghost use Rattle.qh_model.specs.headline.Text.{line, spaced};
-ghost use Rattle.qh_write.specs.steps.Numberings.{HasNumber, AreNumbered, face_by_numbers};
+ghost use Rattle.qh_write.specs.steps.Numberings.{AreNumbered, face_by_numbers};
 
 use super::edges::fan_edges;
 use super::lines::{push_line_end, push_number, push_spaced};

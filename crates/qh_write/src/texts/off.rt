@@ -1,5 +1,5 @@
 //! The text of `Fx`, and that of an OFF file.
-ghost use Rattle.std.specs.Prelude.{◌≡◌, ◌++◌, ◌∷◌, ◌<◌, OnOk, All, length, slice_index, decimal, codes};
+ghost use Rattle.std.specs.Prelude.{◌≡◌, ◌++◌, ◌<◌, OnOk, All, length, decimal, codes};
 ghost use Rattle.std.specs.List.{flat_map};
 ghost use Rattle.qh_model.specs.headline.Text.{line, spaced, extremes_text, vertex_text, face_text, off_text};
 ghost use Rattle.qh_model.specs.contract.Bodies.{IsBodyInOrder};

@@ -1,6 +1,6 @@
 -- All polygons are asked.
 use Rattle.std.proofs.lemmas.Result.{IfOk-weaker}
-use Rattle.qh_places.proofs.LevelFaces.{part_indices}
+use Rattle.qh_model.proofs.hulls.ExtremeParts.{part_indices}
 use Rattle.qh_check.proofs.FoundParts.{all_asked}
 use Rattle.qh_check.proofs.searchers.find_fault.Goals as goal
 

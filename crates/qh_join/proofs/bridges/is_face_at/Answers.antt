@@ -1,5 +1,6 @@
 -- The plane of the three has nothing above it, and the polygon of what is in it is the claimed one.
-use Rattle.std.proofs.Common.{◌≡◌, ◌∙◌, Bool, true, false, subst, sym}
+use Rattle.std.proofs.Common.{◌≡◌, ◌∙◌, false, subst, sym}
+use Rattle.std.proofs.lemmas.Bool.{both_ways}
 use Rattle.std.specs.Cmp.Lexicographic.{same_text}
 use Rattle.qh_model.specs.headline.{Predicates.place, Predicates.AreInLine, Sets.Members}
 use Rattle.qh_model.specs.headline.Polygons.{IsFacePolygon}
@@ -26,7 +27,7 @@ returns c = λ yes kept keeps distinct.
     let has_k = rw c.deref.ensures.value at (c.is_in.ensures.k c.if-not-is_in.false) in
     let alike : c.ids.result.now ≡ c.ids-2.result.now = same_text _ _ (sym yes ∙ c.eq.ensures) in
     let area = λ (e : AreInLine (place pts _) (place pts _) (place pts _)).
-    (let w = c.in_line.ensures.1 (rw (x, y, z) e) in let n = c.if-in_line.false in false_true w n) in (
+    (let w = c.in_line.ensures.1 (rw (x, y, z) e) in both_ways _ c.if-in_line.false w) in (
       c.args.three.i,
       c.args.three.j,
       c.args.three.k,
@@ -34,6 +35,3 @@ returns c = λ yes kept keeps distinct.
       subst (IsFacePolygon (place pts) (Members kept) _ _ _) (rw (c.ids.ensures, c.ids-2.ensures) at alike)
           (face pts kept c.through-plane.result _ level _ _ _ told area has_i has_j has_k rising distinct _ made),
     )
-  where
-    false_true : {b : Bool} → b ≡ true → b ≡ false → ⊥
-    false_true p q = cc

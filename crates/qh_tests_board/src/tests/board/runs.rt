@@ -1,6 +1,5 @@
 //! Many boards, worked by passes side by side, some of which give up.
 ghost use Rattle.std.specs.Prelude.{◌≡◌, ◌<◌, ◌++◌, IfOk, All, false, length};
-ghost use Rattle.std.specs.Thread.{IsSync};
 ghost use Rattle.qh_board.specs.contract.Closings.{closed_setup};
 ghost use Rattle.qh_board.specs.contract.Tokens.{IsOf};
 

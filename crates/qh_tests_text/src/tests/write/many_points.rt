@@ -1,5 +1,5 @@
 //! The text of a hull with few vertices among many points, whose numbers are searched.
-ghost use Rattle.std.specs.Prelude.{◌≡◌, ◌<◌, [], ◌∷◌, All, IfOk, length};
+ghost use Rattle.std.specs.Prelude.{◌≡◌, ◌<◌, [], ◌∷◌, IfOk, length};
 
 use qh_model::{Body, Hull, Id, Memory, Point, Polygon};
 use qh_write::{Out, text};

@@ -1,14 +1,12 @@
 -- The key of the facet is listed, or the facet is not in the ring.
-use Rattle.std.proofs.Common.{◌≡◌, ◌∙◌, ◌++◌, inl, inr, ap, map, refl, [], ◌∷◌, Bool, true, false}
+use Rattle.std.proofs.Common.{◌∙◌, ◌++◌, inl, inr, ap, map, refl, [], ◌∷◌, true}
+use Rattle.std.proofs.lemmas.Bool.{both_ways}
 use Rattle.std.proofs.lemmas.List.{map-append}
 use Rattle.qh_seam.specs.steps.RingKeys.{facet_in}
 use Rattle.qh_seam.proofs.marked.Marked.list_ring.Goals as goal
 
 pub returns-then-not-is_ring : goal.returns-then-not-is_ring
-returns-then-not-is_ring c = inr (λ r. clash (c.is_ring.ensures r) c.if-not-is_ring.true, refl)
-  where
-    clash : {b : Bool} → b ≡ true → b ≡ false → ⊥
-    clash p q = cc
+returns-then-not-is_ring c = inr (λ r. both_ways _ c.if-not-is_ring.true (c.is_ring.ensures r), refl)
 
 pub returns : goal.returns
 returns c =

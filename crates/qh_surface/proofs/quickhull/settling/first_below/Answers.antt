@@ -1,9 +1,9 @@
 -- One facet more that the point is not above.
 use Rattle.std.proofs.Common.{take_all, pos, ◌≤ℤ◌}
 use Rattle.std.proofs.lemmas.List.{get_or_read, Elements.All-more}
-use Rattle.qh_model.proofs.Members.{In-get_or}
+use Rattle.qh_model.proofs.{Members.In-get_or, algebra.Signs.at_most_zero}
 use Rattle.qh_pred.specs.contract.Planes.{height}
-use Rattle.qh_surface.{specs.steps.Planes.no_plane, specs.steps.Planes.plane_at, proofs.runs.ConeRings.not_above}
+use Rattle.qh_surface.{specs.steps.Planes.no_plane, specs.steps.Planes.plane_at}
 use Rattle.qh_surface.proofs.quickhull.settling.first_below.Goals as goal
 
 pub loop-at-preserved : goal.loop-at-preserved
@@ -12,7 +12,7 @@ loop-at-preserved c =
     let item = get_or_read made i c.index-made-at.result test c.index-made-at.is 0 in
     let is = get_or_read c.args.planes.now _ read.result (c.requires i 0 test) (rw (c.index.ensures, item) at read.is) no_plane in
     All-more (λ f. height (plane_at c.args.planes.now f) c.args.point ≤ℤ pos 0) made i 0 test c.loop-at.invariant
-    (rw (← is) (not_above _ (λ h. let b = c.if-sees.ensures.1 h in cc)))
+    (rw (← is) (at_most_zero _ (λ h. let b = c.if-sees.ensures.1 h in cc)))
 
 pub returns-then-sees-clause-named : goal.returns-then-sees-clause-named
 returns-then-sees-clause-named c =
