@@ -6,6 +6,8 @@
 //! no rounding, for all points, since a [`qh_model::Point`] keeps the limit of coordinates. No call takes
 //! memory.
 //!
+//! [`least_of`] and [`greatest_of`] return corners of the box that two points span.
+//!
 //! Source: Barber, Dobkin and Huhdanpaa 1996 (a point is above a facet by the sign of a determinant).
 #![tactic(auto)]
 
