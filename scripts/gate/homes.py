@@ -29,12 +29,10 @@ LAMBDA = re.compile(r"λ ([^.]+)\.")
 
 
 def imported(text):
-    """Yields the names that a file imports, as the file spells them, and the place of each in the import."""
+    """Yields each name that a file imports: as it stands in the file, and as the import spells it."""
     for found in IMPORT.finditer(text):
         path, _, names = found.group(1).strip().partition(".{")
-        if not names and path.startswith("Rattle.") or " as " in path:
-            names = path.rsplit(".", 1)[-1] if " as " not in path else path
-        for name in filter(None, (part.strip() for part in names.rstrip("}").split(","))):
+        for name in filter(None, (part.strip() for part in (names or path).rstrip("}").split(","))):
             last = name.split(" as ")[-1].strip()
             yield last if "◌" in last and "." not in last else last.rsplit(".", 1)[-1], name
 
@@ -57,7 +55,7 @@ def unused(text):
     """Returns the names that a file imports for nothing. Left out is what it passes on, and what a source imports for Rust."""
     rest = rest_of(text)
     own = [found.group(0) for found in IMPORT.finditer(text)]
-    own = [line for line in own if "Rattle" in line and not line.strip().startswith("pub ")]
+    own = [line for line in own if "::" not in line and not line.strip().startswith("pub ")]
     return [written for name, written in imported("\n".join(own)) if not is_used(name, rest)]
 
 
