@@ -4,15 +4,14 @@ use Rattle.std.specs.Prelude.{Option, Some, None, MatchOption}
 use Rattle.qh_model.specs.headline.Vector.{Vector}
 use Rattle.qh_model.specs.headline.Predicates.{place, AreInLine}
 use Rattle.qh_model.specs.headline.Sets.{In, Members}
-use Rattle.qh_check.specs.declared.extent.Extent.{Extent}
 use Rattle.qh_check.specs.declared.faces.Three.{Three}
-use Rattle.qh_check.specs.declared.verdict.FaceFault.{FaceFault}
-use Rattle.qh_check.specs.declared.verdict.FaceFault.TheVariants.{NoPlane, Above, OtherFace}
+use Rattle.qh_check.specs.declared.fault.FaceFault.{FaceFault}
+use Rattle.qh_check.specs.declared.fault.FaceFault.TheVariants.{NoPlane, Above, OtherFace}
 use Rattle.qh_check.specs.contract.Pieces.{BeginsWith}
 use Rattle.qh_check.specs.steps.Faces.{BeginsWithThree, IsFaceAt, IsFaultAt, IsFaceOf, IsFaultOf}
 
-module _ (extent : Extent) (pts : List Vector) (ids : List ℕ) (q : List ℕ) (t : Three) (b : BeginsWithThree pts q t) where
-  fault : (f : FaceFault) → IsFaultAt extent pts ids t q f → IsFaultOf extent pts ids q f
+module _ (pts : List Vector) (ids : List ℕ) (q : List ℕ) (t : Three) (b : BeginsWithThree pts q t) where
+  fault : (f : FaceFault) → IsFaultAt pts ids t q f → IsFaultOf pts ids q f
   fault NoPlane h d = line
     where
       line : (i j k : ℕ) → BeginsWith q i j k → In i ids → In j ids → In k ids
@@ -32,7 +31,7 @@ module _ (extent : Extent) (pts : List Vector) (ids : List ℕ) (q : List ℕ) (
   fault (Above l) h d = (t.i, t.j, t.k, (b.rest, b.is), h.0, h.1)
   fault OtherFace h d = (t.i, t.j, t.k, (b.rest, b.is), (h d).0, (h d).1)
 
-  pub fault_cases : (o : Option FaceFault) → MatchOption o (IsFaceAt extent pts ids t q) (IsFaultAt extent pts ids t q)
-      → MatchOption o (IsFaceOf extent pts ids q) (IsFaultOf extent pts ids q)
+  pub fault_cases : (o : Option FaceFault) → MatchOption o (IsFaceAt pts ids t q) (IsFaultAt pts ids t q)
+      → MatchOption o (IsFaceOf pts ids q) (IsFaultOf pts ids q)
   fault_cases None h = λ d. (t.i, t.j, t.k, (h (b.rest, b.is) d).0, (h (b.rest, b.is) d).1)
   fault_cases (Some f) h = fault f h

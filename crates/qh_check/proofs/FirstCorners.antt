@@ -1,4 +1,4 @@
--- The first three corners of a face are a supporting triple with this face, so a fault of a polygon shows that it is no face.
+-- The first three corners of a face are a supporting triple with this face.
 use Rattle.std.proofs.Common.{ℕ, ◌≡◌, ◌≢◌, inl, inr, refl, sym, subst, ◌∙◌, List, [], ◌∷◌}
 use Rattle.std.specs.Prelude.{pos, ◌<ℤ◌}
 use Rattle.qh_model.specs.headline.Vector.{Vector}
@@ -9,15 +9,10 @@ use Rattle.qh_model.specs.headline.Polygons.{IsFacePolygon}
 use Rattle.qh_model.specs.contract.ClosedPolygons.{IsFace}
 use Rattle.qh_model.specs.contract.IdSets.{HasDistinctPoints}
 use Rattle.qh_model.specs.laws.FanLaws.{IsSupportingTriangle}
-use Rattle.qh_model.proofs.algebra.Signs.{not_less}
 use Rattle.qh_model.proofs.algebra.VectorIdentities.{left-turn}
 use Rattle.qh_model.proofs.polygons.Edges.{seen_from}
 use Rattle.qh_model.proofs.polygons.Fans.{corners_support, face_fan}
 use Rattle.qh_model.proofs.polygons.PlaneTurns.{level_along}
-use Rattle.qh_check.specs.declared.extent.Extent.TheVariants.{Whole}
-use Rattle.qh_check.specs.declared.verdict.FaceFault.{FaceFault}
-use Rattle.qh_check.specs.declared.verdict.FaceFault.TheVariants.{NoPlane, Above, OtherFace}
-use Rattle.qh_check.specs.contract.Claims.{IsFaceFault}
 use Rattle.qh_check.specs.contract.Pieces.{BeginsWith}
 
 -- the three are a supporting triple whose polygon is q
@@ -74,13 +69,7 @@ module _ (at : ℕ → Vector) (ids : List ℕ) (d : HasDistinctPoints at (Membe
           let along = level_along (at u) (at v) (at w) (at i) (at j) (at k) plane.area on_i on_j on_k turn in
           seen_from at (Members ids) u v w i j k (i ∷ j ∷ k ∷ r) p along on_i
 
--- a face begins with three corners
-pub some_corners : (at : ℕ → Vector) (ids : List ℕ) → HasDistinctPoints at (Members ids) → (q : List ℕ)
-    → IsFace at (Members ids) q → (i j k : ℕ) × BeginsWith q i j k × HasFace at (Members ids) q i j k
-some_corners at ids d q (u, v, w, plane, p) =
-    let f = corners_of at ids d u v w plane q p in (f.i, f.j, f.k, (f.rest, f.is), f.face)
-
--- and any three with which it begins are a supporting triple with this face
+-- any three corners with which a face begins are a supporting triple with this face
 pub corners_at : (at : ℕ → Vector) (ids : List ℕ) → HasDistinctPoints at (Members ids) → (q : List ℕ)
     → IsFace at (Members ids) q → (i j k : ℕ) → BeginsWith q i j k → HasFace at (Members ids) q i j k
 corners_at at ids d q (u, v, w, plane, p) i j k (r, e) = go (corners_of at ids d u v w plane q p)
@@ -95,12 +84,3 @@ corners_at at ids d q (u, v, w, plane, p) i j k (r, e) = go (corners_of at ids d
         move a b c x y z s =
             subst (λ n. HasFace at (Members ids) q i j n) z (subst (λ n. HasFace at (Members ids) q i n c) y
             (subst (λ n. HasFace at (Members ids) q n b c) x s))
-
--- so a polygon with a fault is no face
-pub no_face : (at : ℕ → Vector) (ids : List ℕ) → HasDistinctPoints at (Members ids) → (q : List ℕ) (fault : FaceFault)
-    → IsFaceFault Whole at (Members ids) q fault → ¬ (IsFace at (Members ids) q)
-no_face at ids d q NoPlane h f =
-    let (i, j, k, b, s) = some_corners at ids d q f in s.0.area (h i j k b s.0.has_i s.0.has_j s.0.has_k)
-no_face at ids d q (Above l) (i, j, k, b, m, above) f =
-    let s = corners_at at ids d q f i j k b in not_less (pos 0) _ above (s.0.supports l m)
-no_face at ids d q OtherFace (i, j, k, b, s, other) f = other (corners_at at ids d q f i j k b).1

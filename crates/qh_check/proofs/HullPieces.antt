@@ -1,6 +1,6 @@
 -- A polygon that goes round corners of a face, and turns as the face does, is a piece of it.
-use Rattle.std.proofs.Common.{ℕ, ◌≡◌, ◌≢◌, ap, inl, inr, refl, sym, subst, ◌∙◌, List, [], get_or}
-use Rattle.std.specs.Prelude.{pos, ◌<ℤ◌, ◌≤ℤ◌}
+use Rattle.std.proofs.Common.{ℕ, ◌≡◌, ◌≢◌, ap, inl, inr, refl, sym, subst, ◌∙◌, List, [], get_or, All}
+use Rattle.std.specs.Prelude.{pos, ◌<ℤ◌, ◌≤ℤ◌, Option, Some, None, MatchOption}
 use Rattle.std.specs.Ordering.{is_gt}
 use Rattle.qh_model.specs.headline.Hull.{BodyValue, IsBody}
 use Rattle.qh_model.specs.headline.Dimension.{IsDimension}
@@ -11,7 +11,7 @@ use Rattle.qh_model.specs.headline.SupportingPlane.{IsSupportingTriple}
 use Rattle.qh_model.specs.headline.Polygons.{AreFaces, ArePolygons, IsFacePolygon}
 use Rattle.qh_model.specs.contract.ClosedPolygons.{IsFace}
 use Rattle.qh_model.specs.contract.IdSets.{HasDistinctPoints, IsIdSet}
-use Rattle.qh_model.proofs.Members.{In-get_or}
+use Rattle.qh_model.proofs.Members.{All-In, All-of, In-get_or}
 use Rattle.qh_model.proofs.algebra.Order.{cancel-nonpos, mul-nonneg_nonpos, positive_le}
 use Rattle.qh_model.proofs.algebra.Signs.{less_differ}
 use Rattle.qh_model.proofs.algebra.VectorIdentities.{in_line-left}
@@ -23,8 +23,9 @@ use Rattle.qh_pred.proofs.Turns.{turn_sign}
 use Rattle.qh_polygon.proofs.polygons.Chain.{is_left-yes}
 use Rattle.qh_check.specs.contract.Pieces.{IsMetRound, IsPiece}
 use Rattle.qh_check.specs.steps.HullFaces.{IsPieceAmong, TurnsAlike}
+use Rattle.qh_check.specs.declared.findings.Finding.{Finding}
 use Rattle.qh_check.specs.steps.Faces.{IsFaceOf}
-use Rattle.qh_check.specs.declared.extent.Extent.TheVariants.{Piece}
+use Rattle.qh_check.specs.steps.Findings.{IsFound, IsSeen}
 use Rattle.qh_check.proofs.FirstCorners.{HasFace, corners_at}
 use Rattle.qh_check.proofs.MetBehind.{round_has}
 use Rattle.qh_check.proofs.Verdicts.{faces_of}
@@ -93,7 +94,7 @@ module _ (pts : List Vector) (ids : List ℕ) (d : HasDistinctPoints (place pts)
 
 -- so is one of the faces of a solid set
 pub piece_among : (pts : List Vector) (ids : List ℕ) (faces : List (List ℕ)) (q : List ℕ) → AreFaces (place pts) (Members ids) faces
-    → IsPieceAmong pts faces q → IsFaceOf Piece pts ids q
+    → IsPieceAmong pts faces q → IsFaceOf pts ids q
 piece_among pts ids faces q are (k, (l, met, t)) =
     λ d. turned_piece pts ids d (get_or faces k []) q (are.only (get_or faces k []) (In-get_or faces k [] l)) met t
 
@@ -103,3 +104,13 @@ pub faces_of_body : (pts : List Vector) (ids : List ℕ) → IsIdSet pts ids →
     → AreFaces (place pts) (Members ids) faces
 faces_of_body pts ids set solid b body faces e =
     faces_of pts ids faces set solid (b.dim, body.dim, subst (ArePolygons (place pts) (Members ids) b.dim) e body.polygons)
+
+-- so are all polygons that are seen to be pieces
+pub seen_pieces : (pts : List Vector) (ids : List ℕ) (faces qs : List (List ℕ)) → AreFaces (place pts) (Members ids) faces → (o : Option Finding)
+    → MatchOption o (All (IsSeen pts ids faces) qs) (IsFound pts ids qs) → MatchOption o (All (IsFaceOf pts ids) qs) (IsFound pts ids qs)
+seen_pieces pts ids faces qs are (Some f) h = h
+seen_pieces pts ids faces qs are None all = All-of (IsFaceOf pts ids) qs (λ q m. by q (All-In (IsSeen pts ids faces) qs q all m))
+  where
+    by : (q : List ℕ) → IsSeen pts ids faces q → IsFaceOf pts ids q
+    by q (inl among) = piece_among pts ids faces q are among
+    by q (inr own) = own

@@ -1,7 +1,7 @@
 pub mod FaultCases
 pub mod FirstCorners
-pub mod FoundParts
 pub mod HullPieces
+pub mod Levels
 pub mod Pieces
 pub mod MetBehind
 pub mod MetLists

@@ -9,7 +9,6 @@ use Rattle.qh_model.specs.headline.Polygons.{ArePolygons}
 use Rattle.qh_model.specs.contract.ClosedPolygons.{AreClosed, step_count}
 use Rattle.qh_model.specs.contract.IdSets.{IsIdSet}
 use Rattle.qh_model.proofs.Members.{All-In, In-get_or}
-use Rattle.qh_check.specs.declared.extent.Extent.TheVariants.{Piece}
 use Rattle.qh_check.specs.declared.findings.Finding.{Finding}
 use Rattle.qh_check.specs.declared.flaw.SurfaceVerdict.{SurfaceVerdict}
 use Rattle.qh_check.specs.declared.flaw.SurfaceVerdict.TheVariants.{Right, OtherPolygons, NoPiece, Open, Twice}
@@ -36,7 +35,7 @@ module _ (pts : List Vector) (ids : List ℕ) (qs : List (List ℕ)) (set : IsId
   wrong v n none reason =
       record { right = (λ e. absurd (n e), λ p. absurd (none (surface_of p))); reason = reason }
 
-  pub is_no_piece : (f : Finding) → IsFound Piece pts ids qs f → IsSurfaceVerdictOf pts ids qs (NoPiece f.position f.fault)
+  pub is_no_piece : (f : Finding) → IsFound pts ids qs f → IsSurfaceVerdictOf pts ids qs (NoPiece f.position f.fault)
   is_no_piece f (l, h) =
       wrong (NoPiece f.position f.fault) (λ e. cc)
       (λ s. no_piece at (Members ids) (get_or qs f.position []) f.fault (h set.distinct)
@@ -50,7 +49,7 @@ module _ (pts : List Vector) (ids : List ℕ) (qs : List (List ℕ)) (set : IsId
   is_twice u v h =
       wrong (Twice u v) (λ e. cc) (λ s. (let once = s.once u v h.0 in let more = h.1 in omega (arith, once, more))) h
 
-  pub is_right : 0 < length qs → All (IsFaceOf Piece pts ids) qs → AreClosed qs
+  pub is_right : 0 < length qs → All (IsFaceOf pts ids) qs → AreClosed qs
       → ((u v : ℕ) → u < v → step_count qs u v ≤ 1) → IsSurfaceVerdictOf pts ids qs Right
   is_right some faces closed once = record { right = (λ e. claim, λ p. refl); reason = claim }
     where
@@ -59,7 +58,7 @@ module _ (pts : List Vector) (ids : List ℕ) (qs : List (List ℕ)) (set : IsId
         solid,
         record {
           some = some;
-          pieces = λ q m. All-In (IsFaceOf Piece pts ids) qs q faces m set.distinct;
+          pieces = λ q m. All-In (IsFaceOf pts ids) qs q faces m set.distinct;
           closed = closed;
           once = once;
         },

@@ -1,5 +1,4 @@
 -- What private functions speak of: nothing to believe.
-pub mod Asking
 pub mod Faces
 pub mod Findings
 pub mod HullFaces

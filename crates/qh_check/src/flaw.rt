@@ -1,5 +1,5 @@
 //! The verdict on a surface.
-use crate::verdict::FaceFault;
+use crate::fault::FaceFault;
 use qh_model::Id;
 use std::fmt;
 
@@ -36,19 +36,6 @@ impl fmt::Display for SurfaceVerdict {
                     "the side from point {u} to point {v} belongs to more than two faces"
                 )
             }
-        }
-    }
-}
-
-impl fmt::Display for FaceFault {
-    fn fmt<W: fmt::Write>(&self, f: &mut fmt::Formatter<W>) -> fmt::Result {
-        match self {
-            FaceFault::NoPlane => write!(f, "its first three corners are no points in a plane"),
-            FaceFault::Above(id) => {
-                let number = id.number();
-                write!(f, "point {number} is above its plane")
-            }
-            FaceFault::OtherFace => write!(f, "the polygon of its plane is another"),
         }
     }
 }

@@ -1,5 +1,5 @@
-//! The hull of a set of ids by the calling thread. If few ids of a large set are extreme, most ids are
-//! dropped by the hull of their block alone.
+//! The hull of a set of ids by the calling thread. A large set that is long or flat is mapped first. If few ids of a
+//! large set are extreme, most ids are dropped by the hull of their block alone.
 ghost use Rattle.std.specs.Prelude.{◌<◌, IfOk, length};
 ghost use Rattle.qh_model.specs.contract.IdSets.{AreIndices, IsIdSet};
 ghost use Rattle.qh_model.specs.headline.Hull.{IsBody};
@@ -8,6 +8,7 @@ ghost use Rattle.qh_model.specs.headline.Sets.{Members};
 ghost use Rattle.qh_model.specs.laws.HullLaws.{HasExtremes};
 
 use qh_block::{BLOCK_ALONE, TELLING, WHOLE_ALONE, are_few, extremes, hull};
+use qh_lattice::reduced;
 use qh_model::{Body, Id, Memory, Point};
 use qh_polygon::rising_ids;
 use std::alloc::Global;
@@ -58,8 +59,8 @@ fn hull_by_blocks(alloc: Global, pts: &[Point], ids: &[Id]) -> Result<Body, Memo
     hull(alloc, pts, &part)
 }
 
-/// Returns the hull of a set of ids.
-pub fn body_alone(alloc: Global, pts: &[Point], ids: &[Id]) -> Result<Body, Memory>
+/// Returns the hull of a set of ids, of the points as they are.
+fn body_as_given(alloc: Global, pts: &[Point], ids: &[Id]) -> Result<Body, Memory>
     requires some { 0 < length ids.now }
     requires indices { AreIndices pts.now ids.now }
     requires set { IsIdSet pts.now ids.now }
@@ -69,5 +70,18 @@ pub fn body_alone(alloc: Global, pts: &[Point], ids: &[Id]) -> Result<Body, Memo
         hull_by_blocks(alloc, pts, ids)
     } else {
         hull(alloc, pts, ids)
+    }
+}
+
+/// Returns the hull of a set of ids: that of images of the points where a map pays.
+pub fn body_alone(alloc: Global, pts: &[Point], ids: &[Id]) -> Result<Body, Memory>
+    requires some { 0 < length ids.now }
+    requires indices { AreIndices pts.now ids.now }
+    requires set { IsIdSet pts.now ids.now }
+    ensures { IfOk result (IsBody (place pts.now) (Members ids.now)) }
+{
+    match reduced(alloc, pts, ids)? {
+        Some(images) => body_as_given(alloc, &images, ids),
+        None => body_as_given(alloc, pts, ids),
     }
 }

@@ -1,3 +1,4 @@
+pub mod ImageVerdicts
 pub mod Judgements
 pub mod OwnIndices
 pub mod SharpSurfaces

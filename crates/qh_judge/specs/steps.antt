@@ -1,2 +1,3 @@
 -- What private functions speak of: nothing to believe.
+pub mod Corners
 pub mod OwnIndices

@@ -4,20 +4,19 @@ ghost use Rattle.qh_model.specs.declared.limits.TheConstants.{POINT_LIMIT};
 ghost use Rattle.qh_model.specs.headline.DistinctIds.{AreDistinctIds};
 ghost use Rattle.qh_judge.specs.contract.Judging.{IsJudgement};
 
-use crate::checkers::{Alone, Checker, InThreads, verdict_on};
 use crate::judgement::Judgement;
 use crate::naming::polygons_of;
 use crate::own_indices::are_own;
+use crate::verdicts::verdict_on;
 use qh_check::Claim;
 use qh_model::{Id, Memory, Point, Polygon};
 use qh_plane::{distinct_alone, distinct_in_threads};
 use std::alloc::Global;
 use std::thread::Threads;
 
-/// Judges faces of points, whose distinct ids are known, by a way to check polygons. The faces are renamed only if
-/// their corners are not the distinct ids themselves.
-fn judge_by<C: Checker>(
-    checker: &C,
+/// Judges faces of points whose distinct ids are known. The faces are renamed only if their corners are not the distinct
+/// ids themselves.
+fn judge_distinct(
     alloc: Global,
     pts: &[Point],
     ids: &[Id],
@@ -34,7 +33,7 @@ fn judge_by<C: Checker>(
             ids,
             polygons: faces,
         };
-        let verdict = verdict_on(checker, alloc, claim)?;
+        let verdict = verdict_on(alloc, claim)?;
         return Ok(Judgement::Told(verdict));
     }
     match polygons_of(alloc, pts, ids, named, faces)? {
@@ -44,7 +43,7 @@ fn judge_by<C: Checker>(
                 ids,
                 polygons: &polygons,
             };
-            let verdict = verdict_on(checker, alloc, claim)?;
+            let verdict = verdict_on(alloc, claim)?;
             Ok(Judgement::Told(verdict))
         }
         Err(position) => Ok(Judgement::Stranger(position)),
@@ -58,7 +57,8 @@ fn judge_by<C: Checker>(
 /// one place any may be named. There is one point at least, and there are at most `POINT_LIMIT`, which the
 /// caller keeps.
 ///
-/// The threads claim parts of the points, and then of the faces, one after the other. No `workers` means one.
+/// The threads claim parts of the points one after the other, to find the distinct ones; the calling thread alone judges
+/// the faces. No `workers` means one.
 ///
 /// # Errors
 ///
@@ -76,11 +76,7 @@ pub fn judge_faces<R: Threads + Sync>(
     ensures { IfOk result (IsJudgement pts.now named.now faces.now) }
 {
     let ids = distinct_in_threads(rt, alloc, pts, workers)?;
-    let checker = InThreads {
-        rt,
-        workers: workers as usize,
-    };
-    judge_by(&checker, alloc, pts, &ids, named, faces)
+    judge_distinct(alloc, pts, &ids, named, faces)
 }
 
 /// Judges faces of points, as [`judge_faces`] does, by the calling thread alone.
@@ -102,5 +98,5 @@ pub fn judge_faces_alone(
     ensures { IfOk result (IsJudgement pts.now named.now faces.now) }
 {
     let ids = distinct_alone(alloc, pts)?;
-    judge_by(&Alone, alloc, pts, &ids, named, faces)
+    judge_distinct(alloc, pts, &ids, named, faces)
 }

@@ -5,12 +5,12 @@
 //! ids at their places (`positions` finds these), and [`judge_faces`] has `qh_check` check the polygons.
 #![tactic(auto)]
 
-mod checkers;
 mod judgement;
 mod judging;
 mod naming;
 mod own_indices;
 mod positions;
+mod verdicts;
 
 pub use judgement::Judgement;
 pub use judging::{judge_faces, judge_faces_alone};

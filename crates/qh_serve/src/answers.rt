@@ -15,6 +15,7 @@ use crate::fault::Fault;
 use crate::ranks::{are_all_ranks, rank_text};
 use crate::settings::Settings;
 use qh_block::block_size;
+use qh_lattice::reduced;
 use qh_model::{BYTE_LIMIT, Cut, CutError, Hull, Id, Memory, Point};
 use qh_plane::distinct_in_threads;
 use qh_read::{MemSource, ReadFault, read_form_threads};
@@ -41,8 +42,8 @@ fn even_cut(alloc: Global, count: u32, wanted: u32) -> Result<Cut, Memory>
     }
 }
 
-/// Returns the hull of the points, by the number of workers in the settings, watched by the gate.
-fn hull_of<R: Threads + Sync, G: Gate>(
+/// Returns the hull of the points as they are, by the number of workers in the settings, watched by the gate.
+fn hull_as_given<R: Threads + Sync, G: Gate>(
     rt: &R,
     alloc: Global,
     pts: &[Point],
@@ -61,6 +62,28 @@ fn hull_of<R: Threads + Sync, G: Gate>(
         Ok(hull) => Ok(hull),
         Err(RunError::Memory) => Err(Memory),
         Err(RunError::BadWorkers) => unreachable!(),
+    }
+}
+
+/// Returns the hull of the points, as `hull_as_given` does: that of images of the points where a map pays.
+fn hull_of<R: Threads + Sync, G: Gate>(
+    rt: &R,
+    alloc: Global,
+    pts: &[Point],
+    ids: &[Id],
+    cut: &Cut,
+    settings: &Settings,
+    gate: &G,
+) -> Result<Hull, Memory>
+    requires few { length pts.now ≤ POINT_LIMIT }
+    requires some { 0 < length ids.now }
+    requires distinct { AreDistinctIds pts.now ids.now }
+    requires cut { positions cut.now ≡ length ids.now }
+    ensures { IfOk result (λ h. IsHull pts.now h) }
+{
+    match reduced(alloc, pts, ids)? {
+        Some(images) => hull_as_given(rt, alloc, &images, ids, cut, settings, gate),
+        None => hull_as_given(rt, alloc, pts, ids, cut, settings, gate),
     }
 }
 

@@ -1,5 +1,6 @@
 //! The tests of each library.
 
+mod lattice;
 mod model;
 mod plane;
 mod pred;

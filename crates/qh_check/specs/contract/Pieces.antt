@@ -3,8 +3,6 @@ use Rattle.std.specs.Prelude.{ℕ, ◌≡◌, ◌<◌, ◌+◌, ◌++◌, ◌⊎
 use Rattle.qh_model.specs.headline.Vector.{Vector}
 use Rattle.qh_model.specs.headline.SupportingPlane.{IsSupportingTriple}
 use Rattle.qh_model.specs.headline.Polygons.{IsFacePolygon}
-use Rattle.qh_check.specs.declared.extent.Extent.{Extent}
-use Rattle.qh_check.specs.declared.extent.Extent.TheVariants.{Whole, Piece}
 
 -- the polygon begins with the corners i, j, k
 abbrev pub BeginsWith : List ℕ → ℕ → ℕ → ℕ → Type 0
@@ -26,17 +24,10 @@ abbrev pub IsMetRound : List ℕ → List ℕ → Type 0
 IsMetRound [] face = ⊥
 IsMetRound (u ∷ p) face = (k : ℕ) × IsMetFrom u p face k
 
--- what is wanted of a polygon and the polygon of its plane: that they are the same, or that it goes round some corners
-abbrev pub Takes : Extent → List ℕ → List ℕ → Type 0
-Takes Whole face q = face ≡ q
-Takes Piece face q = IsMetRound q face
-
--- so of the polygon of the supporting plane of i, j, k, which are the first corners of a piece
-abbrev pub IsOfPlane : Extent → (ℕ → Vector) → (ℕ → Type 0) → ℕ → ℕ → ℕ → List ℕ → Type 0
-IsOfPlane Whole at A i j k q = IsFacePolygon at A i j k q
-IsOfPlane Piece at A i j k q =
-    BeginsWith q i j k × ((face : List ℕ) × IsFacePolygon at A i j k face × IsMetRound q face)
+-- the polygon begins with i, j, k, and goes round corners of the face in their plane
+abbrev pub IsOfPlane : (ℕ → Vector) → (ℕ → Type 0) → ℕ → ℕ → ℕ → List ℕ → Type 0
+IsOfPlane at A i j k q = BeginsWith q i j k × ((face : List ℕ) × IsFacePolygon at A i j k face × IsMetRound q face)
 
 -- the first three corners span a supporting plane, seen from outside, and the polygon goes round corners of its face
 abbrev pub IsPiece : (ℕ → Vector) → (ℕ → Type 0) → List ℕ → Type 0
-IsPiece at A q = (i j k : ℕ) × IsSupportingTriple at A i j k × IsOfPlane Piece at A i j k q
+IsPiece at A q = (i j k : ℕ) × IsSupportingTriple at A i j k × IsOfPlane at A i j k q

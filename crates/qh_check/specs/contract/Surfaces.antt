@@ -5,7 +5,6 @@ use Rattle.qh_model.specs.headline.Dimension.{IsDimension}
 use Rattle.qh_model.specs.headline.Predicates.{place}
 use Rattle.qh_model.specs.headline.Sets.{In, Members}
 use Rattle.qh_model.specs.contract.ClosedPolygons.{AreClosed, step_count}
-use Rattle.qh_check.specs.declared.extent.Extent.TheVariants.{Piece}
 use Rattle.qh_check.specs.declared.flaw.SurfaceVerdict.{SurfaceVerdict}
 use Rattle.qh_check.specs.declared.flaw.SurfaceVerdict.TheVariants.{Right, OtherPolygons, NoPiece, Open, Twice}
 use Rattle.qh_steps.specs.contract.OpenSteps.{IsOpen}
@@ -29,7 +28,7 @@ IsHullSurface at A qs =
 abbrev pub IsSurfaceReason : (ℕ → Vector) → (ℕ → Type 0) → List (List ℕ) → SurfaceVerdict → Type 0
 IsSurfaceReason at A qs Right = IsHullSurface at A qs
 IsSurfaceReason at A qs OtherPolygons = (¬ (IsDimension at A 3)) ⊎ (length qs ≡ 0)
-IsSurfaceReason at A qs (NoPiece n fault) = (n < length qs) × IsFaceFault Piece at A (slice_index_or qs n []) fault
+IsSurfaceReason at A qs (NoPiece n fault) = (n < length qs) × IsFaceFault at A (slice_index_or qs n []) fault
 IsSurfaceReason at A qs (Open u v) = IsOpen qs u v
 IsSurfaceReason at A qs (Twice u v) = (u < v) × (1 < step_count qs u v)
 

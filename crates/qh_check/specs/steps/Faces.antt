@@ -5,10 +5,9 @@ use Rattle.qh_model.specs.headline.Predicates.{place, vol, AreInLine}
 use Rattle.qh_model.specs.headline.Sets.{In, Members}
 use Rattle.qh_model.specs.headline.SupportingPlane.{IsSupportingTriple}
 use Rattle.qh_model.specs.contract.IdSets.{HasDistinctPoints}
-use Rattle.qh_check.specs.declared.extent.Extent.{Extent}
 use Rattle.qh_check.specs.declared.faces.Three.{Three}
-use Rattle.qh_check.specs.declared.verdict.FaceFault.{FaceFault}
-use Rattle.qh_check.specs.declared.verdict.FaceFault.TheVariants.{NoPlane, Above, OtherFace}
+use Rattle.qh_check.specs.declared.fault.FaceFault.{FaceFault}
+use Rattle.qh_check.specs.declared.fault.FaceFault.TheVariants.{NoPlane, Above, OtherFace}
 use Rattle.qh_check.specs.contract.Claims.{IsFaceFault}
 use Rattle.qh_check.specs.contract.Pieces.{BeginsWith, IsOfPlane}
 
@@ -25,26 +24,26 @@ abbrev pub BeginsWithoutThree : List Vector → List ℕ → Type 0
 BeginsWithoutThree pts q =
     (i j k : ℕ) (r : List ℕ) → q ≡ i ∷ j ∷ k ∷ r → i < length pts → j < length pts → k < length pts → ⊥
 
--- the three support the set, and q, which begins with them, is what is wanted of their plane
-abbrev pub IsFaceAt : Extent → List Vector → List ℕ → Three → List ℕ → Type 0
-IsFaceAt extent pts ids t q = BeginsWith q t.i t.j t.k → HasDistinctPoints (place pts) (Members ids)
-    → IsSupportingTriple (place pts) (Members ids) t.i t.j t.k × IsOfPlane extent (place pts) (Members ids) t.i t.j t.k q
+-- the three support the set, and q, which begins with them, goes round corners of the face of their plane
+abbrev pub IsFaceAt : List Vector → List ℕ → Three → List ℕ → Type 0
+IsFaceAt pts ids t q = BeginsWith q t.i t.j t.k → HasDistinctPoints (place pts) (Members ids)
+    → IsSupportingTriple (place pts) (Members ids) t.i t.j t.k × IsOfPlane (place pts) (Members ids) t.i t.j t.k q
 
 -- what is wrong with q as a polygon of the plane of the three
-abbrev pub IsFaultAt : Extent → List Vector → List ℕ → Three → List ℕ → FaceFault → Type 0
-IsFaultAt extent pts ids t q NoPlane =
+abbrev pub IsFaultAt : List Vector → List ℕ → Three → List ℕ → FaceFault → Type 0
+IsFaultAt pts ids t q NoPlane =
     In t.i ids → In t.j ids → In t.k ids → AreInLine (place pts t.i) (place pts t.j) (place pts t.k)
-IsFaultAt extent pts ids t q (Above l) =
+IsFaultAt pts ids t q (Above l) =
     In l ids × (pos 0 <ℤ vol (place pts t.i) (place pts t.j) (place pts t.k) (place pts l))
-IsFaultAt extent pts ids t q OtherFace = HasDistinctPoints (place pts) (Members ids)
-    → IsSupportingTriple (place pts) (Members ids) t.i t.j t.k × ¬ (IsOfPlane extent (place pts) (Members ids) t.i t.j t.k q)
+IsFaultAt pts ids t q OtherFace = HasDistinctPoints (place pts) (Members ids)
+    → IsSupportingTriple (place pts) (Members ids) t.i t.j t.k × ¬ (IsOfPlane (place pts) (Members ids) t.i t.j t.k q)
 
--- the polygon is what is wanted of a supporting plane of the set, if its points are distinct
-abbrev pub IsFaceOf : Extent → List Vector → List ℕ → List ℕ → Type 0
-IsFaceOf extent pts ids q = HasDistinctPoints (place pts) (Members ids) → (i j k : ℕ)
-    × IsSupportingTriple (place pts) (Members ids) i j k × IsOfPlane extent (place pts) (Members ids) i j k q
+-- the polygon goes round corners of the face of a supporting plane of the set, if its points are distinct
+abbrev pub IsFaceOf : List Vector → List ℕ → List ℕ → Type 0
+IsFaceOf pts ids q = HasDistinctPoints (place pts) (Members ids) → (i j k : ℕ)
+    × IsSupportingTriple (place pts) (Members ids) i j k × IsOfPlane (place pts) (Members ids) i j k q
 
 -- the polygon has this fault, if the points of the set are distinct
-abbrev pub IsFaultOf : Extent → List Vector → List ℕ → List ℕ → FaceFault → Type 0
-IsFaultOf extent pts ids q fault =
-    HasDistinctPoints (place pts) (Members ids) → IsFaceFault extent (place pts) (Members ids) q fault
+abbrev pub IsFaultOf : List Vector → List ℕ → List ℕ → FaceFault → Type 0
+IsFaultOf pts ids q fault =
+    HasDistinctPoints (place pts) (Members ids) → IsFaceFault (place pts) (Members ids) q fault

@@ -1,14 +1,14 @@
--- Polygons of a list that are no faces of a set.
-use Rattle.std.specs.Prelude.{ℕ, ◌<◌, List, [], length, slice_index_or}
+-- Polygons of a list that are no pieces of faces of a set.
+use Rattle.std.specs.Prelude.{ℕ, ◌<◌, ◌⊎◌, List, [], length, slice_index_or}
 use Rattle.qh_model.specs.headline.Vector.{Vector}
-use Rattle.qh_check.specs.declared.extent.Extent.{Extent}
 use Rattle.qh_check.specs.declared.findings.Finding.{Finding}
 use Rattle.qh_check.specs.steps.Faces.{IsFaceOf, IsFaultOf}
+use Rattle.qh_check.specs.steps.HullFaces.{IsPieceAmong}
 
--- the polygon at a position is a face, or a piece of one
-abbrev pub IsFaceAmong : Extent → List Vector → List ℕ → List (List ℕ) → ℕ → Type 0
-IsFaceAmong extent pts ids qs k = k < length qs → IsFaceOf extent pts ids (slice_index_or qs k [])
+-- the polygon is a piece of one of the faces of the hull, or its plane shows that it is a piece
+abbrev pub IsSeen : List Vector → List ℕ → List (List ℕ) → List ℕ → Type 0
+IsSeen pts ids faces q = IsPieceAmong pts faces q ⊎ IsFaceOf pts ids q
 
 -- one of the polygons has the fault
-abbrev pub IsFound : Extent → List Vector → List ℕ → List (List ℕ) → Finding → Type 0
-IsFound extent pts ids qs f = (f.position < length qs) × IsFaultOf extent pts ids (slice_index_or qs f.position []) f.fault
+abbrev pub IsFound : List Vector → List ℕ → List (List ℕ) → Finding → Type 0
+IsFound pts ids qs f = (f.position < length qs) × IsFaultOf pts ids (slice_index_or qs f.position []) f.fault

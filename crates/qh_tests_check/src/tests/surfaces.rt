@@ -1,14 +1,13 @@
 //! Worked rows: surfaces of a cube in pieces, and what is wrong with others.
-use super::{EIGHT, any};
-use qh_check::{Claim, FaceFault, SurfaceVerdict, check_surface, check_surface_alone};
+use super::EIGHT;
+use qh_check::{Claim, FaceFault, SurfaceVerdict, check_surface};
 use qh_fixtures::faces::{CUBE_FACES, polygons_of};
 use qh_fixtures::ids::ids_of;
 use qh_fixtures::points::cube;
-use qh_model::Memory;
+use qh_model::{Id, Memory};
 use std::alloc::Global;
 use std::process::Abort;
 use std::test::Fail;
-use std::thread::Threads;
 
 /// The twelve triangles of a cube, as Qhull writes them, turned round.
 pub const TRIANGLES: [&[u32]; 12] = [
@@ -39,8 +38,16 @@ const TURNED_FACES: [&[u32]; 6] = [
 /// A triangle of a cube, seen from inside.
 const INWARD: [&[u32]; 1] = [&[0, 6, 2]];
 
+/// Two corners of a cube.
+const EDGE: [&[u32]; 1] = [&[0, 1]];
+
 /// A face of a cube that goes back to one of its corners.
 const BACK_TO_A_CORNER: [&[u32]; 1] = [&[0, 1, 3, 2, 1]];
+
+/// Returns the id that stands in a row for any id that a verdict names.
+fn any() -> Id {
+    Id::new(0)
+}
 
 /// Returns a verdict with `any` for each id that it names.
 fn unnamed(verdict: SurfaceVerdict) -> SurfaceVerdict {
@@ -54,16 +61,14 @@ fn unnamed(verdict: SurfaceVerdict) -> SurfaceVerdict {
     }
 }
 
-/// Returns the verdict of a number of threads on polygons of the corners of a cube, or for 0 that of the calling
-/// thread; `None` if there are no ids.
-fn verdict<R: Threads + Sync>(
-    rt: &R,
+/// Returns the verdict on polygons of some corners of a cube; `None` if there are no ids.
+fn verdict(
     alloc: Global,
+    numbers: &[u32],
     faces: &[&[u32]],
-    workers: usize,
 ) -> Result<Option<SurfaceVerdict>, Memory> {
     let pts = cube(0, 1);
-    let ids = ids_of(alloc, &pts, &EIGHT)?;
+    let ids = ids_of(alloc, &pts, numbers)?;
     if ids.is_empty() {
         return Ok(None);
     }
@@ -73,40 +78,74 @@ fn verdict<R: Threads + Sync>(
         ids: &ids,
         polygons: &polygons,
     };
-    let told = match workers {
-        0 => check_surface_alone(alloc, claim)?,
-        _ => check_surface(rt, alloc, claim, workers)?,
-    };
+    let told = check_surface(alloc, claim)?;
     Ok(Some(unnamed(told)))
 }
 
-/// Asserts the verdict of a number of threads on polygons of the corners of a cube, or for 0 that of the calling
-/// thread.
-fn assert_verdict<R: AllocGlobal + Abort + Threads + Sync>(
+/// Asserts the verdict on polygons of some corners of a cube.
+fn assert_told<R: AllocGlobal + Abort>(
     rt: &R,
+    numbers: &[u32],
     faces: &[&[u32]],
-    workers: usize,
     wanted: SurfaceVerdict,
 ) -> Result<(), Fail> {
-    let told = verdict(rt, rt.alloc(), faces, workers)?;
-    assert_eq!(rt; told, Some(wanted), "{faces:?} by {workers}");
+    let told = verdict(rt.alloc(), numbers, faces)?;
+    assert_eq!(rt; told, Some(wanted), "{faces:?} of {numbers:?}");
     Ok(())
+}
+
+/// Asserts the verdict on polygons of all corners of a cube.
+fn assert_verdict<R: AllocGlobal + Abort>(
+    rt: &R,
+    faces: &[&[u32]],
+    wanted: SurfaceVerdict,
+) -> Result<(), Fail> {
+    assert_told(rt, &EIGHT, faces, wanted)
 }
 
 #[test]
 fn surfaces_of_a_cube(rt: HostRuntime) -> Result<(), Fail> {
-    for workers in [0, 1, 3] {
-        assert_verdict(&rt, &TRIANGLES, workers, SurfaceVerdict::Right)?;
-    }
-    assert_verdict(&rt, &TURNED_FACES, 1, SurfaceVerdict::Right)
+    assert_verdict(&rt, &CUBE_FACES, SurfaceVerdict::Right)?;
+    assert_verdict(&rt, &TRIANGLES, SurfaceVerdict::Right)?;
+    assert_verdict(&rt, &TURNED_FACES, SurfaceVerdict::Right)
 }
 
 #[test]
 fn polygons_that_are_no_pieces(rt: HostRuntime) -> Result<(), Fail> {
     let above = SurfaceVerdict::NoPiece(0, FaceFault::Above(any()));
-    assert_verdict(&rt, &INWARD, 0, above)?;
+    assert_verdict(&rt, &INWARD, above)?;
     let other = SurfaceVerdict::NoPiece(0, FaceFault::OtherFace);
-    assert_verdict(&rt, &BACK_TO_A_CORNER, 1, other)
+    assert_verdict(&rt, &BACK_TO_A_CORNER, other)?;
+    let no_plane = SurfaceVerdict::NoPiece(0, FaceFault::NoPlane);
+    assert_verdict(&rt, &EDGE, no_plane)?;
+    assert_told(&rt, &[0, 1, 2, 4, 5, 6, 7], &CUBE_FACES[..1], no_plane)
+}
+
+#[test]
+fn the_third_polygon_is_named(rt: HostRuntime) -> Result<(), Fail> {
+    let [a, b, c, d, e, f] = CUBE_FACES;
+    let seen_from_inside: [&[u32]; 6] = [a, c, &[0, 4, 6, 2], d, e, f];
+    let above = SurfaceVerdict::NoPiece(2, FaceFault::Above(any()));
+    assert_verdict(&rt, &seen_from_inside, above)?;
+    let past_an_edge: [&[u32]; 6] = [a, b, &[0, 1, 2, 6], d, e, f];
+    let told = verdict(rt.alloc(), &EIGHT, &past_an_edge)?;
+    assert!(rt;
+        matches!(told, Some(SurfaceVerdict::NoPiece(2, _))),
+        "{told:?}"
+    );
+    Ok(())
+}
+
+#[test]
+fn a_square_has_one_polygon(rt: HostRuntime) -> Result<(), Fail> {
+    let square: [&[u32]; 1] = [&[0, 2, 3, 1]];
+    assert_told(&rt, &EIGHT[..4], &square, SurfaceVerdict::Right)?;
+    assert_told(
+        &rt,
+        &EIGHT[..4],
+        &CUBE_FACES[..1],
+        SurfaceVerdict::OtherPolygons,
+    )
 }
 
 /// The faces of a cube, each given twice.
@@ -127,9 +166,10 @@ const EACH_TWICE: [&[u32]; 12] = [
 
 #[test]
 fn pieces_that_are_no_surface(rt: HostRuntime) -> Result<(), Fail> {
-    assert_verdict(&rt, &TRIANGLES[1..], 2, SurfaceVerdict::Open(any(), any()))?;
-    assert_verdict(&rt, &EACH_TWICE, 1, SurfaceVerdict::Twice(any(), any()))?;
-    assert_verdict(&rt, &CUBE_FACES[..0], 1, SurfaceVerdict::OtherPolygons)
+    assert_verdict(&rt, &TRIANGLES[1..], SurfaceVerdict::Open(any(), any()))?;
+    assert_verdict(&rt, &CUBE_FACES[..5], SurfaceVerdict::Open(any(), any()))?;
+    assert_verdict(&rt, &EACH_TWICE, SurfaceVerdict::Twice(any(), any()))?;
+    assert_verdict(&rt, &CUBE_FACES[..0], SurfaceVerdict::OtherPolygons)
 }
 
 #[test]

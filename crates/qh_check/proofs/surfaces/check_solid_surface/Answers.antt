@@ -1,12 +1,13 @@
--- Pieces that were found leave the steps to be judged, and else the planes tell.
+-- What is found, or the steps tell.
 use Rattle.std.proofs.lemmas.Result.{IfOk-weaker}
+use Rattle.qh_check.proofs.SurfaceVerdicts.{is_no_piece}
 use Rattle.qh_check.proofs.surfaces.check_solid_surface.Goals as goal
 
-pub returns-then-branch : goal.returns-then-branch
-returns-then-branch g c = IfOk-weaker c.judged.result _ _ (λ v h set solid.
-    h c.args.claim.pts.now c.args.claim.ids.now set solid c.requires
-    (c.in_ok-are_pieces_of_hull.ensures c.if-branch.true set solid)) c.judged.ensures
+pub returns-in-Some : goal.returns-in-Some
+returns-in-Some c = λ set solid.
+    is_no_piece c.args.claim.pts.now c.args.claim.ids.now c.args.claim.polygons.now set solid c.in-Some.finding
+    (rw c.in-Some.is at (c.in_ok-finding.ensures set solid))
 
 pub returns : goal.returns
-returns g c = IfOk-weaker c.judged-2.result _ _ (λ v h set solid.
-    h c.args.claim.pts.now c.args.claim.ids.now set solid c.requires c.in_ok-found.ensures) c.judged-2.ensures
+returns c = IfOk-weaker c.judge_steps.result _ _ (λ v h set solid.
+    h c.args.claim.pts.now c.args.claim.ids.now set solid c.requires (rw c.in_default.is at (c.in_ok-finding.ensures set solid))) c.judge_steps.ensures

@@ -1,0 +1,29 @@
+//! What is wrong with one polygon.
+use qh_model::Id;
+use std::fmt;
+
+/// What is wrong with one polygon, by the plane through its first three corners.
+#[derive(Clone, Copy, Debug, PartialEq, Eq)]
+pub enum FaceFault {
+    /// There is no such plane: the polygon has fewer than three corners, one of the first three is no id of
+    /// the set, or they lie in one line.
+    NoPlane,
+    /// This id of the set lies above the plane, on the side from which the three corners go
+    /// counterclockwise.
+    Above(Id),
+    /// The plane supports the set, and the polygon does not go round corners of its face.
+    OtherFace,
+}
+
+impl fmt::Display for FaceFault {
+    fn fmt<W: fmt::Write>(&self, f: &mut fmt::Formatter<W>) -> fmt::Result {
+        match self {
+            FaceFault::NoPlane => write!(f, "its first three corners are no points in a plane"),
+            FaceFault::Above(id) => {
+                let number = id.number();
+                write!(f, "point {number} is above its plane")
+            }
+            FaceFault::OtherFace => write!(f, "the polygon of its plane is another"),
+        }
+    }
+}

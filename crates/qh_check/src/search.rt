@@ -1,0 +1,72 @@
+//! The search for a polygon that is no piece of a face: the hull is made, and each polygon is looked for in it. The first
+//! one that is not found there is tested by its plane, so that a fault costs no more than a look at each point.
+ghost use Rattle.std.specs.Prelude.{IfOk, MatchOption};
+ghost use Rattle.std.specs.List.{All};
+ghost use Rattle.qh_model.specs.headline.Dimension.{IsDimension};
+ghost use Rattle.qh_model.specs.headline.Predicates.{place};
+ghost use Rattle.qh_model.specs.headline.Sets.{Members};
+ghost use Rattle.qh_model.specs.contract.IdSets.{IsIdSet};
+ghost use Rattle.qh_check.specs.steps.Faces.{IsFaceOf, IsFaultOf};
+ghost use Rattle.qh_check.specs.steps.Findings.{IsFound, IsSeen};
+
+use crate::claim::Claim;
+use crate::face_table::FaceTable;
+use crate::faces::fault_of;
+use crate::fault::FaceFault;
+use crate::findings::Finding;
+use crate::hull_faces::HullFaces;
+use qh_block::hull;
+use qh_model::{Memory, Polygon};
+use std::alloc::Global;
+
+/// Returns what is wrong with a polygon, if it is not found among the faces of the hull and anything is. `positions` is
+/// room for its corners.
+fn fault_beside(
+    alloc: Global,
+    claim: Claim,
+    faces: &[Polygon],
+    table: &FaceTable,
+    polygon: &Polygon,
+    positions: &mut Vec<usize>,
+) -> Result<Option<FaceFault>, Memory>
+    ensures { IfOk result (λ fault. MatchOption fault (IsSeen claim.entry.pts.now claim.entry.ids.now faces.now polygon.now)
+        (IsFaultOf claim.entry.pts.now claim.entry.ids.now polygon.now)) }
+{
+    let hull = HullFaces {
+        pts: claim.pts,
+        faces,
+    };
+    if table.has_piece(hull, polygon, positions)? {
+        return Ok(None);
+    }
+    fault_of(alloc, claim, polygon)
+}
+
+/// Returns a polygon of a claim that is no piece of a face of the hull, if there is one; the faces of the hull are given.
+fn fault_among(alloc: Global, claim: Claim, faces: &[Polygon]) -> Result<Option<Finding>, Memory>
+    ensures { IfOk result (λ found. MatchOption found
+        (All (IsSeen claim.entry.pts.now claim.entry.ids.now faces.now) claim.entry.polygons.now)
+        (IsFound claim.entry.pts.now claim.entry.ids.now claim.entry.polygons.now)) }
+{
+    let table = FaceTable::over(alloc, faces, claim.pts.len())?;
+    let mut positions = Vec::new(alloc);
+    for position in 0..claim.polygons.len() {
+        let polygon = &claim.polygons[position];
+        let fault = fault_beside(alloc, claim, faces, &table, polygon, &mut positions)?;
+        if let Some(fault) = fault {
+            return Ok(Some(Finding { position, fault }));
+        }
+    }
+    Ok(None)
+}
+
+/// Returns a polygon of a claim that is no piece of a face of its set, a solid, if there is one.
+pub(crate) fn find_fault(alloc: Global, claim: Claim) -> Result<Option<Finding>, Memory>
+    ensures { IfOk result (λ found. IsIdSet claim.entry.pts.now claim.entry.ids.now
+        → IsDimension (place claim.entry.pts.now) (Members claim.entry.ids.now) 3
+        → MatchOption found (All (IsFaceOf claim.entry.pts.now claim.entry.ids.now) claim.entry.polygons.now)
+        (IsFound claim.entry.pts.now claim.entry.ids.now claim.entry.polygons.now)) }
+{
+    let body = hull(alloc, claim.pts, claim.ids)?;
+    fault_among(alloc, claim, &body.polygons)
+}

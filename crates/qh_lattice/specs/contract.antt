@@ -1,0 +1,2 @@
+-- What public clauses cite.
+pub mod LatticeMaps

@@ -1,0 +1,2 @@
+-- The laws of mapped points: what follows from the definitions.
+pub mod MapLaws

@@ -1,0 +1,2 @@
+-- What private functions speak of: nothing to believe.
+pub mod Rows

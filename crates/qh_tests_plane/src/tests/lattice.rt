@@ -1,0 +1,92 @@
+//! Sets that are mapped, and sets that are not. A map multiplies all volumes by one number, and fills the range along each
+//! axis.
+ghost use Rattle.std.specs.Prelude.{IfOk};
+ghost use Rattle.qh_model.specs.contract.IdSets.{AreIndices};
+
+use qh_fixtures::ids::ids_of;
+use qh_lattice::reduced;
+use qh_model::{COORDINATE_LIMIT, Id, Memory, Point};
+use qh_pred::vol;
+use std::alloc::{AllocError, Global};
+use std::test::Fail;
+
+/// The number of points of a set.
+const COUNT: i32 = 5000;
+
+/// Returns points of a rod along (1, 2, 3) that is some units thick.
+fn rod(alloc: Global) -> Result<Vec<Point>, AllocError> {
+    let mut points = Vec::new(alloc);
+    for k in 0..COUNT {
+        points.push(Point::new(k, 2 * k + k % 3, 3 * k + k % 5))?;
+    }
+    Ok(points)
+}
+
+/// Returns the points of a grid that is as long as wide and high.
+fn grid(alloc: Global) -> Result<Vec<Point>, AllocError> {
+    let mut points = Vec::new(alloc);
+    for k in 0..COUNT {
+        points.push(Point::new(k % 17, k / 17 % 17, k / 289))?;
+    }
+    Ok(points)
+}
+
+/// Returns points in the plane of x and z.
+fn sheet(alloc: Global) -> Result<Vec<Point>, AllocError> {
+    let mut points = Vec::new(alloc);
+    for k in 0..COUNT {
+        points.push(Point::new(k, 0, k % 71))?;
+    }
+    Ok(points)
+}
+
+/// Returns the images of points under the map that is found for all of them.
+fn images_of(alloc: Global, points: &[Point]) -> Result<Option<Vec<Point>>, Memory> {
+    let numbers = (0..COUNT as u32).collect::<Vec<u32>>(alloc)?;
+    let ids = ids_of(alloc, points, &numbers)?;
+    if ids.is_empty() {
+        return Ok(None);
+    }
+    reduced(alloc, points, &ids)
+}
+
+/// Returns the volume of four points of a list, each so many behind the other.
+fn volume(points: &[Point], step: usize) -> Option<i128> {
+    let a = points.get(1)?;
+    let b = points.get(1 + step)?;
+    let c = points.get(2 + 2 * step)?;
+    let d = points.get(4 + 3 * step)?;
+    Some(vol(*a, *b, *c, *d))
+}
+
+#[test]
+fn a_rod_is_mapped(rt: HostRuntime) -> Result<(), Fail> {
+    let points = rod(rt.alloc())?;
+    let images = images_of(rt.alloc(), &points)?.ok_or("no map")?;
+    assert_eq!(rt; images.len(), points.len());
+    let far = (COORDINATE_LIMIT - COORDINATE_LIMIT / 8) as i32;
+    assert!(rt; images.iter().any(|p| p.x() > far) && images.iter().any(|p| p.x() < -far));
+    assert!(rt; images.iter().any(|p| p.y() > far) && images.iter().any(|p| p.y() < -far));
+    assert!(rt; images.iter().any(|p| p.z() > far) && images.iter().any(|p| p.z() < -far));
+    let before = [volume(&points, 7), volume(&points, 1001)];
+    let after = [volume(&images, 7), volume(&images, 1001)];
+    let ratios = before
+        .iter()
+        .zip(after)
+        .map(|(one, two)| two?.checked_div((*one)?));
+    let mut first = None;
+    for ratio in ratios {
+        assert!(rt; ratio > Some(0) && (first.is_none() || first == ratio));
+        first = ratio;
+    }
+    Ok(())
+}
+
+#[test]
+fn a_grid_and_a_sheet_stay(rt: HostRuntime) -> Result<(), Fail> {
+    let points = grid(rt.alloc())?;
+    assert!(rt; images_of(rt.alloc(), &points)?.is_none());
+    let points = sheet(rt.alloc())?;
+    assert!(rt; images_of(rt.alloc(), &points)?.is_none());
+    Ok(())
+}
