@@ -1,6 +1,6 @@
 -- Each spot of a face that lies on no line through two of its corners is covered by one piece.
 use Rattle.std.proofs.Common.{◌≡◌, ℕ, ◌+◌, arith, refl, sym, ap, subst, ◌∙◌, inl, inr, List, [], ◌∷◌, Bool, true, false, cond}
-use Rattle.std.proofs.lemmas.{Bool.cases_Bool, Bool.and_parts, Bool.Decides.Decides-int_eq, Int.ints}
+use Rattle.std.proofs.lemmas.{Bool.false_from_ne_true, Bool.cases_Bool, Bool.and_parts, Bool.Decides.Decides-int_eq, Int.ints}
 use Rattle.std.specs.{List.flat_map, Ordering.int_eq, Prelude.filter, Prelude.count_by, Prelude.pos}
 use Rattle.qh_model.specs.{contract.ClosedPolygons.steps_round, laws.FaceLaws.IsAlong}
 use Rattle.qh_model.specs.headline.{Predicates.cross, Predicates.vol, Sets.In, Sets.Members, Vector.Vector}
@@ -116,7 +116,7 @@ module _ {at : ℕ → Vector} {ids : List ℕ} {qs : List (List ℕ)} {i j k : 
 
   -- no piece outside of the plane covers it
   pub covers_other : (q : List ℕ) → In q qs → lies_in at i j k q ≡ false → covers at s q ≡ false
-  covers_other q m e = elim (cases_Bool (covers at s q)) [ inl t ↦ absurd (by (piece c q m) t) | inr g ↦ g ]
+  covers_other q m e = false_from_ne_true (covers at s q) (by (piece c q m))
     where
       inner : InTriangle N at s F
       inner = in_triangle N at s (λ l. In l F) off_turns i j k r (λ l o. o) face_turns two.1
@@ -135,8 +135,9 @@ module _ {at : ℕ → Vector} {ids : List ℕ} {qs : List (List ℕ)} {i j k : 
               (p.plane.supports inner.w (member inner.w inner.has_w)) (covers_height p s t)
 
           one : F ≡ p.face
-          one = sym (same_face at ids c.solid p.plane (corner_triple at ids c.plane c.polygon inner.a inner.v inner.w inner.has_a inner.has_v inner.has_w inner.turns)
-              zeros.0 zeros.1.0 zeros.1.1 p.polygon (corner_face at ids c.plane c.polygon inner.a inner.v inner.w inner.has_a inner.has_v inner.has_w inner.turns))
+          one = sym (same_face at ids c.solid p.plane
+              (corner_triple at ids c.plane c.polygon inner.a inner.v inner.w inner.has_a inner.has_v inner.has_w inner.turns) zeros.0 zeros.1.0 zeros.1.1
+              p.polygon (corner_face at ids c.plane c.polygon inner.a inner.v inner.w inner.has_a inner.has_v inner.has_w inner.turns))
 
   -- one piece alone covers it
   pub one_covers : IsFaceSurface at (Members ids) qs → count_by (covers at s) qs ≡ 1

@@ -1,13 +1,14 @@
 -- Spots of a face: inside it, off all lines through two of its corners, and inside what is cut out of it.
-use Rattle.std.proofs.Common.{◌≡◌, ◌≢◌, ℕ, arith, refl, sym, ap, subst, ◌∙◌, inl, inr, List, [], ◌∷◌, Bool, true, false, not, map}
-use Rattle.std.proofs.lemmas.{Bool.Decides.Decides-int_eq, Int.ints, Int.by_lt_z}
-use Rattle.std.specs.{List.list_all, Ordering.int_eq, Prelude.ℤ, Prelude.pos, Prelude.◌+ℤ◌, Prelude.◌*ℤ◌, Prelude.◌≤ℤ◌, Prelude.◌<ℤ◌, Prelude.int_lt}
+use Rattle.std.proofs.Common.{◌⊎◌, ◌≡◌, ◌≢◌, ℕ, arith, refl, sym, ap, subst, ◌∙◌, inl, inr, List, [], ◌∷◌, Bool, true, not, map}
+use Rattle.std.proofs.lemmas.{Bool.cases_Bool, Bool.not-true, Bool.Decides.Decides-int_eq, Int.ints, Int.by_lt_z}
+use Rattle.std.specs.{List.list_all, Prelude.ℤ, Prelude.pos, Prelude.◌+ℤ◌, Prelude.◌*ℤ◌, Prelude.◌≤ℤ◌, Prelude.◌<ℤ◌, Prelude.int_lt}
 use Rattle.qh_model.specs.contract.ClosedPolygons.{steps_round}
 use Rattle.qh_model.specs.headline.{Polygon.Follows, Predicates.cross, Predicates.left, Sets.In, Vector.Vector, Vector.dot}
-use Rattle.qh_model.proofs.{lists.Images.of_map, lists.Images.in_map, polygons.Neighbours.follows_members, polygons.Steps.on_round}
+use Rattle.qh_model.proofs.{Members.each_of_three, polygons.Neighbours.follows_members, polygons.Steps.on_round}
 use Rattle.qh_model.proofs.algebra.{Order.cancel-pos, Order.mul-nonneg, Order.mul-pos, Order.positive_le, VectorIdentities.dot-origin}
+use Rattle.qh_model.proofs.lists.{Images.of_map, Images.in_map, Joined.in_append}
 use Rattle.qh_convex_laws.proofs.{Perturbed.Rises, Signs.above, Signs.is_above, Signs.above_is}
-use Rattle.qh_surface_laws.proofs.ConvexLists.{AllTurn, other_of, polygon_turns, side_left, not_right}
+use Rattle.qh_surface_laws.proofs.ConvexLists.{one_apart, AllTurn, polygon_turns, side_left, not_right}
 use Rattle.qh_surface_laws.proofs.PlanePieces.{OverFace, on, all_pass, pass_all}
 use Rattle.qh_cover_laws.specs.contract.Covering.{Spot, spot_height, spot_turn, covers, IsOffLines}
 use Rattle.qh_cover_laws.proofs.{SpotFans.all_left, SpotFans.InTriangle, SpotFans.in_triangle, SpotTurns.spot_turn-back, SpotTurns.turns_mixed}
@@ -20,18 +21,20 @@ abbrev pub none_right : (n : Vector) (at : ℕ → Vector) → Spot → List (�
 none_right n at s es = list_all (λ e. not (int_lt (spot_turn n at e.0 e.1 s) (pos 0))) es
 
 pub not_right_is : (x : ℤ) → pos 0 ≤ℤ x → not (int_lt x (pos 0)) ≡ true
-not_right_is x h = by (int_lt x (pos 0)) refl
-  where
-    by : (b : Bool) → int_lt x (pos 0) ≡ b → not b ≡ true
-    by true e = absurd (omega (arith, ints))
-    by false e = refl
+not_right_is x h = elim (cases_Bool (int_lt x (pos 0))) [ inl t ↦ absurd (omega (arith, ints)) | inr f ↦ rw f refl ]
 
 pub is_not_right : (x : ℤ) → not (int_lt x (pos 0)) ≡ true → pos 0 ≤ℤ x
-is_not_right x h = by (int_lt x (pos 0)) refl h
-  where
-    by : (b : Bool) → int_lt x (pos 0) ≡ b → not b ≡ true → pos 0 ≤ℤ x
-    by true e f = cc
-    by false e f = omega (arith, ints)
+is_not_right x h = let e = not-true (int_lt x (pos 0)) h in omega (arith, ints)
+
+-- a sum of products of which none is below 0 and one is above
+one_above : (x y z a b c : ℤ) → pos 0 <ℤ x → pos 0 <ℤ y → pos 0 <ℤ z → pos 0 ≤ℤ a → pos 0 ≤ℤ b → pos 0 ≤ℤ c
+    → (pos 0 <ℤ a) ⊎ ((pos 0 <ℤ b) ⊎ (pos 0 <ℤ c)) → pos 0 <ℤ (x *ℤ a +ℤ (y *ℤ b +ℤ z *ℤ c))
+one_above x y z a b c hx hy hz ha hb hc (inl h) =
+    omega (arith, ints, mul-pos x a hx h, mul-nonneg y b (positive_le _ hy) hb, mul-nonneg z c (positive_le _ hz) hc)
+one_above x y z a b c hx hy hz ha hb hc (inr (inl h)) =
+    omega (arith, ints, mul-nonneg x a (positive_le _ hx) ha, mul-pos y b hy h, mul-nonneg z c (positive_le _ hz) hc)
+one_above x y z a b c hx hy hz ha hb hc (inr (inr h)) =
+    omega (arith, ints, mul-nonneg x a (positive_le _ hx) ha, mul-nonneg y b (positive_le _ hy) hb, mul-pos z c hz h)
 
 -- where a polygon has a spot to the left of each step, and where no step has it to the right
 abbrev pub IsLeft : (n : Vector) (at : ℕ → Vector) → Spot → List ℕ → Type 0
@@ -77,44 +80,15 @@ module _ {at : ℕ → Vector} {ids : List ℕ} {qs : List (List ℕ)} {i j k : 
   -- ---- a spot inside a list of corners lies inside the face
   -- where a side does not have the corners to its right, it has the spot to its left
   weighed : (z : Spot) (q : List ℕ) (t : InTriangle n at z q) → ((x : ℕ) → In x q → In x F) → IsLeft n at z F
-  weighed z q t h x y g = by (other_of n at t.a t.v t.w t.turns x y)
+  weighed z q t h x y g = cancel-pos _ _ t.turns (subst (λ d. pos 0 <ℤ d) (sym (turns_mixed n at z t.a t.v t.w x y))
+      (one_above _ _ _ _ _ _ t.vw t.wa t.av (least t.a t.has_a) (least t.v t.has_v) (least t.w t.has_w)
+      (one_apart n at (λ l. pos 0 <ℤ left n (at x) (at y) (at l)) t.a t.v t.w t.turns x y (λ l m. c.polygon.round x y g l (inside l m)))))
     where
-      whole : left n (at t.a) (at t.v) (at t.w) *ℤ spot_turn n at x y z ≡ spot_turn n at t.v t.w z *ℤ left n (at x) (at y) (at t.a)
-          +ℤ (spot_turn n at t.w t.a z *ℤ left n (at x) (at y) (at t.v) +ℤ spot_turn n at t.a t.v z *ℤ left n (at x) (at y) (at t.w))
-      whole = turns_mixed n at z t.a t.v t.w x y
+      least : (l : ℕ) → In l q → pos 0 ≤ℤ left n (at x) (at y) (at l)
+      least l m = not_right n at F turns x y g l (h l m)
 
-      least : (l : ℕ) → In l q → (b : ℤ) → pos 0 <ℤ b → pos 0 ≤ℤ (b *ℤ left n (at x) (at y) (at l))
-      least l m b p = mul-nonneg b _ (positive_le _ p) (not_right n at F turns x y g l (h l m))
-
-      strict : (l : ℕ) → In l q → (b : ℤ) → pos 0 <ℤ b → l ≢ x → l ≢ y → pos 0 <ℤ (b *ℤ left n (at x) (at y) (at l))
-      strict l m b p lx ly = mul-pos b _ p (c.polygon.round x y g l (h l m) lx ly)
-
-      by : (b : ℕ) × In b (t.a ∷ t.v ∷ t.w ∷ []) × (b ≢ x) × (b ≢ y) → pos 0 <ℤ spot_turn n at x y z
-      by (b, inl e, bx, by') = cancel-pos _ _ t.turns (omega (
-        arith,
-        ints,
-        whole,
-        strict t.a t.has_a _ t.vw (λ d. bx (e ∙ d)) (λ d. by' (e ∙ d)),
-        least t.v t.has_v _ t.wa,
-        least t.w t.has_w _ t.av,
-      ))
-      by (b, inr (inl e), bx, by') = cancel-pos _ _ t.turns (omega (
-        arith,
-        ints,
-        whole,
-        strict t.v t.has_v _ t.wa (λ d. bx (e ∙ d)) (λ d. by' (e ∙ d)),
-        least t.a t.has_a _ t.vw,
-        least t.w t.has_w _ t.av,
-      ))
-      by (b, inr (inr (inl e)), bx, by') = cancel-pos _ _ t.turns (omega (
-        arith,
-        ints,
-        whole,
-        strict t.w t.has_w _ t.av (λ d. bx (e ∙ d)) (λ d. by' (e ∙ d)),
-        least t.a t.has_a _ t.vw,
-        least t.v t.has_v _ t.wa,
-      ))
-      by (b, inr (inr (inr x)), bx, by') = absurd x
+      inside : (l : ℕ) → In l (t.a ∷ t.v ∷ t.w ∷ []) → In l F
+      inside = each_of_three (λ l. In l F) t.a t.v t.w (h t.a t.has_a) (h t.v t.has_v) (h t.w t.has_w)
 
   -- ---- three corners and more, cut out of the face
   module _ (a v w : ℕ) (rest : List ℕ) (t : AllTurn n at (a ∷ v ∷ w ∷ rest)) (in_F : (l : ℕ) → In l (a ∷ v ∷ w ∷ rest) → In l F) where
@@ -138,41 +112,14 @@ module _ {at : ℕ → Vector} {ids : List ℕ} {qs : List (List ℕ)} {i j k : 
 
       middle_left : IsLeft n at middle q
       unfolding middle
-      middle_left x y g = by (other_of n at a v w (t.0.0 w (inl refl)) x y)
+      middle_left x y g = subst (λ d. pos 0 <ℤ d) (sym (between_turn at a v w 1 1 1 (omega arith) n x y))
+          (one_above (pos 1) (pos 1) (pos 1) _ _ _ (omega (arith, ints)) (omega (arith, ints)) (omega (arith, ints))
+          (least a (inl refl)) (least v (inr (inl refl))) (least w (inr (inr (inl refl))))
+          (one_apart n at (λ l. pos 0 <ℤ left n (at x) (at y) (at l)) a v w (t.0.0 w (inl refl)) x y
+          (λ l m. side_left n at q t x y g l (in_append (a ∷ v ∷ w ∷ []) rest l (inl m)))))
         where
-          sum : spot_turn n at x y (between at a v w 1 1 1 (omega arith))
-              ≡ left n (at x) (at y) (at a) +ℤ (left n (at x) (at y) (at v) +ℤ left n (at x) (at y) (at w))
-          sum = between_turn at a v w 1 1 1 (omega arith) n x y ∙ omega (arith, ints)
-
           least : (l : ℕ) → In l q → pos 0 ≤ℤ left n (at x) (at y) (at l)
           least l m = not_right n at q t x y g l m
-
-          by : (b : ℕ) × In b (a ∷ v ∷ w ∷ []) × (b ≢ x) × (b ≢ y) → pos 0 <ℤ spot_turn n at x y (between at a v w 1 1 1 (omega arith))
-          by (b, inl e, bx, by') = omega (
-            arith,
-            ints,
-            sum,
-            side_left n at q t x y g a (inl refl) (λ d. bx (e ∙ d)) (λ d. by' (e ∙ d)),
-            least v (inr (inl refl)),
-            least w (inr (inr (inl refl))),
-          )
-          by (b, inr (inl e), bx, by') = omega (
-            arith,
-            ints,
-            sum,
-            side_left n at q t x y g v (inr (inl refl)) (λ d. bx (e ∙ d)) (λ d. by' (e ∙ d)),
-            least a (inl refl),
-            least w (inr (inr (inl refl))),
-          )
-          by (b, inr (inr (inl e)), bx, by') = omega (
-            arith,
-            ints,
-            sum,
-            side_left n at q t x y g w (inr (inr (inl refl))) (λ d. bx (e ∙ d)) (λ d. by' (e ∙ d)),
-            least a (inl refl),
-            least v (inr (inl refl)),
-          )
-          by (b, inr (inr (inr x)), bx, by') = absurd x
 
       pub sides : List Vector
       sides = map (λ (e : ℕ × ℕ). turn_form at i j k e.0 e.1) (steps_round q)

@@ -3,13 +3,13 @@ use Rattle.std.proofs.Common.{◌≡◌, ◌≢◌, ℕ, zero, suc, ◌<◌, ari
 use Rattle.std.proofs.lemmas.Int.{ints}
 use Rattle.std.specs.{List.flat_map, Prelude.filter, Prelude.ℤ, Prelude.pos, Prelude.negsuc, Prelude.◌+ℤ◌, Prelude.◌≤ℤ◌, Prelude.◌<ℤ◌}
 use Rattle.qh_model.specs.headline.{Predicates.cross, Predicates.left, Sets.In, Vector.Vector, Vector.origin, Vector.minus, Vector.dot, Vector.cross_product}
+use Rattle.qh_model.proofs.{extremes.Directions.square-positive, lists.Filters.in_filter, lists.Filters.of_filter, lists.Images.in_map, lists.Images.of_map}
+use Rattle.qh_model.proofs.{lists.Joined.in_append, lists.Joined.of_append, lists.Joined.in_flat_map, lists.Ordered.Ordered}
 use Rattle.qh_model.proofs.Decisions.{Decided, test, told, holds, contrary, same_id, less_or_not, both, in_or_not}
 use Rattle.qh_model.proofs.algebra.{Order.mul-pos, Order.mul-nonneg, Order.positive_le, Ring.ring, Ring.Expr.add}
 use Rattle.qh_model.proofs.algebra.VectorIdentities.{vec, put, dotE, crossE, subE, leftE, dot-minus, left-flip}
-use Rattle.qh_model.proofs.lists.{Filters.in_filter, Filters.of_filter, Images.in_map, Images.of_map, Ordered.Ordered}
-use Rattle.qh_model.proofs.lists.Joined.{in_append, of_append, in_flat_map}
 use Rattle.qh_convex_laws.proofs.Perturbed.{Rises, AllUp, AllOff, risen, perturbed}
-use Rattle.qh_surface_laws.proofs.ConvexLists.{AllTurn, Turn, turned, other_of}
+use Rattle.qh_surface_laws.proofs.ConvexLists.{AllTurn, Turn, turned, one_apart}
 use Rattle.qh_cover_laws.specs.contract.Covering.{Spot, spot_height, spot_turn}
 use Rattle.qh_cover_laws.proofs.SpotTurns.{scale-positive}
 use Rattle.qh_cover_laws.proofs.PlaneSpots.{triple, turn_form, height_form, spot_at, numbers, turn_at, height_at, level_at, turn_of}
@@ -83,26 +83,17 @@ module _ (at : ℕ → Vector) (i j k : ℕ) (r : List ℕ) (t : AllTurn (cross 
   -- the turn about two corners is not 0 everywhere
   pub form_some : (u v : ℕ) → In u F → In v F → u ≢ v → turn_form at i j k u v ≢ origin
   unfolding turn_form
-  form_some u v mu mv ne e = by (other_of n at i j k first u v)
+  form_some u v mu mv ne e = ⊎_elim (λ h. h (flat i (dot-minus m (at i) (at i) ∙ omega (arith, ints))))
+      (λ o. ⊎_elim (λ h. h (flat j (ap (λ (x : Vector). x.y) e))) (λ h. h (flat k (ap (λ (x : Vector). x.z) e))) o)
+      (one_apart n at (λ w. ¬ (left n (at u) (at v) (at w) ≡ pos 0)) i j k first u v (λ w o wu wv z.
+      ⊎_elim (λ h. omega (arith, ints, h, z)) (λ h. omega (arith, ints, h, z, left-flip n (at u) (at v) (at w)))
+      (three_turn n at F t u v w mu mv (in_append (i ∷ j ∷ k ∷ []) r w (inl o)) ne (λ f. wv (sym f)) (λ f. wu (sym f)))))
     where
       m : Vector
       m = cross_product n (minus (at v) (at u))
 
-      zero_first : dot m (minus (at i) (at u)) ≡ pos 0
-      zero_first = ap (λ (x : Vector). x.x) e
-
       flat : (l : ℕ) → dot m (minus (at l) (at i)) ≡ pos 0 → left n (at u) (at v) (at l) ≡ pos 0
-      flat l h = left_from n (at i) (at u) (at v) (at l) ∙ omega (arith, ints, zero_first, h)
-
-      zero_at : (w : ℕ) → In w (i ∷ j ∷ k ∷ []) → left n (at u) (at v) (at w) ≡ pos 0
-      zero_at w (inl q) = subst (λ l. left n (at u) (at v) (at l) ≡ pos 0) (sym q) (flat i (dot-minus m (at i) (at i) ∙ omega (arith, ints)))
-      zero_at w (inr (inl q)) = subst (λ l. left n (at u) (at v) (at l) ≡ pos 0) (sym q) (flat j (ap (λ (x : Vector). x.y) e))
-      zero_at w (inr (inr (inl q))) = subst (λ l. left n (at u) (at v) (at l) ≡ pos 0) (sym q) (flat k (ap (λ (x : Vector). x.z) e))
-      zero_at w (inr (inr (inr x))) = absurd x
-
-      by : (w : ℕ) × In w (i ∷ j ∷ k ∷ []) × (w ≢ u) × (w ≢ v) → ⊥
-      by (w, o, wu, wv) = ⊎_elim (λ h. omega (arith, ints, h, zero_at w o)) (λ h. omega (arith, ints, h, zero_at w o, left-flip n (at u) (at v) (at w)))
-          (three_turn n at F t u v w mu mv (in_append (i ∷ j ∷ k ∷ []) r w (inl o)) ne (λ f. wv (sym f)) (λ f. wu (sym f)))
+      flat l h = left_from n (at i) (at u) (at v) (at l) ∙ omega (arith, ints, ap (λ (x : Vector). x.x) e, h)
 
   abbrev form : (ℕ × ℕ) → Vector
   form e = turn_form at i j k e.0 e.1
@@ -156,7 +147,8 @@ module _ (at : ℕ → Vector) (i j k : ℕ) (r : List ℕ) (t : AllTurn (cross 
         where
           old : (e : ℕ × ℕ) × In e (pairs F) × IsLeft e × (p ≡ form e) → Rises p (numbers at i j k s) v₀
           old (e, m, h, q) = subst (λ x. Rises x (numbers at i j k s) v₀) (sym q) (inl (
-              let up = mul-pos (left n (at i) (at j) (at k)) (spot_turn n at e.0 e.1 s) first h in omega (arith, ints, up, turn_of at i j k s in_plane e.0 e.1)))
+              let up = mul-pos (left n (at i) (at j) (at k)) (spot_turn n at e.0 e.1 s) first h in
+              omega (arith, ints, up, turn_of at i j k s in_plane e.0 e.1)))
 
       found : (y : Vector) × AllUp all_forms y × AllOff lines y
       unfolding lines
@@ -196,3 +188,11 @@ module _ (at : ℕ → Vector) (i j k : ℕ) (r : List ℕ) (t : AllTurn (cross 
 
                   height : (u v w : ℕ) → dot (height_form at i j k u v w) y ≡ spot_height at u v w (spot_at at i j k c h y.y y.z)
                   height u v w = value (height_form at i j k u v w) ∙ sym (height_at at i j k c h y.y y.z u v w)
+
+    -- with one more form
+    pub near_one : (f : Vector) → f ≢ origin → pos 0 ≤ℤ dot f (numbers at i j k s) → Near (f ∷ [])
+    near_one f some h = near (f ∷ []) f rise
+      where
+        rise : (p : Vector) → In p (f ∷ []) → Rises p (numbers at i j k s) f
+        rise p (inl e) = subst (λ q. Rises q (numbers at i j k s) f) (sym e) (inr (h, square-positive f some))
+        rise p (inr m) = absurd m

@@ -5,19 +5,13 @@ use Rattle.std.specs.Prelude.{ℤ, pos, ◌+ℤ◌, ◌*ℤ◌, ◌-ℤ◌}
 use Rattle.qh_model.specs.headline.{Predicates.cross, Predicates.left, Predicates.vol, Vector.Vector, Vector.minus, Vector.dot, Vector.cross_product}
 use Rattle.qh_model.proofs.algebra.{Integers.zero_mul, Integers.mul_add, Order.product_zero}
 use Rattle.qh_model.proofs.algebra.Ring.{ring, Expr.var, Expr.add, Expr.mul, Expr.sub as less}
-use Rattle.qh_model.proofs.algebra.VectorIdentities.{vec, put, dotE, crossE, subE, vol-dot, vol-first, vol-second, vol-third, left-linear, dot-minus}
+use Rattle.qh_model.proofs.algebra.VectorIdentities.{vec, put, dotE, subE, vol-dot, vol-first, vol-second, vol-third}
 use Rattle.qh_cover_laws.specs.contract.Covering.{Spot, way_to, spot_height, spot_turn}
-use Rattle.qh_cover_laws.proofs.SpotHeights.{cramer, way_height}
+use Rattle.qh_cover_laws.proofs.SpotTurns.{turn_way, left_way, cramer, way_height}
 
 -- x, y and z
 abbrev pub triple : ℤ → ℤ → ℤ → Vector
 triple x y z = record { x = x; y = y; z = z }
-
--- a turn as a scalar product with the way to the spot
-pub turn_way : (n : Vector) (at : ℕ → Vector) (u v : ℕ) (s : Spot) → spot_turn n at u v s ≡ dot (cross_product n (minus (at v) (at u))) (way_to (at u) s)
-unfolding spot_turn
-turn_way n at u v s =
-    ring (put n (put (minus (at v) (at u)) (put (way_to (at u) s) []))) (dotE (crossE (vec 1) (vec 2)) (vec 0)) (dotE (crossE (vec 0) (vec 1)) (vec 2)) refl
 
 module _ (at : ℕ → Vector) (i j k : ℕ) where
   abbrev n : Vector
@@ -118,9 +112,6 @@ module _ (at : ℕ → Vector) (i j k : ℕ) where
   pub height_of : (s : Spot) → spot_height at i j k s ≡ pos 0 → (u v w : ℕ) → dot (height_form u v w) (numbers s) ≡ D *ℤ spot_height at u v w s
   unfolding height_form spot_height
   height_of s level u v w = form_of s level (cross (at u) (at v) (at w)) (at u)
-
-left_way : (n x y u : Vector) → dot (cross_product n (minus y x)) (minus u x) ≡ left n x y u
-left_way n x y u = dot-minus (cross_product n (minus y x)) u x ∙ sym (left-linear n x y u)
 
 module _ (at : ℕ → Vector) (u v w : ℕ) (a b c : ℕ) (some : 0 < a) where
   unfoldable pub between : Spot

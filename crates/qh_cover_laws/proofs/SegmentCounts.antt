@@ -1,7 +1,7 @@
 -- Both sides of a segment between two corners of a face lie in equally many pieces, so pieces take its steps equally often both ways.
-use Rattle.std.proofs.Common.{◌≡◌, ◌≢◌, ℕ, ◌+◌, ◌≤◌, arith, refl, sym, subst, ◌∙◌, inl, inr, ◌⊎◌, List, [], ◌∷◌, Bool, true, false}
-use Rattle.std.proofs.lemmas.{Bool.cases_Bool, Int.ints}
-use Rattle.std.specs.{List.flat_map, Prelude.count_by, Prelude.ℤ, Prelude.pos, Prelude.◌≤ℤ◌, Prelude.◌<ℤ◌}
+use Rattle.std.proofs.Common.{⊎_elim, ◌≡◌, ◌≢◌, ℕ, ◌+◌, ◌≤◌, arith, refl, sym, subst, ◌∙◌, inl, inr, ◌⊎◌, List, [], ◌∷◌, Bool, true, false}
+use Rattle.std.proofs.lemmas.{Bool.false_from_ne_true, Int.ints}
+use Rattle.std.specs.{List.flat_map, Prelude.count_by, Prelude.pos, Prelude.◌≤ℤ◌, Prelude.◌<ℤ◌}
 use Rattle.qh_model.specs.contract.ClosedPolygons.{steps_round}
 use Rattle.qh_model.specs.headline.{Polygon.Follows, Predicates.cross, Predicates.left, Sets.In, Sets.Once, Sets.Members, Vector.Vector}
 use Rattle.qh_model.proofs.{Decisions.Decided, Decisions.same_id, lists.Ordered.Ordered, polygons.Neighbours.follows_members, polygons.Steps.on_round}
@@ -107,10 +107,7 @@ module _ {at : ℕ → Vector} {ids : List ℕ} {qs : List (List ℕ)} {i j k : 
 
   -- what takes a step lacks each spot to its right
   lacks : (z : Spot) (x y : ℕ) → pos 0 <ℤ spot_turn n at x y z → (q : List ℕ) → Follows y x q → left_all z q ≡ false
-  lacks z x y p q g = elim (cases_Bool (left_all z q)) [
-    | inl e ↦ absurd (omega (arith, ints, p, spot_turn-back n at x y z, left_of n at z q e y x g))
-    | inr e ↦ e
-  ]
+  lacks z x y p q g = false_from_ne_true (left_all z q) (λ e. omega (arith, ints, p, spot_turn-back n at x y z, left_of n at z q e y x g))
 
   -- ---- a segment between two corners
   module _ (u v : ℕ) (mu : In u F) (mv : In v F) (ne : u ≢ v) where
@@ -131,10 +128,6 @@ module _ {at : ℕ → Vector} {ids : List ℕ} {qs : List (List ℕ)} {i j k : 
         → (pos 0 <ℤ spot_turn n at x y zl) × (pos 0 <ℤ spot_turn n at x y zr)
     both_sides = both_left at i j k r (turns c) (on c) u v mu mv ne
 
-    swap : {P Q : Type 0} → P ⊎ Q → Q ⊎ P
-    swap (inl a) = inr a
-    swap (inr b) = inl b
-
     -- what takes the step has the left spot, and what takes the step back the right one
     left_has : (q : List ℕ) → AllTurn n at q → ((x : ℕ) → In x q → In x F) → ((x y : ℕ) → (w : ℕ) × In w q × (w ≢ x) × (w ≢ y)) → Follows u v q
         → left_all zl q ≡ true
@@ -142,7 +135,7 @@ module _ {at : ℕ → Vector} {ids : List ℕ} {qs : List (List ℕ)} {i j k : 
 
     right_has : (q : List ℕ) → In q own → Follows v u q → left_all zr q ≡ true
     right_has q m g = has_left n at v u zr r_before q (part_turns c q m) (third (own_piece q m)) g
-        (λ x y mx my a b e. (both_sides x y (part_member c q m x mx) (part_member c q m y my) b a (swap e)).1)
+        (λ x y mx my a b e. (both_sides x y (part_member c q m x mx) (part_member c q m y my) b a (⊎_elim (λ d. inr d) (λ d. inl d) e)).1)
 
     own_left : (q : List ℕ) → In q own → Follows u v q → left_all zl q ≡ true
     own_left q m = left_has q (part_turns c q m) (part_member c q m) (third (own_piece q m))
@@ -215,7 +208,7 @@ module _ {at : ℕ → Vector} {ids : List ℕ} {qs : List (List ℕ)} {i j k : 
         uv = kept_alike (lies_in at i j k) u v qs (diagonal_kept c u v diagonal mu mv)
 
         vu : times v u (flat_map steps_round own) ≡ times v u (flat_map steps_round qs)
-        vu = kept_alike (lies_in at i j k) v u qs (diagonal_kept c v u (λ b. diagonal (swap b)) mv mu)
+        vu = kept_alike (lies_in at i j k) v u qs (diagonal_kept c v u (λ b. diagonal (⊎_elim (λ d. inr d) (λ d. inl d) b)) mv mu)
 
     -- ---- a side: the left spot lies inside the face, and no piece has the right one
     pub side_once : Follows u v F → times u v (flat_map steps_round qs) ≡ 1

@@ -3,15 +3,15 @@ use Rattle.std.proofs.Common.{◌≡◌, ◌≢◌, ℕ, ◌<◌, arith, refl, s
 use Rattle.std.proofs.lemmas.Int.{ints, by_lt_z}
 use Rattle.std.specs.Prelude.{ℤ, pos, ◌+ℤ◌, ◌*ℤ◌, ◌≤ℤ◌, ◌<ℤ◌}
 use Rattle.qh_model.specs.headline.{Predicates.cross, Predicates.left, Predicates.vol, Sets.In, Vector.Vector, Vector.origin, Vector.dot}
-use Rattle.qh_model.proofs.{algebra.Integers.mul_comm, algebra.Integers.zero_mul, algebra.Order.mul-pos, algebra.Order.mul-nonneg, algebra.Order.product_zero}
-use Rattle.qh_model.proofs.{algebra.Order.positive_le, algebra.Order.le_less, algebra.VectorIdentities.left-flip, extremes.Directions.square-positive}
 use Rattle.qh_model.proofs.Decisions.{Decided, same_id, same_number, both, contrary}
-use Rattle.qh_convex_laws.proofs.Perturbed.{Rises, AllUp, AllOff, perturbed}
+use Rattle.qh_model.proofs.algebra.{Integers.mul_comm, Integers.zero_mul, VectorIdentities.left-flip}
+use Rattle.qh_model.proofs.algebra.Order.{mul-pos, mul-nonneg, product_zero, positive_le, le_less}
+use Rattle.qh_convex_laws.proofs.Perturbed.{AllUp, AllOff, perturbed}
 use Rattle.qh_surface_laws.proofs.ConvexLists.{AllTurn, none_twice, none_back}
 use Rattle.qh_cover_laws.specs.contract.Covering.{Spot, spot_height, spot_turn}
+use Rattle.qh_cover_laws.proofs.PlaneSpots.{triple, turn_form, between, between_turn, between_level}
 use Rattle.qh_cover_laws.proofs.SpotTurns.{spot_turn-back}
-use Rattle.qh_cover_laws.proofs.NearSpots.{Near, near, natural, chosen, in_chosen, of_chosen, pairs, in_pairs, three_turn, form_some, form_level}
-use Rattle.qh_cover_laws.proofs.PlaneSpots.{triple, turn_form, numbers, between, between_turn, between_level}
+use Rattle.qh_cover_laws.proofs.NearSpots.{near_one, Near, natural, chosen, in_chosen, of_chosen, pairs, in_pairs, three_turn, form_some, form_level}
 
 module _ (at : ℕ → Vector) (i j k : ℕ) (r : List ℕ) (turns : AllTurn (cross (at i) (at j) (at k)) at (i ∷ j ∷ k ∷ r))
     (level : (l : ℕ) → In l (i ∷ j ∷ k ∷ r) → vol (at i) (at j) (at k) (at l) ≡ pos 0)
@@ -94,33 +94,26 @@ module _ (at : ℕ → Vector) (i j k : ℕ) (r : List ℕ) (turns : AllTurn (cr
   unfolding mid
   mid_turn x y = between_turn at u v u weighed.a weighed.b 0 weighed.some_a n x y ∙ omega (arith, ints, zero_mul (L x y u))
 
-  -- ---- a spot beside it, to the left of the way from x to y, which are u and v or v and u
-  module _ (x y : ℕ) (mx : In x F) (my : In y F) (xy : x ≢ y) (zero_mid : spot_turn n at x y mid ≡ pos 0) where
-    rise : (p : Vector) → In p (turn_form at i j k x y ∷ []) → Rises p (numbers at i j k mid) (turn_form at i j k x y)
-    rise p (inl e) = subst (λ q. Rises q (numbers at i j k mid) (turn_form at i j k x y)) (sym e) (inr (
-      form_level at i j k r turns mid mid_level x y (omega (arith, ints, zero_mid)),
-      square-positive (turn_form at i j k x y) (form_some at i j k r turns x y mx my xy),
-    ))
-    rise p (inr m) = absurd m
-
-    side : Near at i j k r turns mid mid_level (turn_form at i j k x y ∷ [])
-    side = near at i j k r turns mid mid_level (turn_form at i j k x y ∷ []) (turn_form at i j k x y) rise
-
+  -- ---- spots beside it, to the left of the way from u to v and to the right
   pub to_left : Near at i j k r turns mid mid_level (turn_form at i j k u v ∷ [])
-  to_left = side u v mu mv ne (mid_turn u v ∙ omega (
-    arith,
-    ints,
-    product_zero (pos weighed.a) (L u v u) (none_back n at u v),
-    product_zero (pos weighed.b) (L u v v) (none_twice n at u v),
-  ))
+  to_left = near_one at i j k r turns mid mid_level (turn_form at i j k u v) (form_some at i j k r turns u v mu mv ne)
+      (form_level at i j k r turns mid mid_level u v (omega (
+        arith,
+        ints,
+        mid_turn u v,
+        product_zero (pos weighed.a) (L u v u) (none_back n at u v),
+        product_zero (pos weighed.b) (L u v v) (none_twice n at u v),
+      )))
 
   pub to_right : Near at i j k r turns mid mid_level (turn_form at i j k v u ∷ [])
-  to_right = side v u mv mu (λ e. ne (sym e)) (mid_turn v u ∙ omega (
-    arith,
-    ints,
-    product_zero (pos weighed.a) (L v u u) (none_twice n at v u),
-    product_zero (pos weighed.b) (L v u v) (none_back n at v u),
-  ))
+  to_right = near_one at i j k r turns mid mid_level (turn_form at i j k v u) (form_some at i j k r turns v u mv mu (λ e. ne (sym e)))
+      (form_level at i j k r turns mid mid_level v u (omega (
+        arith,
+        ints,
+        mid_turn v u,
+        product_zero (pos weighed.a) (L v u u) (none_twice n at v u),
+        product_zero (pos weighed.b) (L v u v) (none_back n at v u),
+      )))
 
   -- both lie to the left of a side that has neither corner to its right, and one to its left
   pub both_left : (x y : ℕ) → In x F → In y F → pos 0 ≤ℤ L x y u → pos 0 ≤ℤ L x y v → (pos 0 <ℤ L x y u) ⊎ (pos 0 <ℤ L x y v)

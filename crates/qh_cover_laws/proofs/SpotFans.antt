@@ -1,6 +1,7 @@
 -- A spot that lies strictly inside a polygon lies in one triangle of its fan, and any other spot in none.
 use Rattle.std.proofs.Common.{◌≡◌, ◌≢◌, ℕ, arith, refl, sym, ap, ◌∙◌, inl, inr, ◌⊎◌, List, [], ◌∷◌, Bool, true, false, not, ◌&&◌}
-use Rattle.std.proofs.lemmas.{Bool.cases_Bool, Bool.and_parts, Int.ints}
+use Rattle.std.proofs.Math.Bool.{and-false}
+use Rattle.std.proofs.lemmas.{Bool.false_from_ne_true, Bool.cases_Bool, Bool.and_parts, Int.ints}
 use Rattle.std.specs.{List.list_all, Prelude.ℤ, Prelude.pos, Prelude.◌+ℤ◌, Prelude.◌*ℤ◌, Prelude.◌≤ℤ◌, Prelude.◌<ℤ◌}
 use Rattle.qh_model.specs.contract.ClosedPolygons.{steps_along, steps_round}
 use Rattle.qh_model.specs.headline.{Polygon.FollowsAlong, Predicates.left, Sets.In, Vector.Vector}
@@ -12,7 +13,7 @@ use Rattle.qh_surface_laws.proofs.ConvexLists.{AllTurn, Turn, Next, next_members
 use Rattle.qh_surface_laws.proofs.ConvexLists.{not_right}
 use Rattle.qh_cover_laws.specs.contract.Covering.{Spot, spot_turn}
 use Rattle.qh_cover_laws.proofs.SpotTurns.{spot_turn-back, spot_turns-add, scale-positive, turns_mixed}
-use Rattle.qh_cover_laws.proofs.SpotTriangles.{all_three, and_none, OffLines, tri, tri_parts, over, over-odd, not_both, one_of}
+use Rattle.qh_cover_laws.proofs.SpotTriangles.{all_three, OffLines, tri, tri_parts, over, over-odd, not_both, one_of}
 
 module _ (n : Vector) (at : ℕ → Vector) (s : Spot) where
   abbrev T : ℕ → ℕ → ℤ
@@ -79,26 +80,12 @@ module _ (n : Vector) (at : ℕ → Vector) (s : Spot) where
 
     -- the spot lies in no triangle that goes the other way round
     not_negative : all_three (p u a) (p w u) (p a w) ≡ false
-    not_negative = by (cases_Bool (all_three (p u a) (p w u) (p a w)))
-      where
-        by : (all_three (p u a) (p w u) (p a w) ≡ true) ⊎ (all_three (p u a) (p w u) (p a w) ≡ false) → all_three (p u a) (p w u) (p a w) ≡ false
-        by (inr e) = e
-        by (inl e) =
-            let one = and_parts (p u a) (p w u && p a w) e in
-            let two = and_parts (p w u) (p a w) one.1 in
-            let area = mul-pos (pos s.scale) (L a u w) (scale-positive n at s) auw in
-            absurd (omega (
-              arith,
-              ints,
-              area,
-              spot_turns-add n at a u w s,
-              above_is (T u a) one.0,
-              above_is (T w u) two.0,
-              above_is (T a w) two.1,
-              spot_turn-back n at a u s,
-              spot_turn-back n at u w s,
-              spot_turn-back n at w a s,
-            ))
+    not_negative = false_from_ne_true (all_three (p u a) (p w u) (p a w)) (λ e.
+        let one = and_parts (p u a) (p w u && p a w) e in
+        let two = and_parts (p w u) (p a w) one.1 in
+        let area = mul-pos (pos s.scale) (L a u w) (scale-positive n at s) auw in
+        let ua = above_is (T u a) one.0 in let wu = above_is (T w u) two.0 in let aw = above_is (T a w) two.1 in
+        omega (arith, ints, area, ua, wu, aw, spot_turns-add n at a u w s, spot_turn-back n at a u s, spot_turn-back n at u w s, spot_turn-back n at w a s))
 
     -- a positive product of areas
     weigh : (l x f g h i j k : ℤ) → pos 0 <ℤ l → l *ℤ x ≡ f *ℤ g +ℤ (h *ℤ i +ℤ j *ℤ k) → pos 0 ≤ℤ (f *ℤ g) → pos 0 ≤ℤ (h *ℤ i) → pos 0 <ℤ (j *ℤ k) → pos 0 <ℤ x
@@ -193,11 +180,11 @@ module _ (n : Vector) (at : ℕ → Vector) (s : Spot) where
         by (inl e) = by_rest (cases_Bool rest)
           where
             none : tri n at s a u w ≡ pos 0
-            none = rw (not_negative, not_both n at s a w e, and_none (p u w), and_none (p a u)) refl
+            none = rw (not_negative, not_both n at s a w e, and-false (p u w), and-false (p a u)) refl
 
             by_rest : (rest ≡ true) ⊎ (rest ≡ false) → tri n at s a u w +ℤ pos (number (p a w && rest)) ≡ pos (number (p a u && (p u w && rest)))
             by_rest (inl g) = rw (none, e, g, first_left e g, next_left e g) refl
-            by_rest (inr g) = rw (none, g, and_none (p a w), and_none (p u w), and_none (p a u)) refl
+            by_rest (inr g) = rw (none, g, and-false (p a w), and-false (p u w), and-false (p a u)) refl
         by (inr e) = by_sides (cases_Bool (p a u)) (cases_Bool (p u w))
           where
             wa : p w a ≡ true

@@ -1,33 +1,18 @@
 -- Heights of a spot over planes, and where a spot in a triangle of one plane lies to another plane.
-use Rattle.std.proofs.Common.{◌≡◌, ◌≢◌, ℕ, arith, refl, sym, ap, ◌∙◌, inl, inr, ◌⊎◌, [], ◌∷◌, true, false}
-use Rattle.std.proofs.lemmas.{Bool.cases_Bool, Int.ints}
-use Rattle.std.specs.Prelude.{ℤ, pos, ◌+ℤ◌, ◌-ℤ◌, ◌*ℤ◌, neg_ℤ, ◌≤ℤ◌, ◌<ℤ◌}
+use Rattle.std.proofs.Common.{◌≡◌, ◌≢◌, ℕ, arith, sym, ap, ◌∙◌}
+use Rattle.std.proofs.lemmas.Int.{ints}
+use Rattle.std.specs.Prelude.{◌↔◌, ℤ, pos, ◌+ℤ◌, ◌*ℤ◌, ◌≤ℤ◌, ◌<ℤ◌}
 use Rattle.qh_model.specs.{headline.Predicates.cross, headline.Predicates.vol, headline.Predicates.left, headline.Vector.Vector, headline.Vector.minus}
 use Rattle.qh_model.specs.{headline.Vector.dot, headline.Vector.cross_product, headline.Vector.origin, laws.FaceLaws.IsAlong}
 use Rattle.qh_model.proofs.polygons.PlaneTurns.{parallel_dot, level_parallel}
-use Rattle.qh_model.proofs.algebra.{Integers.zero_mul, Order.cancel-zero, Order.cancel-nonpos, Order.product_zero, Order.mul-nonneg_nonpos, Order.positive_le}
-use Rattle.qh_model.proofs.algebra.Ring.{ring, Expr.var, Expr.add, Expr.mul, Expr.neg, Expr.sub as less}
-use Rattle.qh_model.proofs.algebra.VectorIdentities.{vec, put, dotE, crossE, subE, vector_path, dot_comm, vol-dot, vol-first}
-use Rattle.qh_model.proofs.extremes.Directions.{Parallel, parallel_product, square-positive, from_plane, dot_along, positive_along, zero_along}
-use Rattle.qh_polygon.proofs.LinesAndPlanes.{between_eq}
+use Rattle.qh_model.proofs.algebra.{Integers.zero_mul}
+use Rattle.qh_model.proofs.algebra.Order.{cancel-zero, cancel-nonpos, product_zero, mul-nonneg_nonpos, positive_le}
+use Rattle.qh_model.proofs.algebra.VectorIdentities.{vector_path, dot_comm, vol-dot, vol-first}
+use Rattle.qh_model.proofs.extremes.Directions.{at_least_along, Parallel, parallel_product, square-positive, from_plane, dot_along, positive_along, zero_along}
 use Rattle.qh_convex_laws.proofs.Signs.{above, is_above, above_is}
+use Rattle.qh_surface_laws.proofs.StepCounts.{alike_tests}
 use Rattle.qh_cover_laws.specs.contract.Covering.{Spot, way_to, spot_height, spot_turn}
-use Rattle.qh_cover_laws.proofs.SpotTurns.{toE, spot_turns-add, spot_turn-back}
-
--- from one corner and from another
-pub way_height : (n u v : Vector) (s : Spot) → dot n (way_to v s) ≡ dot n (way_to u s) -ℤ pos s.scale *ℤ dot n (minus v u)
-way_height n u v s =
-    ring (put n (put s.point (put u (put v (pos s.scale ∷ [])))))
-    (dotE (vec 0) (toE 12 (vec 3))) (less (dotE (vec 0) (toE 12 (vec 2))) (mul (var 12) (dotE (vec 0) (subE (vec 3) (vec 2))))) refl
-
--- Cramer's rule, with a fifth vector
-pub cramer : (n p q x m : Vector) → dot (cross_product p q) n *ℤ dot m x
-    ≡ dot (cross_product p q) x *ℤ dot m n +ℤ (dot (cross_product x q) n *ℤ dot m p +ℤ dot (cross_product p x) n *ℤ dot m q)
-cramer n p q x m =
-    let N = vec 0 in let P = vec 1 in let Q = vec 2 in let X = vec 3 in let M = vec 4 in
-    ring (put n (put p (put q (put x (put m [])))))
-    (mul (dotE (crossE P Q) N) (dotE M X))
-    (add (mul (dotE (crossE P Q) X) (dotE M N)) (add (mul (dotE (crossE X Q) N) (dotE M P)) (mul (dotE (crossE P X) N) (dotE M Q)))) refl
+use Rattle.qh_cover_laws.proofs.SpotTurns.{way_height, weighed_ways}
 
 -- a spot in the plane of i, j and k, from any point of the plane
 level_way : (at : ℕ → Vector) (i j k u : ℕ) (s : Spot) → spot_height at i j k s ≡ pos 0 → vol (at i) (at j) (at k) (at u) ≡ pos 0
@@ -76,20 +61,18 @@ off_line at i j k u v s some h hu hv off e = off (vector_path r origin (none r.x
     none y x q = cancel-zero (dot n n) y (square-positive n some) (q ∙ ap (λ z. z *ℤ x) flat ∙ zero_mul x)
 
 -- two numbers of one sign
-pub above_alike : (x y : ℤ) → (pos 0 <ℤ x → pos 0 <ℤ y) × (pos 0 <ℤ y → pos 0 <ℤ x) → above x ≡ above y
-above_alike x y h = by (cases_Bool (above x)) (cases_Bool (above y))
-  where
-    by : (above x ≡ true) ⊎ (above x ≡ false) → (above y ≡ true) ⊎ (above y ≡ false) → above x ≡ above y
-    by (inl e) q = e ∙ sym (is_above y (h.0 (above_is x e)))
-    by (inr e) (inl g) = is_above x (h.1 (above_is y g)) ∙ sym g
-    by (inr e) (inr g) = e ∙ sym g
+pub above_alike : (x y : ℤ) → (pos 0 <ℤ x) ↔ (pos 0 <ℤ y) → above x ≡ above y
+above_alike x y h = alike_tests (above x) (above y) (λ e. is_above y (h.0 (above_is x e)), λ e. is_above x (h.1 (above_is y e)))
 
 -- turns about normals of one direction
-pub turn_along : (n m : Vector) (at : ℕ → Vector) (u v : ℕ) (s : Spot) (h : IsAlong n m) → pos h.s *ℤ spot_turn n at u v s ≡ pos h.t *ℤ spot_turn m at u v s
+turn_along : (n m : Vector) (at : ℕ → Vector) (u v : ℕ) (s : Spot) (h : IsAlong n m) → pos h.s *ℤ spot_turn n at u v s ≡ pos h.t *ℤ spot_turn m at u v s
 unfolding spot_turn
 turn_along n m at u v s h =
     let r = cross_product (minus (at v) (at u)) (way_to (at u) s) in
     ap (λ z. pos h.s *ℤ z) (dot_comm r n) ∙ dot_along n m h r ∙ ap (λ z. pos h.t *ℤ z) (dot_comm m r)
+
+pub not_right_along : (n m : Vector) (at : ℕ → Vector) (u v : ℕ) (s : Spot) → IsAlong n m → pos 0 ≤ℤ spot_turn n at u v s → pos 0 ≤ℤ spot_turn m at u v s
+not_right_along n m at u v s h = at_least_along h.s h.t _ _ h.some_s h.some_t (turn_along n m at u v s h)
 
 pub above_along : (n m : Vector) (at : ℕ → Vector) (u v : ℕ) (s : Spot) → IsAlong n m → above (spot_turn n at u v s) ≡ above (spot_turn m at u v s)
 above_along n m at u v s h = above_alike (spot_turn n at u v s) (spot_turn m at u v s) (
@@ -98,30 +81,6 @@ above_along n m at u v s h = above_alike (spot_turn n at u v s) (spot_turn m at 
 )
 
 -- ---- a spot in a triangle of one plane, and in another plane
--- the ways from a corner, the other way round
-product-flip : (n p q : Vector) → dot (cross_product p q) n ≡ neg_ℤ (dot (cross_product q p) n)
-product-flip n p q =
-    ring (put n (put p (put q []))) (dotE (crossE (vec 1) (vec 2)) (vec 0)) (neg (dotE (crossE (vec 2) (vec 1)) (vec 0))) refl
-
-weighed_up : (l m h a v w av vw wa : ℤ) → m *ℤ l ≡ av +ℤ (vw +ℤ wa) → l *ℤ (h -ℤ m *ℤ a) ≡ wa *ℤ (v -ℤ a) +ℤ av *ℤ (w -ℤ a)
-    → vw *ℤ a +ℤ (wa *ℤ v +ℤ av *ℤ w) ≡ l *ℤ h
-weighed_up l m h a v w av vw wa e f =
-    spread ∙ ap (λ z. z +ℤ (av +ℤ (vw +ℤ wa)) *ℤ a) (sym f) ∙ ap (λ z. l *ℤ (h -ℤ m *ℤ a) +ℤ z *ℤ a) (sym e) ∙ together
-  where
-    spread : vw *ℤ a +ℤ (wa *ℤ v +ℤ av *ℤ w) ≡ (wa *ℤ (v -ℤ a) +ℤ av *ℤ (w -ℤ a)) +ℤ (av +ℤ (vw +ℤ wa)) *ℤ a
-    spread =
-        let p = λ (i j : ℕ). mul (var i) (var j) in
-        ring (a ∷ v ∷ w ∷ av ∷ vw ∷ wa ∷ []) (add (p 4 0) (add (p 5 1) (p 3 2)))
-        (add (add (mul (var 5) (less (var 1) (var 0))) (mul (var 3) (less (var 2) (var 0)))) (mul (add (var 3) (add (var 4) (var 5))) (var 0))) refl
-
-    together : l *ℤ (h -ℤ m *ℤ a) +ℤ m *ℤ l *ℤ a ≡ l *ℤ h
-    together = ring (l ∷ m ∷ a ∷ h ∷ []) (add (mul (var 0) (less (var 3) (mul (var 1) (var 2)))) (mul (mul (var 1) (var 0)) (var 2))) (mul (var 0) (var 3)) refl
-
-put_in : (d₁ e₁ m₁ l₁ d₂ m₂ d₃ e₃ m₃ l₃ d₄ m₄ l₄ : ℤ) → d₁ *ℤ m₁ ≡ d₂ *ℤ m₂ +ℤ (d₃ *ℤ m₃ +ℤ d₄ *ℤ m₄)
-    → d₁ ≡ e₁ → m₁ ≡ l₁ → d₂ ≡ pos 0 → d₃ ≡ e₃ → m₃ ≡ l₃ → m₄ ≡ l₄ → e₁ *ℤ l₁ ≡ e₃ *ℤ l₃ +ℤ d₄ *ℤ l₄
-put_in d₁ e₁ m₁ l₁ d₂ m₂ d₃ e₃ m₃ l₃ d₄ m₄ l₄ h p q z r t u =
-    rw (← p, ← q, ← r, ← t, ← u) (omega (arith, ints, h, ap (λ x. x *ℤ m₂) z ∙ zero_mul m₂))
-
 module _ (at : ℕ → Vector) (s : Spot) (i j k : ℕ) (some : cross (at i) (at j) (at k) ≢ origin) (h : spot_height at i j k s ≡ pos 0) (a v w : ℕ)
     (ha : vol (at i) (at j) (at k) (at a) ≡ pos 0) (hv : vol (at i) (at j) (at k) (at v) ≡ pos 0) (hw : vol (at i) (at j) (at k) (at w) ≡ pos 0) where
   abbrev n : Vector
@@ -135,36 +94,17 @@ module _ (at : ℕ → Vector) (s : Spot) (i j k : ℕ) (some : cross (at i) (at
 
   -- the heights of the corners, weighed by the turns, add up to that of the spot
   module _ (x y z : ℕ) where
-    abbrev m : Vector
-    m = cross (at x) (at y) (at z)
-
     abbrev H : ℕ → ℤ
     H l = vol (at x) (at y) (at z) (at l)
 
-    way_there : dot m (way_to (at a) s) ≡ spot_height at x y z s -ℤ pos s.scale *ℤ H a
-    unfolding spot_height
-    way_there = way_height m (at x) (at a) s ∙ ap (λ d. dot m (way_to (at x) s) -ℤ pos s.scale *ℤ d) (sym (vol-dot (at x) (at y) (at z) (at a)))
-
-    rise : (l : ℕ) → dot m (minus (at l) (at a)) ≡ H l -ℤ H a
-    rise l =
-        between_eq m (at x) (at a) (at l) ∙ rw (← vol-dot (at x) (at y) (at z) (at l), ← vol-dot (at x) (at y) (at z) (at a)) refl
-
-    turned_back : dot (cross_product (way_to (at a) s) (minus (at w) (at a))) n ≡ spot_turn n at w a s
-    unfolding spot_turn
-    turned_back =
-        product-flip n (way_to (at a) s) (minus (at w) (at a)) ∙ sym (spot_turn-back n at a w s)
-
-    by_cramer : left n (at a) (at v) (at w) *ℤ (spot_height at x y z s -ℤ pos s.scale *ℤ H a)
-        ≡ spot_turn n at w a s *ℤ (H v -ℤ H a) +ℤ spot_turn n at a v s *ℤ (H w -ℤ H a)
-    unfolding left spot_turn cross
-    by_cramer =
-        put_in _ _ _ _ _ _ _ _ _ _ _ _ _ (cramer n (minus (at v) (at a)) (minus (at w) (at a)) (way_to (at a) s) m)
-        refl way_there flat_way turned_back (rise v) (rise w)
-
     weighed : spot_turn n at v w s *ℤ H a +ℤ (spot_turn n at w a s *ℤ H v +ℤ spot_turn n at a v s *ℤ H w)
         ≡ left n (at a) (at v) (at w) *ℤ spot_height at x y z s
-    weighed = weighed_up (left n (at a) (at v) (at w)) (pos s.scale) (spot_height at x y z s) (H a) (H v) (H w)
-        (spot_turn n at a v s) (spot_turn n at v w s) (spot_turn n at w a s) (spot_turns-add n at a v w s) by_cramer
+    unfolding spot_height
+    weighed = rw (vol-dot (at x) (at y) (at z) (at a), vol-dot (at x) (at y) (at z) (at v), vol-dot (at x) (at y) (at z) (at w))
+        (weighed_ways n at s a v w m (at x) (ap (λ d. d *ℤ dot m n) flat_way ∙ zero_mul (dot m n)))
+      where
+        m : Vector
+        m = cross (at x) (at y) (at z)
 
     -- of a spot inside the triangle
     module _ (av : pos 0 <ℤ spot_turn n at a v s) (vw : pos 0 <ℤ spot_turn n at v w s) (wa : pos 0 <ℤ spot_turn n at w a s)

@@ -1,5 +1,6 @@
 -- A spot in triangles, by the signs of its turns: how the triangles over the sides of a triangle add up to it.
 use Rattle.std.proofs.Common.{◌≡◌, ℕ, ◌+◌, arith, refl, Bool, true, eqb, not, ◌&&◌, ◌≢◌, sym, ap, subst, ◌∙◌, inl, inr, ⊎_elim, false}
+use Rattle.std.proofs.Math.Bool.{and_assoc, and_comm}
 use Rattle.std.proofs.lemmas.{Bool.eqb-true, Int.ints}
 use Rattle.std.specs.Prelude.{ℤ, pos, ◌+ℤ◌, ◌-ℤ◌, ◌*ℤ◌}
 use Rattle.qh_model.specs.headline.Vector.{Vector}
@@ -50,22 +51,11 @@ triangles_add b₁ b₂ b₃ d₁ d₂ d₃ h =
     plain : (n m p q r s t u : ℕ) → n + (q + (s + u)) ≡ m + (p + (r + t)) → pos n -ℤ pos m ≡ (pos p -ℤ pos q) +ℤ ((pos r -ℤ pos s) +ℤ (pos t -ℤ pos u))
     plain n m p q r s t u e = omega (arith, ints)
 
-pub and_none : (b : Bool) → (b && false) ≡ false
-and_none true = refl
-and_none false = refl
-
 and_turned : (a b c : Bool) → all_three a b c ≡ all_three c b a
-and_turned true b true = refl
-and_turned true b false = and_none b
-and_turned false b true = sym (and_none b)
-and_turned false b false = refl
+and_turned a b c = sym (and_assoc a b c) ∙ and_comm (a && b) c ∙ ap (λ d. c && d) (and_comm a b)
 
 and_round : (a b c : Bool) → all_three a b c ≡ all_three b c a
-and_round true b true = refl
-and_round true b false = refl
-and_round false true true = refl
-and_round false true false = refl
-and_round false false c = refl
+and_round a b c = and_comm a (b && c) ∙ and_assoc b c a
 
 module _ (n : Vector) (at : ℕ → Vector) (s : Spot) where
   abbrev T : ℕ → ℕ → ℤ

@@ -1,26 +1,24 @@
 -- The pieces leave no spot of a face out, reach no other spot, and no two have a spot strictly inside in common.
 use Rattle.std.proofs.Common.{◌≡◌, ℕ, ◌<◌, ◌≤◌, arith, refl, sym, ap, subst, ◌∙◌, inl, inr, List, [], ◌∷◌, Bool, true, false}
-use Rattle.std.proofs.lemmas.{Bool.cases_Bool, Bool.and_parts, Bool.Decides.Decides-int_eq, Int.ints, Int.by_lt_z}
+use Rattle.std.proofs.lemmas.{Bool.true_from_ne_false, Bool.cases_Bool, Bool.and_parts, Bool.Decides.Decides-int_eq, Int.ints, Int.by_lt_z}
 use Rattle.std.specs.{Ordering.int_eq, Prelude.count_by, Prelude.pos, Prelude.◌≤ℤ◌}
-use Rattle.qh_model.specs.{contract.ClosedPolygons.steps_round, laws.FaceLaws.IsAlong}
+use Rattle.qh_model.specs.contract.ClosedPolygons.{steps_round}
 use Rattle.qh_model.specs.headline.{Polygon.Follows, Sets.In, Sets.Members, Vector.Vector, Vector.minus, Vector.dot, Vector.origin}
 use Rattle.qh_model.specs.headline.Predicates.{cross, vol, left}
-use Rattle.qh_model.proofs.{Decisions.Decided, Decisions.same_vector, algebra.Order.product_zero, algebra.VectorIdentities.vol-dot}
-use Rattle.qh_model.proofs.{extremes.Directions.square-positive, extremes.Directions.at_least_along, polygons.Neighbours.follows_members}
-use Rattle.qh_model.proofs.closed_surfaces.Sums.{count, count-is}
+use Rattle.qh_model.proofs.{Decisions.Decided, Decisions.same_vector, algebra.Order.product_zero, algebra.VectorIdentities.vol-dot, closed_surfaces.Sums.count}
+use Rattle.qh_model.proofs.{closed_surfaces.Sums.count-is, extremes.Directions.along_back, polygons.Neighbours.follows_members}
 use Rattle.qh_polygon.proofs.LinesAndPlanes.{between_eq}
-use Rattle.qh_convex_laws.proofs.Perturbed.{Rises}
 use Rattle.qh_check.specs.contract.Surfaces.{IsFaceSurface}
 use Rattle.qh_surface_laws.specs.contract.Measures.{lies_in}
 use Rattle.qh_surface_laws.proofs.{ConvexLists.AllTurn, SharedCorners.same_face}
 use Rattle.qh_surface_laws.proofs.PlanePieces.{PieceOf, normal, OverFace, on, piece, lies_member, lies_turns, of_face, follows_apart}
 use Rattle.qh_cover_laws.specs.contract.Covering.{Spot, spot_height, spot_turn, covers, reaches}
-use Rattle.qh_cover_laws.proofs.{NearSpots.Near, NearSpots.near, NearSpots.form_some, NearSpots.form_level, SpotFans.all_left, SpotFans.InTriangle}
-use Rattle.qh_cover_laws.proofs.{SpotFans.in_triangle, SpotHeights.not_above_plane, SpotHeights.turn_along, SpotTurns.spot_turn-back}
+use Rattle.qh_cover_laws.proofs.{PlaneSpots.turn_form, PlaneSpots.height_form, PlaneSpots.height_of, SpotFans.all_left, SpotFans.InTriangle}
+use Rattle.qh_cover_laws.proofs.{SpotFans.in_triangle, SpotHeights.not_right_along, SpotHeights.not_above_plane, SpotTurns.spot_turn-back}
 use Rattle.qh_cover_laws.proofs.Covered.{covers_height, covers_flat, covers_other, flat_along, flat_height, height_flat, one_covers}
 use Rattle.qh_cover_laws.proofs.FaceSpots.{IsLeft, IsNotRight, none_right, left_of, of_left, right_of, of_right, turns, covers_face, off_lines, inside_side}
 use Rattle.qh_cover_laws.proofs.FaceSpots.{moved, moved_left, not_beyond}
-use Rattle.qh_cover_laws.proofs.PlaneSpots.{turn_form, height_form, numbers, height_of}
+use Rattle.qh_cover_laws.proofs.NearSpots.{near_one, Near, near, form_some, form_level}
 
 -- ---- counts
 -- one that is counted
@@ -82,11 +80,8 @@ module _ {at : ℕ → Vector} {ids : List ℕ} {qs : List (List ℕ)} {i j k : 
     reaches_flat : (s : Spot) → spot_height at i j k s ≡ pos 0 → IsNotRight n at s q → reaches at s q ≡ true
     reaches_flat s level side = subst (λ x. reaches at s x ≡ true) (sym p.is) (rw (
       (Decides-int_eq (spot_height at p.i p.j p.k s) (pos 0)).1 (flat_height c lies p s level),
-      of_right (normal p) at s list (λ u v g. along (flat_along c lies p) u v (side u v (subst (Follows u v) (sym p.is) g))),
+      of_right (normal p) at s list (λ u v g. not_right_along n (normal p) at u v s (flat_along c lies p) (side u v (subst (Follows u v) (sym p.is) g))),
     ) refl)
-      where
-        along : IsAlong n (normal p) → (u v : ℕ) → pos 0 ≤ℤ spot_turn n at u v s → pos 0 ≤ℤ spot_turn (normal p) at u v s
-        along h u v = at_least_along h.s h.t _ _ h.some_s h.some_t (turn_along n (normal p) at u v s h)
 
     -- ---- a spot that it reaches
     module _ (s : Spot) (reach : reaches at s q ≡ true) where
@@ -98,10 +93,7 @@ module _ {at : ℕ → Vector} {ids : List ℕ} {qs : List (List ℕ)} {i j k : 
       reach_level = height_flat c lies p s ((Decides-int_eq (spot_height at p.i p.j p.k s) (pos 0)).0 two.0)
 
       closed : IsNotRight n at s list
-      closed u v g = by (flat_along c lies p)
-        where
-          by : IsAlong n (normal p) → pos 0 ≤ℤ spot_turn n at u v s
-          by h = at_least_along h.t h.s _ _ h.some_t h.some_s (sym (turn_along n (normal p) at u v s h)) (right_of (normal p) at s list two.1 u v g)
+      closed u v g = not_right_along (normal p) n at u v s (along_back n (normal p) (flat_along c lies p)) (right_of (normal p) at s list two.1 u v g)
 
       -- is a spot of the face
       pub face_reaches : reaches at s F ≡ true
@@ -133,23 +125,14 @@ module _ {at : ℕ → Vector} {ids : List ℕ} {qs : List (List ℕ)} {i j k : 
           beyond : (x y : ℕ) → Follows x y F → spot_turn n at x y s ≤ℤ pos 0 → ⊥
           beyond x y g h = omega (arith, ints, spot_turn-back n at x y z.spot, z.more y x (inl refl), near_inside z x y g)
             where
-              form : Vector
-              form = turn_form at i j k y x
-
-              rise : (f : Vector) → In f (turn_form at i j k y x ∷ []) → Rises f (numbers at i j k s) form
-              rise f (inl e) = subst (λ d. Rises d (numbers at i j k s) (turn_form at i j k y x)) (sym e) (inr (
-                form_level at i j k r (turns c) s level y x (omega (arith, ints, h, spot_turn-back n at x y s)),
-                square-positive (turn_form at i j k y x) (form_some at i j k r (turns c) y x (follows_members x y F g).1 (follows_members x y F g).0
-                    (λ e. follows_apart c x y g (sym e))),
-              ))
-              rise f (inr o) = absurd o
-
               z : NearTo s level (turn_form at i j k y x ∷ [])
-              z = near at i j k r (turns c) s level (turn_form at i j k y x ∷ []) form rise
+              z = near_one at i j k r (turns c) s level (turn_form at i j k y x) (form_some at i j k r (turns c) y x (follows_members x y F g).1
+                  (follows_members x y F g).0 (λ e. follows_apart c x y g (sym e)))
+                  (form_level at i j k r (turns c) s level y x (omega (arith, ints, h, spot_turn-back n at x y s)))
 
       -- another piece that covers it lies in the plane
       pub one_plane : (b : List ℕ) → In b qs → covers at s b ≡ true → lies_in at i j k b ≡ true
-      one_plane b o t = elim (cases_Bool (lies_in at i j k b)) [ inl e ↦ e | inr e ↦ absurd (by (piece c b o) e) ]
+      one_plane b o t = true_from_ne_false (lies_in at i j k b) (by (piece c b o))
         where
           by : PieceOf at (Members ids) b → lies_in at i j k b ≡ false → ⊥
           by g e = on_form (same_vector h origin)
@@ -177,16 +160,9 @@ module _ {at : ℕ → Vector} {ids : List ℕ} {qs : List (List ℕ)} {i j k : 
                   under : (l : ℕ) → In l list → vol (at g.i) (at g.j) (at g.k) (at l) ≤ℤ pos 0
                   under l o = g.plane.supports l ((c.polygon.members l).0 (in_F l o)).0.0
 
-                  rise : (x : Vector) → In x (h ∷ []) → Rises x (numbers at i j k s) h
-                  rise x (inl e) = subst (λ w. Rises w (numbers at i j k s) h) (sym e) (inr (
-                    (let d = height_of at i j k s level g.i g.j g.k in
-                        let w = product_zero (left n (at i) (at j) (at k)) (spot_height at g.i g.j g.k s) (covers_height g s t) in omega (arith, ints, d, w)),
-                    square-positive h some,
-                  ))
-                  rise x (inr o) = absurd o
-
                   z : NearTo s level (h ∷ [])
-                  z = near at i j k r (turns c) s level (h ∷ []) h rise
+                  z = near_one at i j k r (turns c) s level h some (let w = product_zero (left n (at i) (at j) (at k)) (spot_height at g.i g.j g.k s)
+                      (covers_height g s t) in omega (arith, ints, height_of at i j k s level g.i g.j g.k, w))
 
                   tri : InTriangle n at z.spot list
                   tri = near_triangle z
@@ -205,10 +181,8 @@ module _ {at : ℕ → Vector} {ids : List ℕ} {qs : List (List ℕ)} {i j k : 
         let f = counted (covers at y.spot) qs (omega (arith, near_once y h, count-is (covers at y.spot) qs)) in (f.0, f.1, reach f.0 f.1 f.2)
       where
         lies_or_not : (q : List ℕ) → In q qs → covers at y.spot q ≡ true → lies_in at i j k q ≡ true
-        lies_or_not q m t = elim (cases_Bool (lies_in at i j k q)) [
-          | inl e ↦ e
-          | inr e ↦ (let o = covers_other c y.spot (off_lines c y.spot y.off) (covers_face c y.spot y.level h) q m e in absurd (cc))
-        ]
+        lies_or_not q m t = true_from_ne_false (lies_in at i j k q) (λ e.
+            let o = covers_other c y.spot (off_lines c y.spot y.off) (covers_face c y.spot y.level h) q m e in cc)
 
         reach : (q : List ℕ) → In q qs → covers at y.spot q ≡ true → reaches at s q ≡ true
         reach q m t = reaches_flat q m (lies_or_not q m t) s level (λ u v g. by_lt_z (spot_turn n at u v s) (pos 0) (λ l. absurd (omega (

@@ -1,13 +1,12 @@
 -- Closed ways over the corners of a polygon that go along its sides one way only, and along other pairs as often as back:
 -- they go round the polygon, each side as often as the others.
-use Rattle.std.proofs.Common.{◌≡◌, ◌≢◌, ℕ, ◌≤◌, arith, refl, sym, subst, ◌∙◌, inl, inr, ⊎_elim, ◌⊎◌, List, [], ◌∷◌, true, false, cond, eqb}
+use Rattle.std.proofs.Common.{◌≡◌, ℕ, ◌≤◌, arith, refl, sym, subst, ◌∙◌, inl, inr, ⊎_elim, List, [], ◌∷◌, false, cond, eqb}
 use Rattle.std.proofs.lemmas.{Bool.cases_Bool, Bool.eqb-true, Int.ints}
 use Rattle.std.specs.{List.flat_map, Prelude.ℤ, Prelude.pos, Prelude.◌+ℤ◌, Prelude.◌-ℤ◌}
 use Rattle.qh_model.specs.headline.Polygon.{FollowsAlong, Follows}
 use Rattle.qh_model.specs.contract.{ClosedPolygons.steps_along, ClosedPolygons.steps_round, ClosedSurface.is_edge}
-use Rattle.qh_model.proofs.Decisions.{Decided, same_id}
-use Rattle.qh_model.proofs.closed_surfaces.{SignedVolume.edge_tests, SignedVolume.eqb-refl, Sums.sum_z}
-use Rattle.qh_surface_laws.proofs.StepCounts.{times, pair_ends, Beside, follows_or_not, IsOdd, sum-append, sum_off, lead, lead-odd}
+use Rattle.qh_model.proofs.{Decisions.Decided, closed_surfaces.SignedVolume.edge_tests, closed_surfaces.SignedVolume.eqb-refl, closed_surfaces.Sums.sum_z}
+use Rattle.qh_surface_laws.proofs.StepCounts.{alike_tests, times, pair_ends, Beside, follows_or_not, IsOdd, sum-append, sum_off, lead, lead-odd}
 
 -- steps lead to u as often as from it
 abbrev pub arrival : ℕ → (ℕ × ℕ) → ℤ
@@ -51,8 +50,8 @@ module _ (F : List ℕ) (es : List (ℕ × ℕ)) (ways : AreWays F es) where
 
     on_side : (x y : ℕ) → Follows x y F → ¬ (Follows y x F) → rest (x, y) ≡ pos 0
     on_side x y f nf = rw (
-      arrives (same_id y u),
-      leaves (same_id x u),
+      arrives,
+      leaves,
       is_not u p x y (λ q. nf (subst (λ a. Follows a x F) (pair_ends q).1 (subst (λ b. Follows p b F) (pair_ends q).0 hp))),
       is_not s u x y (λ q. nf (subst (λ a. Follows a x F) (pair_ends q).1 (subst (λ b. Follows u b F) (pair_ends q).0 hs))),
     ) (omega (arith, ints))
@@ -60,22 +59,17 @@ module _ (F : List ℕ) (es : List (ℕ × ℕ)) (ways : AreWays F es) where
         is_not : (a b c f : ℕ) → ¬ (◌≡◌ {A = ℕ × ℕ} (a, b) (c, f)) → is_edge (a, b) (c, f) ≡ false
         is_not a b c f h = elim (cases_Bool (is_edge (a, b) (c, f))) [ inl t ↦ absurd (h (edge_tests.same (a, b) (c, f) t)) | inr t ↦ t ]
 
-        eqb_not : (a b : ℕ) → a ≢ b → eqb a b ≡ false
-        eqb_not a b h = elim (cases_Bool (eqb a b)) [ inl t ↦ absurd (h (eqb-true a b t)) | inr t ↦ t ]
+        arrives : eqb y u ≡ is_edge (p, u) (x, y)
+        arrives = alike_tests (eqb y u) (is_edge (p, u) (x, y)) (
+          λ t. let e = eqb-true y u t in rw (← ways.one_before p x u hp (subst (λ t. Follows x t F) e f), e) (edge_tests.itself (p, u)),
+          λ t. rw (← (pair_ends (edge_tests.same (p, u) (x, y) t)).1) (eqb-refl u),
+        )
 
-        is_same : (a b c f : ℕ) → a ≡ c → b ≡ f → is_edge (a, b) (c, f) ≡ true
-        is_same a b c f h k = rw (← h, ← k) (edge_tests.itself (a, b))
-
-        eqb_same : (a b : ℕ) → a ≡ b → eqb a b ≡ true
-        eqb_same a b h = rw (← h) (eqb-refl a)
-
-        arrives : Decided (y ≡ u) → eqb y u ≡ is_edge (p, u) (x, y)
-        arrives (inl e) = eqb_same y u e ∙ sym (is_same p u x y (ways.one_before p x u hp (subst (λ t. Follows x t F) e f)) (sym e))
-        arrives (inr e) = eqb_not y u e ∙ sym (is_not p u x y (λ q. e (sym (pair_ends q).1)))
-
-        leaves : Decided (x ≡ u) → eqb x u ≡ is_edge (u, s) (x, y)
-        leaves (inl e) = eqb_same x u e ∙ sym (is_same u s x y (sym e) (ways.one_after u s y hs (subst (λ t. Follows t y F) e f)))
-        leaves (inr e) = eqb_not x u e ∙ sym (is_not u s x y (λ q. e (sym (pair_ends q).0)))
+        leaves : eqb x u ≡ is_edge (u, s) (x, y)
+        leaves = alike_tests (eqb x u) (is_edge (u, s) (x, y)) (
+          λ t. let e = eqb-true x u t in rw (e, ← ways.one_after u s y hs (subst (λ t. Follows t y F) e f)) (edge_tests.itself (u, s)),
+          λ t. rw (← (pair_ends (edge_tests.same (u, s) (x, y) t)).0) (eqb-refl u),
+        )
 
     balanced : (x y : ℕ) → ¬ (rest (x, y) ≡ pos 0) → times x y es ≡ times y x es
     balanced x y h = by (follows_or_not F x y) (follows_or_not F y x)

@@ -3,7 +3,7 @@
 use Rattle.std.proofs.Common.{◌≡◌, ℕ, arith, refl, [], ◌≢◌, ◌+◌, sym, ap, subst, ◌∙◌, inl, inr, ⊎_elim, ◌⊎◌, List, ◌∷◌, ◌++◌, take, drop, append_assoc}
 use Rattle.std.proofs.Common.{append-nil}
 use Rattle.std.proofs.lemmas.{Int.ints, List.take-append-drop, List.drop_more}
-use Rattle.std.specs.Prelude.{ℤ, pos, ◌+ℤ◌, ◌*ℤ◌, ◌≤ℤ◌, ◌<ℤ◌}
+use Rattle.std.specs.Prelude.{pos, ◌+ℤ◌, ◌*ℤ◌, ◌≤ℤ◌, ◌<ℤ◌}
 use native.Mathlib.Decide.{ℕ_discrete}
 use Rattle.qh_model.specs.headline.{Predicates.cross, Predicates.left, Sets.In, Sets.Once, Vector.Vector, Vector.minus}
 use Rattle.qh_model.specs.headline.Polygon.{FollowsAlong, Follows, TurnsLeft, IsPolygon}
@@ -137,21 +137,24 @@ module _ (n : Vector) (at : ℕ → Vector) where
   pub no_back : (x y z : ℕ) → Turn x y z → ¬ (Turn x z y)
   no_back x y z h k = omega (arith, ints, left-flip n (at x) (at y) (at z))
 
-  -- one of three corners is neither of two
-  pub other_of : (x y z : ℕ) → Turn x y z → (u v : ℕ) → (w : ℕ) × In w (x ∷ y ∷ z ∷ []) × (w ≢ u) × (w ≢ v)
-  other_of x y z t u v = by (ℕ_discrete x u) (ℕ_discrete x v) (ℕ_discrete y u) (ℕ_discrete y v)
+  -- of three corners one is neither of two
+  pub one_apart : (P : ℕ → Type 0) (x y z : ℕ) → Turn x y z → (u v : ℕ) → ((w : ℕ) → In w (x ∷ y ∷ z ∷ []) → w ≢ u → w ≢ v → P w) → P x ⊎ (P y ⊎ P z)
+  one_apart P x y z t u v h = by (ℕ_discrete x u) (ℕ_discrete x v) (ℕ_discrete y u) (ℕ_discrete y v)
     where
-      by : Dec (x ≡ u) → Dec (x ≡ v) → Dec (y ≡ u) → Dec (y ≡ v) → (w : ℕ) × In w (x ∷ y ∷ z ∷ []) × (w ≢ u) × (w ≢ v)
-      by (no a) (no b) c e = (x, inl refl, a, b)
-      by a b (no c) (no e) = (y, inr (inl refl), c, e)
+      last : z ≢ u → z ≢ v → P x ⊎ (P y ⊎ P z)
+      last a b = inr (inr (h z (inr (inr (inl refl))) a b))
+
+      by : Dec (x ≡ u) → Dec (x ≡ v) → Dec (y ≡ u) → Dec (y ≡ v) → P x ⊎ (P y ⊎ P z)
+      by (no a) (no b) c e = inl (h x (inl refl) a b)
+      by a b (no c) (no e) = inr (inl (h y (inr (inl refl)) c e))
       by (yes a) b (yes c) e = absurd (first_two x y z t (a ∙ sym c))
       by a (yes b) c (yes e) = absurd (first_two x y z t (b ∙ sym e))
-      by (yes a) (no b) (no c) (yes e) = (z, inr (inr (inl refl)), (λ f. not_first x y z t (f ∙ sym a)), (λ f. not_second x y z t (f ∙ sym e)))
-      by (no a) (yes b) (yes c) (no e) = (z, inr (inr (inl refl)), (λ f. not_second x y z t (f ∙ sym c)), (λ f. not_first x y z t (f ∙ sym b)))
+      by (yes a) (no b) (no c) (yes e) = last (λ f. not_first x y z t (f ∙ sym a)) (λ f. not_second x y z t (f ∙ sym e))
+      by (no a) (yes b) (yes c) (no e) = last (λ f. not_second x y z t (f ∙ sym c)) (λ f. not_first x y z t (f ∙ sym b))
 
   pub third_corner : (i j k : ℕ) (r : List ℕ) → AllTurn (i ∷ j ∷ k ∷ r) → (u v : ℕ) → (w : ℕ) × In w (i ∷ j ∷ k ∷ r) × (w ≢ u) × (w ≢ v)
-  third_corner i j k r t u v =
-      let o = other_of i j k (t.0.0 k (inl refl)) u v in (o.0, in_append (i ∷ j ∷ k ∷ []) r o.0 (inl o.1), o.2, o.3)
+  third_corner i j k r t u v = ⊎_elim (λ p. (i, p.0, p.1, p.2)) (λ o. ⊎_elim (λ p. (j, p.0, p.1, p.2)) (λ p. (k, p.0, p.1, p.2)) o)
+      (one_apart (λ w. In w (i ∷ j ∷ k ∷ r) × (w ≢ u) × (w ≢ v)) i j k (t.0.0 k (inl refl)) u v (λ w m a b. (in_append (i ∷ j ∷ k ∷ []) r w (inl m), a, b)))
 
   -- a step of a list: two of its members with a third to the left
   pub record IsTurn (q : List ℕ) (u v : ℕ) : Type 0 where

@@ -145,8 +145,15 @@ module _ (at : ℕ → Vector) (ids : List ℕ) (d : HasDistinctPoints at (Membe
       o = corners_in (cross (at i) (at j) (at k)) at q (polygon_turns (cross (at i) (at j) (at k)) at g) s.0 s.1
 
 -- ---- the laws
+pub some_member : (qs : List (List ℕ)) (q : List ℕ) → In q qs → 0 < length qs
+some_member [] q m = absurd m
+some_member (p ∷ ps) q m = omega arith
+
 module _ (at : ℕ → Vector) (ids : List ℕ) (qs : List (List ℕ)) (d : HasDistinctPoints at (Members ids))
-    (solid : IsDimension at (Members ids) 3) (faces : AreFaces at (Members ids) qs) (some : 0 < length qs) where
+    (solid : IsDimension at (Members ids) 3) (faces : AreFaces at (Members ids) qs) where
+  some : 0 < length qs
+  some = let t = first_face at ids d solid in let f = faces.each t.0 t.1 t.2 t.3 in some_member qs f.0 f.1
+
   once_each : Once qs
   once_each = ordered_once qs (rising-ordered qs faces.rising)
 
@@ -212,16 +219,6 @@ faces_of at ids b solid body = go (one_dimension at (Members ids) b.dim 3 body.d
     go e (inr (inr (inl p))) = let f = p.0 in absurd (omega (arith, e, f))
     go e (inr (inr (inr p))) = let f = p.0 in absurd (omega (arith, e, f))
 
--- a list with a member has one
-pub some_member : (qs : List (List ℕ)) (q : List ℕ) → In q qs → 0 < length qs
-some_member [] q m = absurd m
-some_member (p ∷ ps) q m = omega arith
-
--- there are some
-some_faces : (at : ℕ → Vector) (ids : List ℕ) (qs : List (List ℕ)) → HasDistinctPoints at (Members ids) → IsDimension at (Members ids) 3
-    → AreFaces at (Members ids) qs → 0 < length qs
-some_faces at ids qs d solid faces = let t = first_face at ids d solid in let f = faces.each t.0 t.1 t.2 t.3 in some_member qs f.0 f.1
-
 pub body_is_surface : BodyIsSurface
 body_is_surface at ids b d body = dite (ℕ_discrete b.dim 3) (λ e. solid (subst (IsDimension at (Members ids)) e body.dim)) (λ n. inr (
   (λ s. n (one_dimension at (Members ids) b.dim 3 body.dim s)),
@@ -229,8 +226,7 @@ body_is_surface at ids b d body = dite (ℕ_discrete b.dim 3) (λ e. solid (subs
 ))
   where
     solid : IsDimension at (Members ids) 3 → IsHullSurface at (Members ids) b.polygons
-    solid s = let f = faces_of at ids b s body in inl (s, faces_surface at ids b.polygons d s f (some_faces at ids b.polygons d s f))
+    solid s = inl (s, faces_surface at ids b.polygons d s (faces_of at ids b s body))
 
 pub fans_are_surface : FansAreSurface
-fans_are_surface at ids b d s body =
-    let f = faces_of at ids b s body in inl (s, fans_surface at ids b.polygons d s f (some_faces at ids b.polygons d s f))
+fans_are_surface at ids b d s body = inl (s, fans_surface at ids b.polygons d s (faces_of at ids b s body))

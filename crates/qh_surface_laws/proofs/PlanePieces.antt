@@ -127,7 +127,8 @@ begun at ids qs d solid are face is = by (some_corners at ids d face is)
   where
     by : (i j k : ℕ) × BeginsWith face i j k × HasFace at (Members ids) face i j k → Begun at ids qs face
     by (i, j, k, (r, e), (plane, f)) =
-        let o : OverFace at ids qs i j k (i ∷ j ∷ k ∷ r) = record { distinct = d; solid = solid; are = are; plane = plane; polygon = subst (IsFacePolygon at (Members ids) i j k) e f } in
+        let p = subst (IsFacePolygon at (Members ids) i j k) e f in
+        let o : OverFace at ids qs i j k (i ∷ j ∷ k ∷ r) = record { distinct = d; solid = solid; are = are; plane = plane; polygon = p } in
         record { i = i; j = j; k = k; r = r; is = e; over = o }
 
 module _ {at : ℕ → Vector} {ids : List ℕ} {qs : List (List ℕ)} {i j k : ℕ} {F : List ℕ} (c : OverFace at ids qs i j k F) where

@@ -1,7 +1,7 @@
 -- How often a step is taken by lists of steps and by polygons, and sums over steps of what changes its sign with a step.
 use Rattle.std.proofs.Common.{◌≡◌, ℕ, ◌+◌, ◌<◌, ◌≤◌, arith, refl, sym, ap, subst, ◌∙◌, inl, inr, ⊎_elim, ◌⊎◌, List, [], ◌∷◌, ◌++◌, Bool, true, map, false, cond}
 use Rattle.std.proofs.lemmas.{Bool.cases_Bool, Bool.cases_lt, Int.ints}
-use Rattle.std.specs.{List.flat_map, Prelude.filter, Prelude.ℤ, Prelude.pos, Prelude.◌+ℤ◌, Prelude.◌-ℤ◌, Prelude.neg_ℤ}
+use Rattle.std.specs.{List.flat_map, Prelude.◌↔◌, Prelude.filter, Prelude.ℤ, Prelude.pos, Prelude.◌+ℤ◌, Prelude.◌-ℤ◌, Prelude.neg_ℤ}
 use Rattle.qh_model.specs.contract.ClosedPolygons.{steps_along, steps_round, AreClosed, step_count}
 use Rattle.qh_model.specs.contract.ClosedSurface.{is_edge}
 use Rattle.qh_model.specs.headline.{Polygon.FollowsAlong, Polygon.Follows, Sets.In, Sets.Once}
@@ -9,6 +9,12 @@ use Rattle.qh_model.proofs.Decisions.{Decided, test, told, holds, contrary, same
 use Rattle.qh_model.proofs.{lists.Filters.of_filter, lists.Images.in_map, lists.Joined.of_flat_map, lists.Joined.once_append, polygons.Steps.on_round}
 use Rattle.qh_model.proofs.closed_surfaces.Sums.{count, count-is, sum_z, count_kept, sum_z-same_counts}
 use Rattle.qh_model.proofs.closed_surfaces.SignedVolume.{edge_tests, back, is_edge-back}
+
+-- tests that are passed together
+pub alike_tests : (a b : Bool) → (a ≡ true) ↔ (b ≡ true) → a ≡ b
+alike_tests true b h = sym (h.0 refl)
+alike_tests false true h = h.1 refl
+alike_tests false false h = refl
 
 -- ---- how often a pair stands in a list
 abbrev pub times : ℕ → ℕ → List (ℕ × ℕ) → ℕ
