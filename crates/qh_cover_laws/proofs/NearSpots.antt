@@ -141,7 +141,7 @@ module _ (at : ℕ → Vector) (i j k : ℕ) (r : List ℕ) (t : AllTurn (cross 
       rises p (inl e) = subst (λ q. Rises q (numbers at i j k s) v₀) (sym e) (inl first_number)
         where
           first_number : pos 0 <ℤ dot (triple (pos 1) (pos 0) (pos 0)) (numbers at i j k s)
-          first_number = let m = mul-pos (left n (at i) (at j) (at k)) (pos s.scale) first (scale-positive n at s) in omega (arith, ints, m)
+          first_number = let m = mul-pos (left n (at i) (at j) (at k)) (pos s.scale) first (scale-positive s) in omega (arith, ints, m)
       rises p (inr m) = ⊎_elim (λ h. old (of_chosen IsLeft left_or_not form p (pairs F) h)) (λ h. rise p h)
           (of_append (chosen IsLeft left_or_not form (pairs F)) extra p m)
         where

@@ -83,7 +83,7 @@ module _ (n : Vector) (at : ℕ → Vector) (s : Spot) where
     not_negative = false_from_ne_true (all_three (p u a) (p w u) (p a w)) (λ e.
         let one = and_parts (p u a) (p w u && p a w) e in
         let two = and_parts (p w u) (p a w) one.1 in
-        let area = mul-pos (pos s.scale) (L a u w) (scale-positive n at s) auw in
+        let area = mul-pos (pos s.scale) (L a u w) (scale-positive s) auw in
         let ua = above_is (T u a) one.0 in let wu = above_is (T w u) two.0 in let aw = above_is (T a w) two.1 in
         omega (arith, ints, area, ua, wu, aw, spot_turns-add n at a u w s, spot_turn-back n at a u s, spot_turn-back n at u w s, spot_turn-back n at w a s))
 

@@ -5,8 +5,7 @@ use Rattle.std.specs.Prelude.{◌↔◌, ℤ, pos, ◌+ℤ◌, ◌*ℤ◌, ◌�
 use Rattle.qh_model.specs.{headline.Predicates.cross, headline.Predicates.vol, headline.Predicates.left, headline.Vector.Vector, headline.Vector.minus}
 use Rattle.qh_model.specs.{headline.Vector.dot, headline.Vector.cross_product, headline.Vector.origin, laws.FaceLaws.IsAlong}
 use Rattle.qh_model.proofs.polygons.PlaneTurns.{parallel_dot, level_parallel}
-use Rattle.qh_model.proofs.algebra.{Integers.zero_mul}
-use Rattle.qh_model.proofs.algebra.Order.{cancel-zero, cancel-nonpos, product_zero, mul-nonneg_nonpos, positive_le}
+use Rattle.qh_model.proofs.algebra.{Integers.zero_mul, Order.cancel-zero, Order.cancel-nonpos, Order.product_zero, Order.mul-nonneg_nonpos, Order.positive_le}
 use Rattle.qh_model.proofs.algebra.VectorIdentities.{vector_path, dot_comm, vol-dot, vol-first}
 use Rattle.qh_model.proofs.extremes.Directions.{at_least_along, Parallel, parallel_product, square-positive, from_plane, dot_along, positive_along, zero_along}
 use Rattle.qh_convex_laws.proofs.Signs.{above, is_above, above_is}

@@ -4,9 +4,10 @@ use Rattle.std.proofs.lemmas.Int.{ints}
 use Rattle.std.specs.Prelude.{◌-ℤ◌, ℤ, pos, ◌+ℤ◌, ◌*ℤ◌, neg_ℤ, ◌<ℤ◌}
 use Rattle.qh_model.specs.headline.{Predicates.cross, Predicates.left, Vector.minus, Vector.Vector, Vector.dot, Vector.cross_product}
 use Rattle.qh_model.proofs.algebra.Ring.{ring, Expr, Expr.var, Expr.add, Expr.mul, Expr.neg, Expr.con, Expr.sub as less}
-use Rattle.qh_model.proofs.algebra.Order.{product_zero, cancel-zero, mul-pos}
+use Rattle.qh_model.proofs.algebra.Order.{product_zero}
 use Rattle.qh_model.proofs.algebra.VectorIdentities.{dot-minus, left-linear, VE, vec, put, dotE, crossE, subE, leftE}
 use Rattle.qh_polygon.proofs.LinesAndPlanes.{between_eq}
+use Rattle.qh_surface_laws.proofs.ConvexLists.{none_back}
 use Rattle.qh_cover_laws.specs.contract.Covering.{Spot, way_to, spot_turn}
 
 -- from a corner to the spot, of expressions: the spot is vector 1, its scale the variable k
@@ -20,10 +21,6 @@ toE k u = record {
 -- the turn of the spot, of expressions: the normal is vector 0
 abbrev spotE : ℕ → VE → VE → Expr
 spotE k u v = dotE (crossE (subE v u) (toE k u)) (vec 0)
-
--- the turn of two vectors about n
-abbrev round_n : Vector → Vector → Vector → ℤ
-round_n n p q = dot (cross_product p q) n
 
 -- from the other corner it is the other turn
 pub spot_turn-back : (n : Vector) (at : ℕ → Vector) (u v : ℕ) (s : Spot) → spot_turn n at v u s ≡ neg_ℤ (spot_turn n at u v s)
@@ -41,47 +38,8 @@ spot_turns-add n at u v w s =
     (mul (var 15) (leftE (vec 0) (vec 2) (vec 3) (vec 4)))
     (add (spotE 15 (vec 2) (vec 3)) (add (spotE 15 (vec 3) (vec 4)) (spotE 15 (vec 4) (vec 2)))) refl
 
--- by the ways from both corners to the spot
-spot_turn-ways : (n : Vector) (at : ℕ → Vector) (u v : ℕ) (s : Spot)
-    → pos s.scale *ℤ spot_turn n at u v s ≡ round_n n (way_to (at u) s) (way_to (at v) s)
-unfolding spot_turn
-spot_turn-ways n at u v s =
-    ring (put n (put s.point (put (at u) (put (at v) (pos s.scale ∷ [])))))
-    (mul (var 12) (spotE 12 (vec 2) (vec 3))) (dotE (crossE (toE 12 (vec 2)) (toE 12 (vec 3))) (vec 0)) refl
-
--- four ways
-four_ways : (n c x y z : Vector)
-    → round_n n c x *ℤ round_n n y z +ℤ (round_n n c y *ℤ round_n n z x +ℤ round_n n c z *ℤ round_n n x y) ≡ pos 0
-four_ways n c x y z =
-    let t = λ (i j : ℕ). dotE (crossE (vec i) (vec j)) (vec 0) in
-    ring (put n (put c (put x (put y (put z [])))))
-    (add (mul (t 1 2) (t 3 4)) (add (mul (t 1 3) (t 4 2)) (mul (t 1 4) (t 2 3)))) (con (pos 0)) refl
-
--- products of a scale's square
-squares : (m a b c d e f : ℤ) → m *ℤ m *ℤ (a *ℤ b +ℤ (c *ℤ d +ℤ e *ℤ f)) ≡ m *ℤ a *ℤ (m *ℤ b) +ℤ (m *ℤ c *ℤ (m *ℤ d) +ℤ m *ℤ e *ℤ (m *ℤ f))
-squares m a b c d e f =
-    let p = λ (i j : ℕ). mul (var i) (var j) in
-    ring (m ∷ a ∷ b ∷ c ∷ d ∷ e ∷ f ∷ [])
-    (mul (p 0 0) (add (p 1 2) (add (p 3 4) (p 5 6))))
-    (add (mul (p 0 1) (p 0 2)) (add (mul (p 0 3) (p 0 4)) (mul (p 0 5) (p 0 6)))) refl
-
-module _ (n : Vector) (at : ℕ → Vector) (s : Spot) where
-  abbrev T : ℕ → ℕ → ℤ
-  T u v = spot_turn n at u v s
-
-  abbrev L : ℕ → ℕ → ℕ → ℤ
-  L x y z = left n (at x) (at y) (at z)
-
-  pub scale-positive : pos 0 <ℤ pos s.scale
-  scale-positive = let h = s.some in omega (arith, ints, h)
-
-  -- of four corners, the products of the turns in pairs
-  pub turn_pairs : (c x y z : ℕ) → T c x *ℤ T y z +ℤ (T c y *ℤ T z x +ℤ T c z *ℤ T x y) ≡ pos 0
-  turn_pairs c x y z = cancel-zero (pos s.scale *ℤ pos s.scale) _ (mul-pos (pos s.scale) (pos s.scale) scale-positive scale-positive)
-      (squares (pos s.scale) (T c x) (T y z) (T c y) (T z x) (T c z) (T x y)
-      ∙ rw (spot_turn-ways n at c x s, spot_turn-ways n at y z s, spot_turn-ways n at c y s)
-      (rw (spot_turn-ways n at z x s, spot_turn-ways n at c z s, spot_turn-ways n at x y s)
-      (four_ways n (way_to (at c) s) (way_to (at x) s) (way_to (at y) s) (way_to (at z) s))))
+pub scale-positive : (s : Spot) → pos 0 <ℤ pos s.scale
+scale-positive s = let h = s.some in omega (arith, ints, h)
 
 -- ---- what is weighed by the turns round three corners
 -- the scalar products with the ways from two points
@@ -167,3 +125,29 @@ turns_mixed n at s a v w x y =
 
     across : dot m n ≡ pos 0
     across = ring (put n (put (minus (at y) (at x)) [])) (dotE (crossE (vec 0) (vec 1)) (vec 0)) (con (pos 0)) refl
+
+-- so of four corners, the products of the turns in pairs add up to nothing
+pub turn_pairs : (n : Vector) (at : ℕ → Vector) (s : Spot) (c x y z : ℕ) → spot_turn n at c x s *ℤ spot_turn n at y z s
+    +ℤ (spot_turn n at c y s *ℤ spot_turn n at z x s +ℤ spot_turn n at c z s *ℤ spot_turn n at x y s) ≡ pos 0
+turn_pairs n at s c x y z = pairs (pos s.scale) (L c y z) (L c x y) (L c x z) (T c x) (T c y) (T c z) (T y z) (T x y) (T z x)
+    (turns_mixed n at s c y z c x ∙ omega (arith, ints, product_zero (T y z) (L c x c) (none_back n at c x), ap (λ d. d *ℤ L c x y) (spot_turn-back n at c z s)))
+    (omega (arith, ints, spot_turns-add n at c y z s, spot_turn-back n at c z s)) (omega (arith, ints, spot_turns-add n at c x y s, spot_turn-back n at c y s))
+    (omega (arith, ints, spot_turns-add n at c x z s, spot_turn-back n at c z s, spot_turn-back n at z x s))
+  where
+    T : ℕ → ℕ → ℤ
+    T u v = spot_turn n at u v s
+
+    L : ℕ → ℕ → ℕ → ℤ
+    L u v w = left n (at u) (at v) (at w)
+
+    pairs : (m l lb lc t cy cz yz xy zx : ℤ) → l *ℤ t ≡ neg_ℤ cz *ℤ lb +ℤ cy *ℤ lc → m *ℤ l ≡ cy +ℤ (yz +ℤ neg_ℤ cz)
+        → m *ℤ lb ≡ t +ℤ (xy +ℤ neg_ℤ cy) → m *ℤ lc ≡ t +ℤ (neg_ℤ zx +ℤ neg_ℤ cz) → t *ℤ yz +ℤ (cy *ℤ zx +ℤ cz *ℤ xy) ≡ pos 0
+    pairs m l lb lc t cy cz yz xy zx e h k j =
+        let p = λ (i j : ℕ). mul (var i) (var j) in
+        ring (t ∷ cy ∷ cz ∷ yz ∷ xy ∷ zx ∷ []) (add (p 0 3) (add (p 1 5) (p 2 4)))
+        (less (mul (add (var 1) (add (var 3) (neg (var 2)))) (var 0)) (add (mul (neg (var 2)) (add (var 0) (add (var 4) (neg (var 1)))))
+        (mul (var 1) (add (var 0) (add (neg (var 5)) (neg (var 2))))))) refl
+        ∙ rw (← h, ← k, ← j) (ring (m ∷ l ∷ lb ∷ lc ∷ t ∷ cy ∷ cz ∷ [])
+        (less (mul (p 0 1) (var 4)) (add (mul (neg (var 6)) (p 0 2)) (mul (var 5) (p 0 3))))
+        (mul (var 0) (less (p 1 4) (add (mul (neg (var 6)) (var 2)) (p 5 3)))) refl)
+        ∙ product_zero m (l *ℤ t -ℤ (neg_ℤ cz *ℤ lb +ℤ cy *ℤ lc)) (omega (arith, ints, e))
