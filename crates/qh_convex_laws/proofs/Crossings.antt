@@ -5,15 +5,15 @@ use Rattle.std.specs.Prelude.{ℤ, pos, ◌+ℤ◌, ◌-ℤ◌}
 use Rattle.qh_convex_laws.proofs.Signs.{same, fits_difference, fits_sum}
 
 -- a test of both truth values
-abbrev both : (Bool → Bool) → Bool
+abbrev pub both : (Bool → Bool) → Bool
 both f = f true && f false
 
 -- what passes it passes for each
-each : (f : Bool → Bool) → both f ≡ true → (b : Bool) → f b ≡ true
+pub each : (f : Bool → Bool) → both f ≡ true → (b : Bool) → f b ≡ true
 each f e true = (and_parts (f true) (f false) e).0
 each f e false = (and_parts (f true) (f false) e).1
 
-abbrev number : Bool → ℕ
+abbrev pub number : Bool → ℕ
 number b = cond b 1 0
 
 -- does an edge cross the way from d to x upwards, where its corners are on the sides a and b, and its signs with d and x are u and v?
@@ -36,11 +36,11 @@ counts_fit a b c u₁ u₂ u₃ v₁ v₂ v₃ =
     (number (crosses b a (not u₁) (not v₁)) + number (crosses c b (not u₂) (not v₂)) + number (crosses a c (not u₃) (not v₃)) + number (u₁ && (u₂ && u₃)))
 
 -- does one follow from the other?
-abbrev gives : Bool → Bool → Bool
+abbrev pub gives : Bool → Bool → Bool
 gives p q = not p || q
 
 -- where it does
-given : (p q : Bool) → gives p q ≡ true → p ≡ true → q ≡ true
+pub given : (p q : Bool) → gives p q ≡ true → p ≡ true → q ≡ true
 given true q e h = e
 given false q e h = cc
 

@@ -21,7 +21,7 @@ use Rattle.qh_convex_laws.proofs.{Cycles.none_ahead, Highest.rise, Highest.rise_
 use Rattle.qh_convex_laws.proofs.{NoneAbove.plusE, OffPoints.plus, Rounds.vol-round, Rounds.vol-outwards, UnderTriangles.above_sum}
 
 -- the scalar products of a sum
-dot-plus : (a b p : Vector) → dot (plus a b) p ≡ dot a p +ℤ dot b p
+pub dot-plus : (a b p : Vector) → dot (plus a b) p ≡ dot a p +ℤ dot b p
 dot-plus a b p = ring (put a (put b (put p []))) (dotE (plusE (vec 0) (vec 1)) (vec 2)) (add (dotE (vec 0) (vec 2)) (dotE (vec 1) (vec 2))) refl
 
 module _ (at : ℕ → Vector) (ids : List ℕ) (ts : List Triple) (z d : Vector) (c : IsLocallyConvex at ts z d) (all : HasAllUnder at ids ts z) where

@@ -1,0 +1,14 @@
+pub mod SpotTurns
+pub mod SpotTriangles
+pub mod SpotFans
+pub mod SpotHeights
+pub mod Covered
+pub mod PlaneSpots
+pub mod NearSpots
+pub mod FaceSpots
+pub mod WholeFaces
+pub mod CoveredFaces
+pub mod SegmentSpots
+pub mod SegmentCounts
+pub mod CoveredSurfaces
+pub mod Examples

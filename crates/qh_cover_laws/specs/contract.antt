@@ -1,0 +1,2 @@
+-- What the laws of covering cite.
+pub mod Covering

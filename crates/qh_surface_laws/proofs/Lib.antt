@@ -1,0 +1,12 @@
+pub mod ConvexLists
+pub mod SharedCorners
+pub mod StepCounts
+pub mod FanSteps
+pub mod FirstFace
+pub mod HullSurface
+pub mod Chains
+pub mod PlanePieces
+pub mod FanAreas
+pub mod FaceWays
+pub mod Areas
+pub mod Volumes

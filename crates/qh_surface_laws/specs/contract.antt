@@ -1,0 +1,2 @@
+-- What the laws of measures cite.
+pub mod Measures

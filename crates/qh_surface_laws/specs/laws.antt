@@ -1,0 +1,3 @@
+-- The laws of surfaces in pieces: which lists are one, and what their pieces measure.
+pub mod MeasureLaws
+pub mod SurfaceLaws
