@@ -12,9 +12,25 @@ def copy_crates(top):
         shutil.copy(name, top / name)
 
 
+# Programs of trials, which are no crates of the repository. They are planted in a copy.
+TRIALS = Path("scripts/trials/programs")
+
+
+def is_of_trials(name):
+    return (TRIALS / name / "needs").is_file()
+
+
+def plant(name, top):
+    """Puts the sources of a program of trials among the crates below a folder."""
+    for file in sorted((TRIALS / name).rglob("*.in")):
+        place = top / "crates" / name / file.relative_to(TRIALS / name).with_suffix("")
+        place.parent.mkdir(parents=True, exist_ok=True)
+        shutil.copy(file, place)
+
+
 def crates_below(names):
     """Returns the crates that these need, themselves among them, each with those that it needs directly."""
-    needs = {}
+    needs = {name: (TRIALS / name / "needs").read_text().split() for name in names if is_of_trials(name)}
     for line in Path("crates.txt").read_text().splitlines():
         head, colon, rest = line.partition(":")
         if colon and not line.startswith("#"):

@@ -8,8 +8,8 @@ BENCH = TOP / "bench"
 PYTHON = TOP / "python"
 PROGRAM = str(TOP / "crates" / "qconvex" / "out" / "qconvex")
 CHECKER = str(TOP / "crates" / "hullcheck" / "out" / "hullcheck")
-PART_WAYS = str(TOP / "crates" / "part_ways" / "out" / "part_ways")
-READ_WAYS = str(TOP / "crates" / "read_ways" / "out" / "read_ways")
+PART_WAYS = str(TOP / "build" / "trials" / "part_ways")
+READ_WAYS = str(TOP / "build" / "trials" / "read_ways")
 
 
 def built(program):

@@ -4,8 +4,8 @@
     scripts/make/programs.py PROGRAM..      from the top of the repository
 
 The script runs `rt ci` over the crates that the programs need and no others, in a copy of the sources below
-`build/programs` that has no wrong bodies and no tests of the programs. The programs come to `crates/PROGRAM/out`, and the
-copy goes. It takes all processors that the script may run on; `taskset` gives it fewer.
+`build/programs` that has no wrong bodies and no tests of the programs. The programs come to `crates/PROGRAM/out`, those of
+trials, whose sources stand in `scripts/trials/programs`, to `build/trials`, and the copy goes. It takes all processors that the script may run on; `taskset` gives it fewer.
 
 What a run passed, `rt` keeps on the machine where it may write beside itself. So a second run proves nothing again, and one
 after a gate over the whole repository proves the programs' own crates alone, which have no tests in the copy. A gate after
@@ -21,10 +21,11 @@ import time
 from pathlib import Path
 
 sys.path.insert(0, str(Path(__file__).resolve().parents[1]))
-from lib.copies import copy_crates, crates_below  # noqa: E402
+from lib.copies import copy_crates, crates_below, is_of_trials, plant  # noqa: E402
 from lib.usage import names_given  # noqa: E402
 
 COPY = Path("build/programs")
+BUILT_TRIALS = Path("build/trials")
 # How a program names its tests.
 TESTS = "#[cfg(test)]\nmod tests;\n"
 
@@ -45,11 +46,15 @@ def make_copy(names):
     # `rt ci` wants the top of a repository.
     (COPY / ".git").mkdir(parents=True)
     copy_crates(COPY)
+    planted = [name for name in names if is_of_trials(name)]
+    for name in planted:
+        plant(name, COPY)
     for folder in (COPY / "crates").iterdir():
         shutil.rmtree(folder / "must-fail" if folder.name in names else folder, ignore_errors=True)
         if (folder / "src/main.rt").exists():
             leave_out_tests(folder / "src")
     wanted = [line for line in Path("crates.txt").read_text().splitlines() if line.partition(":")[0].split(" ")[0] in names]
+    wanted += [f"{name}: {' '.join(names[name])}" for name in planted]
     (COPY / "crates.txt").write_text("".join(f"{line}\n" for line in wanted))
 
 
@@ -96,15 +101,15 @@ def main():
         sys.exit("name a program: scripts/make/programs.py PROGRAM..")
     needs = crates_below(programs)
     for name in programs:
-        if not Path("crates", name, "src/main.rt").exists():
+        if not (is_of_trials(name) or Path("crates", name, "src/main.rt").exists()):
             sys.exit(f"{name} is no program")
     make_copy(needs)
     try:
         status = passed()
         for name in programs if status == 0 else ():
-            made = Path("crates", name, "out")
-            made.mkdir(exist_ok=True)
-            shutil.copy(COPY / made / name, made / name)
+            to = BUILT_TRIALS if is_of_trials(name) else Path("crates", name, "out")
+            to.mkdir(parents=True, exist_ok=True)
+            shutil.copy(COPY / "crates" / name / "out" / name, to / name)
     finally:
         shutil.rmtree(COPY, ignore_errors=True)
     sys.exit(status)

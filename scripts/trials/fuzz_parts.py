@@ -3,7 +3,7 @@
 
     scripts/trials/fuzz_parts.py [--cases N] [--seed N] [--program PATH]      from the top of the repository
 
-The program is `crates/part_ways`, which `scripts/make/programs.py part_ways` builds. It cuts each set into 2 to
+The program is `scripts/trials/programs/part_ways`, which `scripts/make/programs.py part_ways` builds. It cuts each set into 2 to
 16 parts, however small it is, and says whether the hull of the parts, all joined at their seams, came out, and whether
 it is that of one thread: in dimension, extreme ids, faces and edges. It says the same of the parts that are joined
 where that seems to pay. The sets are those of fuzz_hulls.py, and larger ones: lattices, repeats, planes and lines with

@@ -3,7 +3,7 @@
 
     scripts/trials/fuzz_ways.py [--cases N] [--seed N] [--program PATH]      from the top of the repository
 
-The program is `crates/read_ways`, which `scripts/make/programs.py read_ways` builds. It reads each file by
+The program is `scripts/trials/programs/read_ways`, which `scripts/make/programs.py read_ways` builds. It reads each file by
 `read_form` and three times by `read_form_sizes`, each time in other sizes, and says where they differ. The independent
 reader is lib/file_oracle.py and the mutations are those of fuzz_files.py; the files are longer, of up to 60 points, so
 that each thread reads some points. Half of them are OFF files.

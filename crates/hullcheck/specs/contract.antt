@@ -1,4 +1,4 @@
--- What public clauses cite: all that a reader of the program has to believe, beside qh_judge, qh_check and qh_faces.
+-- What public clauses cite: all that a reader of the program has to believe, beside qh_check, qh_check and qh_faces.
 pub mod Checking
 pub mod CommandLine
 pub mod Judging

@@ -2,13 +2,13 @@
 ghost use Rattle.std.specs.Prelude.{◌<◌, ◌≤◌, ◌-◌, ◌^◌, IfErr, IfOk, length};
 ghost use Rattle.qh_model.specs.declared.limits.TheConstants.{POINT_LIMIT};
 ghost use Rattle.qh_read.specs.headline.SourceBytes.{GivesAll};
-ghost use Rattle.qh_judge.specs.contract.Judging.{IsJudgement};
+ghost use Rattle.qh_check.specs.contract.Judging.{IsJudgement};
 ghost use Rattle.hullcheck.specs.contract.Checking.{IsCheckFault};
 ghost use Rattle.hullcheck.specs.contract.Judging.{IsTold, named_points};
 
 use crate::fault::Fault;
 use qh_faces::{Faces, Layout, Reading, read_faces};
-use qh_judge::{Judgement, judge_faces};
+use qh_check::{Judgement, judge_faces};
 use qh_model::{Form, Memory, Point};
 use qh_read::{Source, read_form_threads};
 use std::alloc::Global;

@@ -1,6 +1,6 @@
 //! The program `hullcheck`: whether faces that any program wrote are the convex hull of points.
 //!
-//! `command_line` says what is asked, `judging` reads points and faces and asks `judge_faces` of qh_judge,
+//! `command_line` says what is asked, `judging` reads points and faces and asks `judge_faces` of qh_check,
 //! `statuses` says with which status the program ends, and `program` runs this between files and standard
 //! streams.
 #![tactic(auto)]

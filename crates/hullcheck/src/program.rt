@@ -12,7 +12,7 @@ use crate::command_line::{Settings, settings_of};
 use crate::fault::Fault;
 use crate::judging::check_streams;
 use crate::statuses::status_of;
-use qh_judge::Judgement;
+use qh_check::Judgement;
 use qh_read::StdSource;
 use std::alloc::Global;
 use std::io::{ErrorKind, Read};

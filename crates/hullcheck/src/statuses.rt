@@ -2,8 +2,7 @@
 ghost use Rattle.std.specs.Prelude.{◌≡◌};
 ghost use Rattle.hullcheck.specs.contract.Statuses.{judgement_status};
 
-use qh_check::SurfaceVerdict;
-use qh_judge::Judgement;
+use qh_check::{Judgement, SurfaceVerdict};
 
 /// Returns the exit status of a judgement: 0 if all is right, else 1.
 pub fn status_of(judgement: &Judgement) -> u8

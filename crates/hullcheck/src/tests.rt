@@ -2,9 +2,8 @@
 use crate::command_line::settings_of;
 use crate::fault::Fault;
 use crate::judging::check_streams;
-use qh_check::SurfaceVerdict;
+use qh_check::{Judgement, SurfaceVerdict};
 use qh_faces::{Layout, Reading, Turn};
-use qh_judge::Judgement;
 use qh_model::ReadFault;
 use qh_read::MemSource;
 use std::alloc::{AllocError, Global};

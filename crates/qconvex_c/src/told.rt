@@ -2,7 +2,7 @@
 ghost use Rattle.std.specs.Prelude.{◌≡◌, ◌≤◌, ◌<◌, IfOk, length};
 ghost use Rattle.std.specs.List.{All};
 ghost use Rattle.qh_check.specs.declared.flaw.SurfaceVerdict.TheVariants.{NoPiece};
-ghost use Rattle.qh_judge.specs.declared.judgement.Judgement.TheVariants.{Told};
+ghost use Rattle.qh_check.specs.declared.judgement.Judgement.TheVariants.{Told};
 ghost use Rattle.qh_model.specs.contract.Places.{IsPlace};
 ghost use Rattle.qh_model.specs.declared.limits.TheConstants.{POINT_LIMIT};
 ghost use Rattle.qconvex_c.specs.contract.Checked.{IsVerdictOn, of_kind, on_edge, on_face, verdict_of};
@@ -12,8 +12,7 @@ use crate::cut_faces::cut_faces;
 use crate::given::{Given, points_of};
 use crate::kind::{ABOVE, NO_PLANE, OPEN, OTHER_FACE, OTHERS, RIGHT, STRANGER, TWICE};
 use crate::verdict::Verdict;
-use qh_check::{FaceFault, SurfaceVerdict};
-use qh_judge::{Judgement, judge_faces_alone};
+use qh_check::{FaceFault, Judgement, SurfaceVerdict, judge_faces_alone};
 use qh_model::Memory;
 use std::alloc::Global;
 

@@ -1,9 +1,13 @@
 pub mod FaultCases
 pub mod FirstCorners
 pub mod HullPieces
+pub mod ImageVerdicts
+pub mod Judgements
 pub mod Levels
-pub mod Pieces
 pub mod MetBehind
 pub mod MetLists
+pub mod OwnIndices
+pub mod Pieces
+pub mod SharpSurfaces
 pub mod SurfaceVerdicts
 pub mod Verdicts

@@ -1,4 +1,6 @@
 -- What the contracts of public functions cite.
 pub mod Claims
+pub mod Judging
+pub mod Naming
 pub mod Pieces
 pub mod Surfaces

@@ -1,9 +1,10 @@
-//! A checker of hulls: whether polygons are the surface of the hull of a set of ids of distinct points, and what is wrong
-//! where they are not.
+//! A checker of hulls: whether faces are the surface of the hull of points, and what is wrong where they are not.
 //!
-//! [`check_surface`] makes the hull of the set. It looks each polygon up among the faces of that hull (`search`, by
-//! `face_table`), and counts the steps from corner to corner (`qh_steps`). A polygon that is not found is judged by the
-//! plane of its first three corners (`faces`). Nobody needs to know how the polygons were found.
+//! [`judge_faces`] takes faces whose corners are indices of points of any list, such as the vertices of a file. It names
+//! their corners by the distinct ids at their places (`naming`, by `positions`), and maps a long or flat set first
+//! (`verdicts`). [`check_surface`] then makes the hull of the ids, looks each polygon up among its faces (`search`, by
+//! `face_table`), and counts the steps from corner to corner (`qh_steps`). A polygon that is not found is judged by the plane of
+//! its first three corners (`faces`). Nobody needs to know how the polygons were found.
 #![tactic(auto)]
 
 mod claim;
@@ -15,11 +16,19 @@ mod fault;
 mod findings;
 mod flaw;
 mod hull_faces;
+mod judgement;
+mod judging;
+mod naming;
+mod own_indices;
+mod positions;
 mod rounds;
 mod search;
 mod surfaces;
+mod verdicts;
 
 pub use claim::Claim;
 pub use fault::FaceFault;
 pub use flaw::SurfaceVerdict;
+pub use judgement::Judgement;
+pub use judging::{judge_faces, judge_faces_alone};
 pub use surfaces::check_surface;

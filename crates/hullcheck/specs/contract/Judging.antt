@@ -6,8 +6,8 @@ use Rattle.qh_faces.specs.declared.reading.Layout.{Layout}
 use Rattle.qh_faces.specs.declared.reading.Layout.TheVariants.{Off, Counted, Lines}
 use Rattle.qh_faces.specs.declared.reading.Reading.{Reading}
 use Rattle.qh_faces.specs.contract.FaceFiles.{ReadsFaces}
-use Rattle.qh_judge.specs.declared.judgement.Judgement.{Judgement}
-use Rattle.qh_judge.specs.contract.Judging.{IsJudgement}
+use Rattle.qh_check.specs.declared.judgement.Judgement.{Judgement}
+use Rattle.qh_check.specs.contract.Judging.{IsJudgement}
 use Rattle.hullcheck.specs.contract.CommandLine.{Asked, asked_by}
 
 -- the points that the numbers of a file are indices of: its vertices, or the points of the set

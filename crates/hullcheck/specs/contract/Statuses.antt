@@ -5,8 +5,8 @@ use Rattle.qh_model.specs.declared.read_fault.ReadFault.TheVariants as read
 use Rattle.qh_check.specs.declared.flaw.SurfaceVerdict.TheVariants.{Right, OtherPolygons, NoPiece, Open, Twice}
 use Rattle.hullcheck.specs.declared.fault.Fault.{Fault}
 use Rattle.hullcheck.specs.declared.fault.Fault.TheVariants.{Usage, Memory, Device, Points, Faces}
-use Rattle.qh_judge.specs.declared.judgement.Judgement.{Judgement}
-use Rattle.qh_judge.specs.declared.judgement.Judgement.TheVariants.{Told, Stranger}
+use Rattle.qh_check.specs.declared.judgement.Judgement.{Judgement}
+use Rattle.qh_check.specs.declared.judgement.Judgement.TheVariants.{Told, Stranger}
 use Rattle.hullcheck.specs.contract.Judging.{IsToldOfSome}
 
 -- the faces are the hull

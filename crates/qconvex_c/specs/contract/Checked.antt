@@ -7,10 +7,10 @@ use Rattle.qh_model.specs.headline.Vector.{Vector}
 use Rattle.qh_check.specs.contract.Surfaces.{IsHullSurface}
 use Rattle.qh_check.specs.declared.flaw.SurfaceVerdict.TheVariants.{Right, OtherPolygons, NoPiece, Open, Twice}
 use Rattle.qh_check.specs.declared.verdict.FaceFault.TheVariants.{NoPlane, Above, OtherFace}
-use Rattle.qh_judge.specs.contract.Judging.{IsJudgement}
-use Rattle.qh_judge.specs.contract.Naming.{AreNamedFaces}
-use Rattle.qh_judge.specs.declared.judgement.Judgement.{Judgement}
-use Rattle.qh_judge.specs.declared.judgement.Judgement.TheVariants.{Told, Stranger}
+use Rattle.qh_check.specs.contract.Judging.{IsJudgement}
+use Rattle.qh_check.specs.contract.Naming.{AreNamedFaces}
+use Rattle.qh_check.specs.declared.judgement.Judgement.{Judgement}
+use Rattle.qh_check.specs.declared.judgement.Judgement.TheVariants.{Told, Stranger}
 use Rattle.qconvex_c.specs.contract.Codes.{QCONVEX_RIGHT, QCONVEX_STRANGER, QCONVEX_NO_PLANE, QCONVEX_ABOVE, QCONVEX_OTHER_FACE}
 use Rattle.qconvex_c.specs.contract.Codes.{QCONVEX_OPEN, QCONVEX_TWICE, QCONVEX_OTHERS}
 use Rattle.qconvex_c.specs.contract.Sets.{sets_in}

@@ -1,0 +1,24 @@
+-- What the check of polygons tells of the faces that they are.
+use Rattle.std.proofs.Common.{ℕ, List}
+use Rattle.qh_model.specs.headline.DistinctIds.{AreDistinctIds}
+use Rattle.qh_model.specs.headline.Vector.{Vector}
+use Rattle.qh_model.specs.contract.IdSets.{IsIdSet}
+use Rattle.qh_plane.proofs.DistinctLists.{id_set}
+use Rattle.qh_check.specs.declared.flaw.SurfaceVerdict.{SurfaceVerdict}
+use Rattle.qh_check.specs.contract.Surfaces.{IsSurfaceVerdictOf}
+use Rattle.qh_check.specs.contract.Judging.{IsTold}
+use Rattle.qh_check.specs.contract.Naming.{AreNamedFaces}
+
+-- distinct ids are ids of distinct points, so the verdict on the polygons is that on the faces
+pub told : (pts named : List Vector) (faces : List (List ℕ)) (ids : List ℕ) (polygons : List (List ℕ)) (v : SurfaceVerdict)
+    → AreDistinctIds pts ids → AreNamedFaces pts ids named faces polygons
+    → (IsIdSet pts ids → IsSurfaceVerdictOf pts ids polygons v) → IsTold pts named faces v
+told pts named faces ids polygons v distinct same tells =
+    let verdict = tells (id_set pts ids distinct) in record {
+      ids = ids;
+      distinct = distinct;
+      polygons = polygons;
+      same = same;
+      right = verdict.right;
+      reason = verdict.reason;
+    }

@@ -1,0 +1,32 @@
+-- Faces whose corners are distinct ids name themselves.
+use Rattle.std.proofs.Common.{◌≡◌, ℕ, ◌<◌, arith, All, List, [], get_or, length, refl, sym, subst, ◌∙◌}
+use Rattle.std.proofs.lemmas.List.{get_or_default}
+use Rattle.qh_model.specs.headline.Vector.{Vector, origin}
+use Rattle.qh_model.specs.headline.Predicates.{place}
+use Rattle.qh_model.specs.headline.Sets.{In}
+use Rattle.qh_model.proofs.Members.{All-In, In-get_or}
+use Rattle.qh_check.specs.contract.Naming.{AreNamed, AreNamedFaces, IsNamed}
+use Rattle.qh_check.specs.steps.OwnIndices.{AreAllIndices, AreSamePoints}
+
+-- each face does
+pub own_faces : (pts : List Vector) (ids : List ℕ) (named : List Vector) (faces : List (List ℕ)) → AreAllIndices ids (length pts) → AreSamePoints pts named
+    → ((k : ℕ) → k < length faces → All (λ i. i < length pts) (get_or faces k [])) → AreNamedFaces pts ids named faces faces
+own_faces pts ids named faces all same low = record { count = refl; each = λ k l. own (get_or faces k []) (low k l) }
+  where
+    itself : (i : ℕ) → i < length pts → IsNamed pts ids named i i
+    itself i l = (
+      let e = same.size in omega (arith, e, l),
+      (subst (λ (x : ℕ). In x ids) (all.each i l) (In-get_or ids i 0 (let e = all.size in omega (arith, e, l))), same.each i l),
+    )
+
+    own : (face : List ℕ) → All (λ i. i < length pts) face → AreNamed pts ids named face face
+    own face below = record {
+      count = refl;
+      each = λ k l. itself (get_or face k 0) (All-In (λ i. i < length pts) face (get_or face k 0) below (In-get_or face k 0 l));
+    }
+
+-- elements of two lists at an index that are the same are the same places
+pub same_place : (pts named : List Vector) (k : ℕ) (a b : Vector) → k < length pts → k < length named → a ≡ get_or pts k a → b ≡ get_or named k b
+    → a ≡ b → place pts k ≡ place named k
+unfolding place
+same_place pts named k a b l m p q e = sym (p ∙ get_or_default pts k a origin l) ∙ e ∙ q ∙ get_or_default named k b origin m

@@ -1,0 +1,34 @@
+-- What is told of faces. This project's own.
+use Rattle.std.specs.Prelude.{ℕ, ◌≡◌, ◌<◌, ◌↔◌, List, [], length, slice_index_or}
+use Rattle.qh_model.specs.headline.Vector.{Vector}
+use Rattle.qh_model.specs.headline.DistinctIds.{AreDistinctIds}
+use Rattle.qh_model.specs.headline.Predicates.{place}
+use Rattle.qh_model.specs.headline.Sets.{Members}
+use Rattle.qh_check.specs.declared.flaw.SurfaceVerdict.{SurfaceVerdict}
+use Rattle.qh_check.specs.declared.flaw.SurfaceVerdict.TheVariants.{Right}
+use Rattle.qh_check.specs.contract.Surfaces.{IsHullSurface, IsSurfaceReason}
+use Rattle.qh_check.specs.declared.judgement.Judgement.{Judgement}
+use Rattle.qh_check.specs.declared.judgement.Judgement.TheVariants.{Told, Stranger}
+use Rattle.qh_check.specs.contract.Naming.{AreNamedFaces, HasStranger}
+
+-- the verdict is `Right` just where the faces, named by the distinct ids of the points, are the surface of their hull;
+-- and what it says is so
+pub record IsTold (pts named : List Vector) (faces : List (List ℕ)) (v : SurfaceVerdict) : Type 0 where
+  pub ids : List ℕ
+  pub distinct : AreDistinctIds pts ids
+  pub polygons : List (List ℕ)
+  pub same : AreNamedFaces pts ids named faces polygons
+  pub right : (v ≡ Right) ↔ IsHullSurface (place pts) (Members ids) polygons
+  pub reason : IsSurfaceReason (place pts) (Members ids) polygons v
+
+-- the face at a position has a corner where none of the points lies
+pub record IsStrangeFace (pts named : List Vector) (faces : List (List ℕ)) (n : ℕ) : Type 0 where
+  pub ids : List ℕ
+  pub distinct : AreDistinctIds pts ids
+  pub there : n < length faces
+  pub stranger : HasStranger pts ids named (slice_index_or faces n [])
+
+-- what is told of faces whose corners are numbers of points of a list
+abbrev pub IsJudgement : List Vector → List Vector → List (List ℕ) → Judgement → Type 0
+IsJudgement pts named faces (Told v) = IsTold pts named faces v
+IsJudgement pts named faces (Stranger n) = IsStrangeFace pts named faces n

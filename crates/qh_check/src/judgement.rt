@@ -1,0 +1,23 @@
+//! The judgement on faces.
+use crate::flaw::SurfaceVerdict;
+use std::fmt;
+
+/// A judgement on faces.
+#[derive(Clone, Copy, Debug, PartialEq, Eq)]
+pub enum Judgement {
+    /// The verdict on the surface.
+    Told(SurfaceVerdict),
+    /// The face at this position has a corner that is not one of the points.
+    Stranger(usize),
+}
+
+impl fmt::Display for Judgement {
+    fn fmt<W: fmt::Write>(&self, f: &mut fmt::Formatter<W>) -> fmt::Result {
+        match self {
+            Judgement::Told(verdict) => write!(f, "{verdict}"),
+            Judgement::Stranger(position) => {
+                write!(f, "face {position}: a corner of it is none of the points")
+            }
+        }
+    }
+}

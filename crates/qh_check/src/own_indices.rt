@@ -1,0 +1,65 @@
+//! Faces whose corners are the distinct ids themselves, so that no corner has to be renamed.
+ghost use Rattle.std.specs.Prelude.{◌<◌, All, IsTrue};
+ghost use Rattle.qh_check.specs.contract.Naming.{AreNamedFaces};
+ghost use Rattle.qh_check.specs.steps.OwnIndices.{AreAllIndices, AreSamePoints};
+
+use crate::naming::are_same;
+use qh_model::{Id, Point, Polygon};
+
+/// Returns true if ids are all numbers below `count`, in order.
+fn are_all_indices(ids: &[Id], count: usize) -> bool
+    ensures { IsTrue result → AreAllIndices ids.now count }
+{
+    if ids.len() != count {
+        return false;
+    }
+    for position in 0..ids.len() {
+        if ids[position].index() != position {
+            return false;
+        }
+    }
+    true
+}
+
+/// Returns true if two lists have the same points in the same order.
+fn are_same_points(pts: &[Point], named: &[Point]) -> bool
+    ensures { IsTrue result → AreSamePoints pts.now named.now }
+{
+    if pts.len() != named.len() {
+        return false;
+    }
+    for position in 0..pts.len() {
+        if !are_same(pts[position], named[position]) {
+            return false;
+        }
+    }
+    true
+}
+
+/// Returns true if each corner of a face is below `count`.
+fn are_below(face: &Polygon, count: usize) -> bool
+    ensures { IsTrue result → All (λ i. i < count) face.now }
+{
+    for id in face.ids() {
+        if id.index() >= count {
+            return false;
+        }
+    }
+    true
+}
+
+/// Returns true if the corners of faces are indices of points, all of them distinct ids, so that the faces are the
+/// polygons that they name.
+pub fn are_own(pts: &[Point], ids: &[Id], named: &[Point], faces: &[Polygon]) -> bool
+    ensures { IsTrue result → AreNamedFaces pts.now ids.now named.now faces.now faces.now }
+{
+    if !are_all_indices(ids, pts.len()) || !are_same_points(pts, named) {
+        return false;
+    }
+    for face in faces {
+        if !are_below(face, pts.len()) {
+            return false;
+        }
+    }
+    true
+}

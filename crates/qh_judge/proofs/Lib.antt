@@ -1,4 +1,0 @@
-pub mod ImageVerdicts
-pub mod Judgements
-pub mod OwnIndices
-pub mod SharpSurfaces

@@ -1,3 +1,0 @@
--- What public clauses cite.
-pub mod Judging
-pub mod Naming
