@@ -7,8 +7,8 @@ ghost use Rattle.hullcheck.specs.contract.Checking.{IsCheckFault};
 ghost use Rattle.hullcheck.specs.contract.Judging.{IsTold, named_points};
 
 use crate::fault::Fault;
-use qh_faces::{Faces, Layout, Reading, read_faces};
 use qh_check::{Judgement, judge_faces};
+use qh_faces::{Faces, Layout, Reading, read_faces};
 use qh_model::{Form, Memory, Point};
 use qh_read::{Source, read_form_threads};
 use std::alloc::Global;

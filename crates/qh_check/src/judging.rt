@@ -4,11 +4,11 @@ ghost use Rattle.qh_model.specs.declared.limits.TheConstants.{POINT_LIMIT};
 ghost use Rattle.qh_model.specs.headline.DistinctIds.{AreDistinctIds};
 ghost use Rattle.qh_check.specs.contract.Judging.{IsJudgement};
 
+use crate::claim::Claim;
 use crate::judgement::Judgement;
+use crate::mapped::verdict_on;
 use crate::naming::polygons_of;
 use crate::own_indices::are_own;
-use crate::verdicts::verdict_on;
-use crate::claim::Claim;
 use qh_model::{Id, Memory, Point, Polygon};
 use qh_plane::{distinct_alone, distinct_in_threads};
 use std::alloc::Global;

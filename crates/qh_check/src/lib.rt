@@ -2,7 +2,7 @@
 //!
 //! [`judge_faces`] takes faces whose corners are indices of points of any list, such as the vertices of a file. It names
 //! their corners by the distinct ids at their places (`naming`, by `positions`), and maps a long or flat set first
-//! (`verdicts`). [`check_surface`] then makes the hull of the ids, looks each polygon up among its faces (`search`, by
+//! (`mapped`). [`check_surface`] then makes the hull of the ids, looks each polygon up among its faces (`search`, by
 //! `face_table`), and counts the steps from corner to corner (`qh_steps`). A polygon that is not found is judged by the plane of
 //! its first three corners (`faces`). Nobody needs to know how the polygons were found.
 #![tactic(auto)]
@@ -18,13 +18,13 @@ mod flaw;
 mod hull_faces;
 mod judgement;
 mod judging;
+mod mapped;
 mod naming;
 mod own_indices;
 mod positions;
 mod rounds;
 mod search;
 mod surfaces;
-mod verdicts;
 
 pub use claim::Claim;
 pub use fault::FaceFault;

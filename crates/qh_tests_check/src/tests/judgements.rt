@@ -1,6 +1,6 @@
 //! Worked rows: faces of a tetrahedron, and what is told of them.
-use qh_fixtures::faces::polygons_of;
 use qh_check::{Judgement, SurfaceVerdict, judge_faces, judge_faces_alone};
+use qh_fixtures::faces::polygons_of;
 use qh_model::Point;
 use std::test::Fail;
 

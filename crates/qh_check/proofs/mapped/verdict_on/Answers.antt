@@ -2,7 +2,7 @@
 use Rattle.std.proofs.lemmas.Result.{IfOk-weaker}
 use Rattle.qh_lattice.proofs.SameHulls.{image_indices}
 use Rattle.qh_check.proofs.ImageVerdicts.{image_verdict}
-use Rattle.qh_check.proofs.verdicts.verdict_on.Goals as goal
+use Rattle.qh_check.proofs.mapped.verdict_on.Goals as goal
 
 pub invariant_of-mapped : goal.invariant_of-mapped
 invariant_of-mapped c =
