@@ -4,9 +4,9 @@
     bench/worst_checks.py --counts 100000 --rounds 3
 
 The families are those of bench/worst_points.py, `FAMILY@MAP` among them. The right hull is this program's `off`; the damages are those
-of scripts/trials/damages.py that know no program. Both programs read the same points; the least of the rounds counts. Exit 1 if
-hullcheck passes a damaged hull, refuses the right one, or takes more than `--limit` of the time in which qconvex makes the
-hull. By hand, on an idle machine: no gate asks for it.
+of scripts/trials/damages.py that know no program and stay within the limit. The least of the rounds counts. Exit 1 if hullcheck does
+not tell a damaged hull, refuses the right one, or takes more than `--limit` times as long as qconvex makes the hull. By hand, on an
+idle machine: no gate asks for it.
 """
 import argparse
 import os
@@ -21,6 +21,7 @@ import worst_points
 
 sys.path.insert(0, str(Path(__file__).resolve().parents[1] / "scripts"))
 from lib import package  # noqa: E402,F401
+from lib.limits import COORDINATE_LIMIT  # noqa: E402
 from trials.damages import DAMAGES  # noqa: E402
 from qconvex.commands.off_files import read_off  # noqa: E402
 from qconvex.commands.point_files import text_of  # noqa: E402
@@ -50,11 +51,11 @@ def least(command, rounds, wanted, source=None):
 
 
 def damaged(points, faces):
-    """Yields the name, the points and the faces of each damage that these allow, and first the right ones."""
+    """Yields the name, the points and the faces of each damage that these and the limit allow, and first the right ones."""
     yield "right", points, faces
     for damage in DAMAGES:
         made = damage(random.Random(1), points, faces)
-        if made is not None:
+        if made is not None and max(abs(part) for point in made[0] for part in point) <= COORDINATE_LIMIT:
             yield damage.__name__, *made
 
 
@@ -78,7 +79,7 @@ def rows(given, family, count, folder):
 def fault(name, took, made, limit):
     """Returns what is wrong of a row, or nothing."""
     if took is None:
-        return "the right hull is refused" if name == "right" else "%s is passed" % name
+        return "the right hull is refused" if name == "right" else "%s is not told" % name
     if took > limit * max(made, compare.RESOLUTION):
         return "%s takes %.1f of the time of the hull" % (name, took / made)
     return ""
