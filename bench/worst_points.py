@@ -2,8 +2,10 @@
 """Seeded point files that are hard for some hull programs, in the orders that are worst.
 
     bench/worst_points.py tent-20000 1000000 > points.txt
+    bench/worst_points.py sphere-shuffled@leaf 1000000 > points.txt
 
-All coordinates are whole numbers within 2^20, all points are distinct or nearly so, and each set is solid.
+All coordinates are whole numbers within 2^20, all points are distinct or nearly so, and each set is solid. `FAMILY@MAP` is the
+image of a family under a linear map, rounded down, within 2^30: a shear, a thin plate, a needle, a rotation or a scale of one axis.
 """
 import functools
 import math
@@ -241,12 +243,43 @@ for kind in ("cube", "ball", "sphere", "paraboloid"):
         FAMILIES["%s-%s" % (kind, order)] = ordered(kind, order)
 
 
+# Maps to three sums of a few coordinates. Of a point within 2^20 each image is within 2^30.
+MAPS = {
+    "shear-10": lambda x, y, z: (x + 10 * y, y, z),
+    "shear-1000": lambda x, y, z: (x + 1000 * y, y, z),
+    "shears": lambda x, y, z: (x + 30 * y, y + 30 * (x + 30 * y), z),
+    "shears-all": lambda x, y, z: (x + 9 * y, y + 9 * z, z + 9 * (x + 9 * y)),
+    "plate": lambda x, y, z: (500 * x, 500 * y, z >> 14),
+    "leaf": lambda x, y, z: (500 * x, 500 * y, 300 * x + 400 * y + (z >> 7)),
+    "leaf-of-one": lambda x, y, z: (990 * x, 990 * y, (-5 * 990 * x + 7 * 990 * y) // 12 + (z >> 20)),
+    "needle": lambda x, y, z: (900 * x, 700 * x + (y >> 7), 500 * x - (y >> 6) + (z >> 8)),
+    "turn-3": lambda x, y, z: (2 * x - y + 2 * z, 2 * x + 2 * y - z, 2 * z + 2 * y - x),
+    "turn-7": lambda x, y, z: (6 * x + 2 * y + 3 * z, 2 * x + 3 * y - 6 * z, 3 * x - 6 * y - 2 * z),
+    "long-x": lambda x, y, z: (1000 * x, y, z),
+    "long-z": lambda x, y, z: (x, y, 1000 * z),
+}
+
+
+def family_of(name):
+    """Returns what makes the points of a family, or of its image under a map; None if there is none of this name."""
+    family, at, word = name.partition("@")
+    if family not in FAMILIES or (at and word not in MAPS):
+        return None
+    if not at:
+        return FAMILIES[family]
+    return lambda rng, count: [MAPS[word](*point) for point in FAMILIES[family](rng, count)]
+
+
+def images():
+    """Returns the names of all images of all families."""
+    return [f"{family}@{word}" for family in FAMILIES for word in MAPS]
+
+
 def main():
-    names = names_given(f"{__doc__.strip()}\n\nThe families are {', '.join(FAMILIES)}.")
-    if len(names) != 2 or names[0] not in FAMILIES:
-        sys.exit("name a family and a number of points; --help lists the families")
-    family, count = names[0], int(names[1])
-    found = FAMILIES[family](random.Random(1), count)
+    names = names_given(f"{__doc__.strip()}\n\nThe families are {', '.join(FAMILIES)}. The maps are {', '.join(MAPS)}.")
+    if len(names) != 2 or family_of(names[0]) is None:
+        sys.exit("name a family, or FAMILY@MAP, and a number of points; --help lists them")
+    found = family_of(names[0])(random.Random(1), int(names[1]))
     sys.stdout.write("3\n%d\n" % len(found))
     sys.stdout.writelines("%d %d %d\n" % p for p in found)
 

@@ -1,4 +1,5 @@
 """Tests of bench/ and scripts/studies that need no build: `python3 -m unittest discover scripts/tests`."""
+import itertools
 import os
 import re
 import sys
@@ -8,6 +9,7 @@ from pathlib import Path
 from unittest import mock
 
 sys.path.insert(0, str(Path(__file__).resolve().parents[1]))
+from lib.limits import COORDINATE_LIMIT  # noqa: E402
 from lib.paths import BENCH, TOP  # noqa: E402
 from make.prove import crates_below  # noqa: E402
 from studies import lattice_times  # noqa: E402
@@ -15,6 +17,8 @@ from studies import lattice_times  # noqa: E402
 sys.path.append(str(BENCH))
 import compare  # noqa: E402
 import phases  # noqa: E402
+import worst_points  # noqa: E402
+import worst_workers  # noqa: E402
 
 # Crates of laws, which have no code that runs.
 LAWS = {"qh_laws", "qh_seam_laws", "qh_convex_laws", "qh_tree_laws"}
@@ -38,6 +42,25 @@ class FailedRuns(unittest.TestCase):
                 lattice_times.seconds(["false", "s"], None, folder, 60)
             self.assertEqual(caught.exception.code, "false s ended with status 1")
             self.assertRegex(lattice_times.seconds(["sh", "-c", "exit 1"], None, folder, 60), r"^\d+\.\d{3}$")
+
+
+class Images(unittest.TestCase):
+    def test_images_are_within_the_limit(self):
+        corners = list(itertools.product((-worst_points.SIZE, worst_points.SIZE), repeat=3))
+        for word, image in worst_points.MAPS.items():
+            with self.subTest(map=word):
+                self.assertLessEqual(max(abs(c) for corner in corners for c in image(*corner)), COORDINATE_LIMIT)
+
+    def test_an_image_is_named_by_its_family_and_its_map(self):
+        self.assertIs(worst_points.family_of("prism"), worst_points.FAMILIES["prism"])
+        self.assertIsNone(worst_points.family_of("prism@none"))
+        self.assertIsNone(worst_points.family_of("none@leaf"))
+        points = worst_points.family_of("circles@long-z")(None, 8)
+        self.assertEqual([z % 1000 for _, _, z in points], [0] * 8)
+
+    def test_each_limit_of_workers_has_its_line(self):
+        self.assertEqual(worst_workers.faults("prism", 10, 1.0, 1.2, 1.9), [])
+        self.assertEqual(len(worst_workers.faults("prism", 10, 1.2, 1.4, 2.1)), 3)
 
 
 class Phases(unittest.TestCase):

@@ -4,11 +4,12 @@
 //! The polygons that stay of the parts leave a gap (`qh_guess`). An edge of a face that goes is open if none that goes
 //! takes it the other way (`edges`). The corners beside the gap make a hull, of which those polygons are taken that
 //! have the open edges, and their neighbours over other edges (`flood`). A sample tells beforehand where most corners
-//! of a set would stand beside the gap, and parts of it would not pay (`trial`).
+//! of a set would stand beside the gap, or where planes come near most of them (`nearness`), and parts of it would not pay (`trial`).
 #![tactic(auto)]
 
 mod edges;
 mod flood;
+mod nearness;
 mod trial;
 
 pub use edges::{Border, border_of};

@@ -2,14 +2,16 @@
 //!
 //! The sample is cut into parts along a curve, as the set would be, and has one hull. The ends of the set are in each
 //! part. A corner is at a seam if a face there has corners in several parts. Large faces, and long ones, put most corners
-//! at seams.
+//! at seams. A thin set aslant has planes that come near most points (`nearness`).
 ghost use Rattle.qh_model.specs.contract.IdSets.{AreIndices};
 
 use crate::flood::indices_among;
+use crate::nearness::{come_near_few, ways_out};
 use qh_block::hull;
 use qh_curve::Cell;
 use qh_keys::Packed;
 use qh_model::{Id, Memory, Point, Polygon};
+use qh_places::Outward;
 use qh_polygon::rising_ids;
 use qh_starts::{Axes, ends_of};
 use std::alloc::{AllocError, Global};
@@ -69,6 +71,36 @@ fn keys_by_cell(
     }
     keys.sort_unstable();
     Ok(keys)
+}
+
+/// Returns the ids of a sample along a curve, by sorted keys of their places.
+fn along_keys(alloc: Global, ids: &[Id], keys: &[Packed]) -> Result<Vec<Id>, AllocError> {
+    let mut listed = Vec::with_capacity(alloc, keys.len())?;
+    for key in keys {
+        if let Some(id) = ids.get(key.low() as usize) {
+            listed.push(*id)?;
+        }
+    }
+    Ok(listed)
+}
+
+/// Returns true if the planes of the faces of a sample come near few of its points. `keys` has its ids along a curve.
+fn are_planes_apart(
+    alloc: Global,
+    pts: &[Point],
+    sampled: &[Id],
+    keys: &[Packed],
+    polygons: &[Polygon],
+) -> Result<bool, Memory> {
+    let ways = ways_out(alloc, pts, sampled, polygons)?;
+    let mut outward = Vec::with_capacity(alloc, keys.len())?;
+    for key in keys {
+        let way = ways.get(key.low() as usize);
+        outward.push(*way.unwrap_or(&Outward::NONE))?;
+    }
+    let listed = along_keys(alloc, sampled, keys)?;
+    let ids = indices_among(alloc, pts, &listed)?;
+    come_near_few(alloc, pts, &ids, &outward, polygons)
 }
 
 /// Returns for each of `places` places the number of its part, where sorted keys are cut into `count` parts.
@@ -134,7 +166,7 @@ impl Sample {
 }
 
 /// Returns true if it seems to pay to take a set by `count` parts: of the corners of a sample at most five in
-/// eight are at seams.
+/// eight are at seams, and the planes of its faces come near few of its points.
 ///
 /// # Errors
 ///
@@ -158,6 +190,9 @@ pub fn is_worth_parting(
     }
     let body = hull(alloc, pts, &sampled)?;
     let keys = keys_by_cell(alloc, pts, &sampled, &ends)?;
+    if !are_planes_apart(alloc, pts, &sampled, &keys, &body.polygons)? {
+        return Ok(false);
+    }
     let sample = Sample {
         parts: parts_of_places(alloc, &keys, sampled.len(), count)?,
         ids: sampled,

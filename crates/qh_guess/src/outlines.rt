@@ -3,6 +3,7 @@ use crate::blocks::Block;
 use crate::sights::Sight;
 use crate::vector::Vector;
 use qh_model::Point;
+use qh_places::Budget;
 use std::alloc::{AllocError, Global};
 
 /// The points of a block of the lowest level, and the blocks of a level in one of the next.
@@ -148,22 +149,27 @@ impl Outline {
         next
     }
 
-    /// Returns true if all points are strictly below a plane.
-    pub(crate) fn is_below(&self, sight: &Sight) -> bool {
+    /// Returns true if all points of a block of the lowest level are strictly below a plane, and the budget lasts.
+    fn are_hidden(&self, cursor: Cursor, sight: &Sight, budget: &mut Budget) -> bool {
+        let own = self.points_of(cursor);
+        budget.spend(own.len()) && own.iter().all(|point| sight.hides(*point))
+    }
+
+    /// Returns true if all points are strictly below a plane. Returns false, too, where the budget does not last.
+    pub(crate) fn is_below(&self, sight: &Sight, budget: &mut Budget) -> bool {
         let mut cursor = self.top();
         for _ in 0..self.block_limit() {
             let Some(block) = self.block(cursor) else {
                 return true;
             };
+            if !budget.spend(1) {
+                return false;
+            }
             if sight.hides_all(block) {
                 cursor = self.after(cursor);
             } else if let Some(first) = cursor.first_within() {
                 cursor = first;
-            } else if self
-                .points_of(cursor)
-                .iter()
-                .all(|point| sight.hides(*point))
-            {
+            } else if self.are_hidden(cursor, sight, budget) {
                 cursor = self.after(cursor);
             } else {
                 return false;

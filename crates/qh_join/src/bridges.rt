@@ -13,10 +13,10 @@ ghost use Rattle.qh_join.specs.contract.Kept.{held_in, ArePlaced, AreHeld};
 ghost use Rattle.qh_join.specs.steps.Bridges.{places_in, IsBridge};
 
 use crate::kept::Kept;
-use crate::near_parts::NearPart;
+use crate::near_parts::{NearPart, cost_of};
 use crate::three::Three;
 use qh_model::{Id, Memory, Point, Polygon};
-use qh_places::Places;
+use qh_places::{Budget, Places};
 use qh_polygon::{polygon, rising_ids};
 use qh_pred::{Plane, cross, in_line, point_at};
 use qh_threads::{PARTS_FOR_EACH, map_chunks};
@@ -25,6 +25,11 @@ use std::thread::Threads;
 
 /// The number of polygons whose planes are tested together.
 const GROUP: usize = 4;
+
+/// The number of blocks and points that are looked at for each own corner of the parts, to see that the bridges of a piece are
+/// faces: the bridges are cut into pieces, four for each thread. Where that is too few, the bridges are refused. A piece of a round
+/// set looks at 15 at most; the hull by one thread takes as long as 400.
+const LOOKED_FOR_EACH: u32 = 24;
 
 /// Returns for each part the positions that some planes have to look at, which best slant alike, and best pass near
 /// a point.
@@ -206,14 +211,23 @@ fn origin_of(pts: &[Point], polygons: &[Polygon]) -> Point {
     }
 }
 
-/// Returns true if each of some polygons, whose planes best slant alike, is a face of what is kept of all parts.
-fn is_group(alloc: Global, kept: Kept, group: &[Polygon]) -> Result<bool, Memory>
+/// Returns true if each of some polygons, whose planes best slant alike, is a face of what is kept of all parts. Returns
+/// false, too, where the budget does not last.
+fn is_group(
+    alloc: Global,
+    kept: Kept,
+    group: &[Polygon],
+    budget: &mut Budget,
+) -> Result<bool, Memory>
     ensures { IfOk result (λ yes. IsTrue yes → All
         (IsBridge kept.entry.pts.now kept.entry.corners.now kept.entry.shared.now) group.now) }
 {
     let planes = planes_of(alloc, kept.pts, group)?;
     let origin = origin_of(kept.pts, group);
     let nears = nears_of(alloc, kept.corners, origin, &planes)?;
+    if !budget.spend(cost_of(&nears, planes.len())) {
+        return Ok(false);
+    }
     for claimed in group {
         let yes = is_face(alloc, kept, &nears, claimed)?;
         if !yes {
@@ -223,15 +237,17 @@ fn is_group(alloc: Global, kept: Kept, group: &[Polygon]) -> Result<bool, Memory
     Ok(true)
 }
 
-/// Returns true if each of some polygons is a face of what is kept of all parts. Near ones best follow each other.
+/// Returns true if each of some polygons is a face of what is kept of all parts. Near ones best follow each other. Returns
+/// false, too, where too much would have to be looked at.
 fn are_faces(alloc: Global, kept: Kept, polygons: &[Polygon]) -> Result<bool, Memory>
     ensures { IfOk result (λ yes. IsTrue yes → All
         (IsBridge kept.entry.pts.now kept.entry.corners.now kept.entry.shared.now) polygons.now) }
 {
+    let mut budget = Budget::for_each(kept.corner_count(), LOOKED_FOR_EACH);
     let mut rest = polygons;
     while rest.len() > 0 {
         let (group, others) = rest.split_at(GROUP.min(rest.len()));
-        let yes = is_group(alloc, kept, group)?;
+        let yes = is_group(alloc, kept, group, &mut budget)?;
         if !yes {
             return Ok(false);
         }

@@ -23,6 +23,17 @@ pub struct Kept<'a> {
     ghost shared_in: { AreIndices pts.now shared.now },
 }
 
+impl Kept<'_> {
+    /// Returns the number of own corners of all parts.
+    pub(crate) fn corner_count(self) -> usize {
+        let mut count = 0usize;
+        for places in self.corners {
+            count = count.saturating_add(places.points.len());
+        }
+        count
+    }
+}
+
 /// Returns the own corners of parts, by blocks, part by part. The meshes of the parts are dropped.
 ///
 /// # Errors

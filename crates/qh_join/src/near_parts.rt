@@ -10,3 +10,12 @@ pub(crate) struct NearPart<'a> {
     pub near: Near,
     ghost found: { IsNear places.now.points.items near },
 }
+
+/// Returns about how many blocks and points `planes` planes look at in parts.
+pub(crate) fn cost_of(nears: &[NearPart], planes: usize) -> usize {
+    let mut cost = 0usize;
+    for part in nears {
+        cost = cost.saturating_add(part.near.cost(planes));
+    }
+    cost
+}

@@ -6,10 +6,12 @@
 //! block reach along it (`slabs`). Planes that slant nearly alike are one bundle (`bundles`, `spans`). A block is
 //! passed over for all of them where its direction and its box show that it is below.
 //!
-//! Directions and bundles are guesses (`outward`). A wrong one costs time, and no answer depends on it.
+//! Directions and bundles are guesses (`outward`). A wrong one costs time, and no answer depends on it. A search may have a
+//! budget (`budget`), and is given up where this does not last.
 #![tactic(auto)]
 
 mod boxes;
+mod budget;
 mod bundles;
 mod curve;
 mod levels;
@@ -19,5 +21,6 @@ mod slabs;
 mod spans;
 mod stretched;
 
+pub use budget::Budget;
 pub use outward::{Outward, first_rank};
 pub use places::{Near, Places};

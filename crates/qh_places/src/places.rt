@@ -9,6 +9,7 @@ ghost use Rattle.qh_pred.specs.contract.Planes.{PlaneValue, height};
 ghost use Rattle.qh_places.specs.contract.Near.{IsNear};
 ghost use Rattle.qh_places.specs.steps.Levels.{IsLevel, AreBelowAll, HasLooked, IsAboveAt};
 
+use crate::budget::Budget;
 use crate::bundles::Bundle;
 use crate::curve::{order_along_curve, points_of};
 use crate::levels::{Level, below_all, levels_over};
@@ -18,7 +19,7 @@ use qh_pred::Plane;
 use std::alloc::{AllocError, Global};
 
 /// The number of positions that are tested together: those of a block of the lowest level.
-const LEAF: usize = 16;
+pub(crate) const LEAF: usize = 16;
 
 /// The binary logarithm of `LEAF`.
 const LEAF_SHIFT: u32 = 4;
@@ -39,11 +40,12 @@ pub struct Places {
 
 /// The positions of the points that some planes may meet. Planes that slant nearly alike leave few positions.
 ///
-/// They are among the first `LEAF` positions from each start on; the planes are those of the bundle.
+/// They are among the first `LEAF` positions from each start on, found by `looked` blocks; the planes are those of the bundle.
 #[derive(Drop)]
 pub struct Near {
     bundle: Bundle,
-    starts: Vec<usize>,
+    pub(crate) starts: Vec<usize>,
+    pub(crate) looked: usize,
 }
 
 /// Returns true if a point lies in a plane.
@@ -180,8 +182,10 @@ impl Places {
         ensures { IfOk result (IsNear self.now.points.items) }
     {
         let mut starts = Vec::new(alloc);
+        let mut looked = 0usize;
         let mut from = 0;
         while from < self.points.len() {
+            looked = looked.saturating_add(1);
             let below = self.below_all(&bundle, from);
             if below > 0 {
                 from = from.saturating_add(below);
@@ -190,11 +194,14 @@ impl Places {
                 from = from.saturating_add(LEAF);
             }
         }
-        Ok(Near { bundle, starts })
+        Ok(Near {
+            bundle,
+            starts,
+            looked,
+        })
     }
 
-    /// Returns the positions that the planes of some polygons, by their positions in a list, have to
-    /// look at.
+    /// Returns the positions that the planes of some polygons, by their positions in a list, have to look at.
     ///
     /// # Errors
     ///
@@ -259,7 +266,7 @@ impl Places {
     }
 
     /// Returns true if all points are strictly below each of some planes, which best slant alike, and best pass
-    /// near a point.
+    /// near a point. Returns false, too, where the budget does not last.
     ///
     /// # Errors
     ///
@@ -269,11 +276,15 @@ impl Places {
         alloc: Global,
         origin: Point,
         planes: &[Plane],
+        budget: &mut Budget,
     ) -> Result<bool, AllocError>
         ensures { IfOk result (λ below. IsTrue below → (pts : List Vector) (ids : List ℕ) → ArePlaces pts ids self.now
             → (plane : PlaneValue) → In plane planes.now → (l : ℕ) → In l ids → height plane (place pts l) <ℤ pos 0) }
     {
         let near = self.near_planes(alloc, origin, planes)?;
+        if !budget.spend(near.cost(planes.len())) {
+            return Ok(false);
+        }
         let mut found = Vec::new(alloc);
         for plane in planes {
             let above = self.on_plane(plane, &near, &mut found)?;

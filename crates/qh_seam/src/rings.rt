@@ -15,7 +15,7 @@ ghost use Rattle.qh_seam.specs.steps.Witnesses.{AreUnder, HasPlane};
 use crate::marked::Marked;
 use qh_mesh::FacetNo;
 use qh_model::Id;
-use qh_places::Places;
+use qh_places::{Budget, Places};
 use qh_pred::Plane;
 use std::alloc::{AllocError, Global};
 
@@ -117,12 +117,13 @@ impl Marked<'_> {
     }
 
     /// Returns true if the points of all ids of the places are strictly below live facets, which best stand
-    /// in an order in which near ones follow each other.
+    /// in an order in which near ones follow each other. Returns false, too, where the budget does not last.
     pub fn are_over(
         self,
         alloc: Global,
         facets: &[FacetNo],
         places: &Places,
+        budget: &mut Budget,
     ) -> Result<bool, AllocError>
         requires { (f : ℕ) → In f facets.now → IsLive self.surface.now.mesh f }
         ensures { IfOk result (λ over. IsTrue over → (ids : List ℕ) → ArePlaces self.entry.pts.now ids places.now
@@ -133,7 +134,7 @@ impl Marked<'_> {
             let origin = self.triangle(rest[0]).a;
             let (group, others) = rest.split_at(GROUP.min(rest.len()));
             let planes = self.planes_of(alloc, group)?;
-            let below = places.are_below(alloc, origin, &planes)?;
+            let below = places.are_below(alloc, origin, &planes, budget)?;
             if !below {
                 return Ok(false);
             }

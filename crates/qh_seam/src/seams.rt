@@ -14,12 +14,13 @@ use crate::triangles::Four;
 use crate::witnesses::are_answered;
 use qh_division::{Part, Run};
 use qh_mesh::FacetNo;
+use qh_places::Budget;
 use std::alloc::{AllocError, Global};
 
 impl Marked<'_> {
     /// Returns true if the marked facets are seen to stay where the corners of another part come in: each of
     /// these has a witness, by the middle of four points of the part, and all are strictly below the facets
-    /// of the ring.
+    /// of the ring. Returns false, too, where the budget does not last.
     pub fn is_apart(
         self,
         alloc: Global,
@@ -27,6 +28,7 @@ impl Marked<'_> {
         four: &Four,
         other: &Part,
         runs: &[Run],
+        budget: &mut Budget,
     ) -> Result<bool, AllocError>
         requires live { (f : ℕ) → In f ring.now → IsLive self.surface.now.mesh f }
         ensures answers { IfOk result (λ yes. IsTrue yes → (ids : List ℕ) → ArePlaces self.entry.pts.now ids other.now.places
@@ -38,6 +40,6 @@ impl Marked<'_> {
         if !are_answered(self, four, runs, &other.places.points) {
             return Ok(false);
         }
-        self.are_over(alloc, ring, &other.places)
+        self.are_over(alloc, ring, &other.places, budget)
     }
 }

@@ -15,9 +15,16 @@ use crate::triangles::four_of;
 use qh_block::{PartedFaces, parted_faces};
 use qh_division::{Divided, Guess, Part};
 use qh_model::Memory;
+use qh_places::Budget;
 use std::alloc::Global;
 
-/// Returns true if the guess for the part of this number is seen to be right. A right one may be refused.
+/// The number of blocks and points that are looked at for each facet of a part and each part of the set, to see that the
+/// corners of the other parts are below the part's ring. Four parts of a round set look at 5, of an ellipsoid of the axes 9, 6
+/// and 2 at 16. The threads of all parts together then take a fifth of the time of the hull by one thread at most.
+const LOOKED_FOR_EACH: u32 = 32;
+
+/// Returns true if the guess for the part of this number is seen to be right. A right one may be refused, as one is where
+/// too much would have to be looked at.
 fn stays<'a>(
     alloc: Global,
     set: Divided<'a>,
@@ -44,6 +51,8 @@ fn stays<'a>(
         stay: guess.stay,
     };
     let ring = marked.ring(alloc)?;
+    let count = part.surface.mesh.places().saturating_mul(set.parts.len());
+    let mut budget = Budget::for_each(count, LOOKED_FOR_EACH);
     for other in 0..set.parts.len() {
         if other != number {
             let apart = marked.is_apart(
@@ -52,6 +61,7 @@ fn stays<'a>(
                 &four,
                 &set.parts[other],
                 &guess.runs[other],
+                &mut budget,
             )?;
             if !apart {
                 return Ok(false);

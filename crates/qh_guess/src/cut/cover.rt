@@ -47,7 +47,7 @@ impl<'a> Cover<'a> {
     /// Returns the facet through which the ray to a point leaves. If the point is above it, it is removed; if the
     /// point is in its plane, it is tested.
     fn met(&mut self, cutting: &mut Cutting, point: Point) -> Result<FacetNo, AllocError> {
-        let f = self.rays.leaves(point);
+        let f = self.rays.leaves(point, &mut cutting.budget);
         let Some(sight) = self.facets.sight(f) else {
             return Ok(f);
         };
@@ -98,7 +98,7 @@ impl<'a> Cover<'a> {
         Ok(())
     }
 
-    /// Returns the witnesses for the points of an outline, in their order.
+    /// Returns the witnesses for the points of an outline, in their order: not for all where the budget does not last.
     pub fn witnesses(
         &mut self,
         cutting: &mut Cutting,
@@ -111,6 +111,9 @@ impl<'a> Cover<'a> {
                 break;
             };
             let own = outline.points_of(cursor);
+            if !cutting.budget.spend(1) {
+                break;
+            }
             if let Some(f) = self.witness_of_all(cutting, block, own)? {
                 add(&mut runs, f, own.len())?;
                 cursor = outline.after(cursor);

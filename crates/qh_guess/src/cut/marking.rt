@@ -8,7 +8,12 @@ use crate::vector::Vector;
 use qh_division::{Divided, Part, Run};
 use qh_mesh::FacetNo;
 use qh_model::{Id, Memory, Point};
+use qh_places::Budget;
 use std::alloc::{AllocError, Global};
+
+/// The number of facets that all walks for the directions of an outline pass for each facet of a part. Directions that are
+/// wrong from there on make questions longer, and these have a budget of their own.
+const STEPS_FOR_EACH: u32 = 4;
 
 /// A guess of what stays of a part.
 #[derive(Drop)]
@@ -78,6 +83,7 @@ fn ways_out(
     points: &[Point],
 ) -> Result<Vec<Vector>, AllocError> {
     let mut ways = Vec::new(alloc);
+    let mut budget = Budget::for_each(facets.places(), STEPS_FOR_EACH);
     let Some(mut rays) = Rays::from_middle(facets, four) else {
         return Ok(ways);
     };
@@ -86,7 +92,7 @@ fn ways_out(
         let Some(point) = own.get(own.len() / 2) else {
             break;
         };
-        let way = match facets.sight(rays.leaves(*point)) {
+        let way = match facets.sight(rays.leaves(*point, &mut budget)) {
             Some(sight) => sight.way(),
             None => Vector::NONE,
         };
@@ -190,7 +196,8 @@ fn corners_of(alloc: Global, facets: Facets, listed: &[FacetNo]) -> Result<Vec<I
     Ok(ids)
 }
 
-/// Guesses what stays of a part where the corners of the others come in. The middle of the four points is inside of it.
+/// Guesses what stays of a part where the corners of the others come in, and gives up where the budget does not last. The
+/// middle of the four points is inside of the part.
 fn marks_against<'a>(
     alloc: Global,
     part: &'a Part,
@@ -203,11 +210,14 @@ fn marks_against<'a>(
     drop_shared(alloc, part, shared, &mut cutting)?;
     let runs = all_witnesses(alloc, facets, four, others, &mut cutting)?;
     cutting.ask_waiting()?;
+    if cutting.budget.is_spent() {
+        return Ok(Marks::none(alloc));
+    }
     Marks::made(alloc, facets, &cutting, runs)
 }
 
 /// Guesses what stays of the part of a number where the corners of the other parts come in. `outlines` has
-/// the outline of each part.
+/// the outline of each part. Where too much would have to be looked at, the marks say nothing.
 ///
 /// # Errors
 ///

@@ -2,12 +2,10 @@
 use crate::cut::facets::Facets;
 use qh_mesh::FacetNo;
 use qh_model::Point;
+use qh_places::Budget;
 
 /// The number of facets after which a walk is given up, and all facets are tested instead.
 const STEP_LIMIT: usize = 4_096;
-
-/// The greatest number of facets that all walks together test for each place of the mesh. After that no walk begins.
-const STEPS_FOR_EACH: usize = 64;
 
 /// Four times the way from the middle of four points to another point.
 #[derive(Clone, Copy, Drop)]
@@ -49,7 +47,6 @@ pub(crate) struct Rays<'a> {
     facets: Facets<'a>,
     sum: Way,
     last: FacetNo,
-    steps_left: usize,
 }
 
 impl<'a> Rays<'a> {
@@ -67,7 +64,6 @@ impl<'a> Rays<'a> {
             facets,
             sum,
             last: facets.first_from(0)?,
-            steps_left: facets.places().saturating_mul(STEPS_FOR_EACH),
         })
     }
 
@@ -106,27 +102,26 @@ impl<'a> Rays<'a> {
         None
     }
 
-    /// Returns a walk from the last facet towards the one through which a way leaves: whether it came there in so
-    /// many steps. The last facet is then the one where it ended.
-    fn walk(&mut self, way: Way, limit: usize) -> bool {
-        for step in 0..limit {
+    /// Walks from the last facet towards the one through which a way leaves. Returns true if it came there. The last facet
+    /// is then the one where the walk ended.
+    fn walk(&mut self, way: Way, budget: &mut Budget) -> bool {
+        for _ in 0..STEP_LIMIT {
+            if !budget.spend(1) {
+                return false;
+            }
             let Some(side) = self.side_beyond(self.last, way) else {
-                self.steps_left = self.steps_left.saturating_sub(step);
                 return true;
             };
             self.last = self.facets.next(self.last, side).unwrap_or(self.last);
         }
-        self.steps_left = self.steps_left.saturating_sub(limit);
         false
     }
 
-    /// Returns the facet through which the ray to a point leaves. Where walks became too long, it is
-    /// any facet.
-    pub fn leaves(&mut self, point: Point) -> FacetNo {
+    /// Returns the facet through which the ray to a point leaves. Where the budget does not last, it is any facet.
+    pub fn leaves(&mut self, point: Point, budget: &mut Budget) -> FacetNo {
         let way = self.way(point);
-        let is_there = self.walk(way, STEP_LIMIT.min(self.steps_left));
-        if !is_there && self.steps_left > 0 {
-            self.steps_left = self.steps_left.saturating_sub(self.facets.places());
+        let is_there = self.walk(way, budget);
+        if !is_there && budget.spend(self.facets.places()) {
             self.last = self.sought(way).unwrap_or(self.last);
         }
         self.last

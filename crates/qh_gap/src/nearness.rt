@@ -1,0 +1,91 @@
+//! The rule that decides whether planes of faces come near few points of a sample.
+//!
+//! To join parts, many planes are asked which points are near them, by blocks of these. Where a set is thin and slants, a
+//! block tells little of a plane, and most points are near each.
+ghost use Rattle.qh_model.specs.contract.IdSets.{AreIndices};
+
+use qh_model::{Id, Memory, Point, Polygon};
+use qh_places::{Outward, Places};
+use qh_pred::Plane;
+use std::alloc::{AllocError, Global};
+
+/// The number of faces whose planes are asked, spread over all.
+const ASKED: usize = 128;
+
+/// The least number of points of a sample of which a plane is near one, on the mean, where parts pay. Of 1,024 points of a
+/// sphere a plane is near a sixth, of an ellipsoid of the axes 9, 6 and 2 near a quarter, of a thin plate aslant near most.
+const NEAR_SHARE: usize = 3;
+
+/// The first three corners of a polygon.
+#[derive(Clone, Copy, Drop)]
+struct Corners {
+    a: Point,
+    b: Point,
+    c: Point,
+}
+
+impl Corners {
+    /// Returns the first three corners of a polygon, if it has three and all are points.
+    fn of(pts: &[Point], polygon: &Polygon) -> Option<Corners> {
+        let [i, j, k, ..] = polygon.ids() else {
+            return None;
+        };
+        Some(Corners {
+            a: *pts.get(i.index())?,
+            b: *pts.get(j.index())?,
+            c: *pts.get(k.index())?,
+        })
+    }
+}
+
+/// Returns for each id of a rising list which way is out there, by the polygons that begin with it.
+pub(crate) fn ways_out(
+    alloc: Global,
+    pts: &[Point],
+    rising: &[Id],
+    polygons: &[Polygon],
+) -> Result<Vec<Outward>, AllocError> {
+    let mut ways = vec![in alloc; Outward::NONE; rising.len()]?;
+    for polygon in polygons {
+        let [first, ..] = polygon.ids() else {
+            continue;
+        };
+        let place = rising.partition_point(|other| other.number() < first.number());
+        if let (Some(way), Some(corners)) = (ways.get_mut(place), Corners::of(pts, polygon)) {
+            *way = way.plus(Outward::of_triangle(corners.a, corners.b, corners.c));
+        }
+    }
+    Ok(ways)
+}
+
+/// Returns true if the planes of faces come near few points of ids. `outward` has for each id a guess of which way is
+/// out. Near ids best stand near each other.
+///
+/// # Errors
+///
+/// `Memory` where an allocation failed.
+pub(crate) fn come_near_few(
+    alloc: Global,
+    pts: &[Point],
+    ids: &[Id],
+    outward: &[Outward],
+    polygons: &[Polygon],
+) -> Result<bool, Memory>
+    requires { AreIndices pts.now ids.now }
+{
+    let places = Places::in_order(alloc, pts, ids, outward)?;
+    let step = polygons.len() / ASKED + 1;
+    let (mut asked, mut cost) = (0usize, 0usize);
+    for number in 0..polygons.len() / step {
+        let Some(polygon) = polygons.get(step.saturating_mul(number)) else {
+            break;
+        };
+        if let Some(corners) = Corners::of(pts, polygon) {
+            let plane = Plane::through(corners.a, corners.b, corners.c);
+            let near = places.near_planes(alloc, corners.a, &[plane])?;
+            asked = asked.saturating_add(1);
+            cost = cost.saturating_add(near.cost(1));
+        }
+    }
+    Ok(cost.saturating_mul(NEAR_SHARE) <= asked.saturating_mul(ids.len()))
+}
