@@ -34,7 +34,7 @@ CHECKER = {(CRATES / "hullcheck/src/judging.rt", "check_streams"), (CRATES / "hu
            (CRATES / "hullcheck/src/program.rt", "run")}
 SETTINGS = CRATES / "qh_serve/src/settings.rt"
 LAWS = (CRATES / "qh_model/src/laws", CRATES / "qh_laws/src", CRATES / "qh_tree_laws/src", CRATES / "qh_seam_laws/src",
-        CRATES / "qh_convex_laws/src", CRATES / "qh_surface_laws/src", CRATES / "qh_cover_laws/src")
+        CRATES / "qh_convex_laws/src", CRATES / "qh_lattice/src", CRATES / "qh_surface_laws/src", CRATES / "qh_cover_laws/src")
 NAMED = re.compile(r"`([^`\s]+)`")
 ROW = re.compile(r"^\| \[\w+\]\(([^)]*\.antt)\) \| ([^|]*) \|", re.M)
 

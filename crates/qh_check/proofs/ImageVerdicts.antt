@@ -48,7 +48,9 @@ same_fault : (at up : ℕ → Vector) (ids : List ℕ) → Keeps at up (Members 
     → IsFaceFault at (Members ids) q f → IsFaceFault up (Members ids) q f
 same_fault at up ids h q has NoPlane f = λ i j k b x y z. (h.line i j k x y z).1 (f i j k b x y z)
 same_fault at up ids h q has (Above l) f =
-    let b = f.3 in (f.0, f.1, f.2, b, f.4, (h.volume f.0 f.1 f.2 l (corner b (inl refl)) (corner b (inr (inl refl))) (corner b (inr (inr (inl refl)))) f.4).above.0 f.5)
+    let b = f.3 in
+    let same = h.volume f.0 f.1 f.2 l (corner b (inl refl)) (corner b (inr (inl refl))) (corner b (inr (inr (inl refl)))) f.4 in
+    (f.0, f.1, f.2, b, f.4, same.above.0 f.5)
   where
     corner : (b : BeginsWith q f.0 f.1 f.2) {i : ℕ} → In i (f.0 ∷ f.1 ∷ f.2 ∷ b.0) → In i ids
     corner b {i} m = has i (subst (λ (p : List ℕ). In i p) (sym b.1) m)

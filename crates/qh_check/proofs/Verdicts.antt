@@ -1,13 +1,12 @@
 -- The polygons of a set, and those of its hull.
-use Rattle.std.proofs.Common.{ℕ, ◌≡◌, ◌≢◌, ◌<◌, arith, refl, sym, subst, ◌⊎◌, inl, inr, List, [], ◌∷◌, length}
-use Rattle.std.proofs.Common.{get_or, All}
+use Rattle.std.proofs.Common.{ℕ, ◌≡◌, ◌≢◌, arith, refl, subst, inl, inr, List}
 use Rattle.std.specs.Prelude.{◌↔◌, Bool, true, false, IsTrue}
 use Rattle.qh_model.specs.headline.Vector.{Vector}
 use Rattle.qh_model.specs.headline.Predicates.{place}
-use Rattle.qh_model.specs.headline.Sets.{In, Members}
+use Rattle.qh_model.specs.headline.Sets.{Members}
 use Rattle.qh_model.specs.headline.Dimension.{IsDimension}
 use Rattle.qh_model.specs.headline.Hull.{BodyValue, IsBody}
-use Rattle.qh_model.specs.headline.Polygons.{RiseStrictly, ArePolygons, AreFaces}
+use Rattle.qh_model.specs.headline.Polygons.{ArePolygons, AreFaces}
 use Rattle.qh_model.specs.contract.IdSets.{IsIdSet}
 use Rattle.qh_model.proofs.extremes.Dimensions.{one_dimension}
 use Rattle.qh_model.proofs.hulls.Unique.{one_polygon_list}

@@ -30,7 +30,7 @@ left-scaled m i j k u v w =
     ∙ ap (λ s. m *ℤ m *ℤ (m *ℤ m) *ℤ s) (sym (left-dot (cross i j k) u v w))
 
 -- a factor over a weighted sum
-weigh : (m a b c d r s t u : ℤ) → m *ℤ (r *ℤ a +ℤ s *ℤ b +ℤ t *ℤ c +ℤ u *ℤ d) ≡ r *ℤ (m *ℤ a) +ℤ s *ℤ (m *ℤ b) +ℤ t *ℤ (m *ℤ c) +ℤ u *ℤ (m *ℤ d)
+pub weigh : (m a b c d r s t u : ℤ) → m *ℤ (r *ℤ a +ℤ s *ℤ b +ℤ t *ℤ c +ℤ u *ℤ d) ≡ r *ℤ (m *ℤ a) +ℤ s *ℤ (m *ℤ b) +ℤ t *ℤ (m *ℤ c) +ℤ u *ℤ (m *ℤ d)
 weigh m a b c d r s t u =
     ring (m ∷ a ∷ b ∷ c ∷ d ∷ r ∷ s ∷ t ∷ u ∷ [])
     (mul (var 0) (add (add (add (mul (var 5) (var 1)) (mul (var 6) (var 2))) (mul (var 7) (var 3))) (mul (var 8) (var 4))))

@@ -13,7 +13,7 @@ use Rattle.qh_convex_laws.specs.contract.Scaled.{at_scale}
 use Rattle.qh_convex_laws.specs.laws.ScaleLaws.{ScaledVolume, ScaleKeepsDistinct, ScaleKeepsConvex, ScaleKeepsPolygons, ScaleKeepsExtremes, ScaleKeepsFaces}
 
 -- the same members with the same weights, at other points
-combination_moved : (at at' : ℕ → Vector) (A : ℕ → Type 0) (p p' : Vector) (c : Combination at A p)
+pub combination_moved : (at at' : ℕ → Vector) (A : ℕ → Type 0) (p p' : Vector) (c : Combination at A p)
     → IsBalanced c.w1 c.w2 c.w3 c.w4 p'.x (at' c.a).x (at' c.b).x (at' c.c).x (at' c.d).x
     → IsBalanced c.w1 c.w2 c.w3 c.w4 p'.y (at' c.a).y (at' c.b).y (at' c.c).y (at' c.d).y
     → IsBalanced c.w1 c.w2 c.w3 c.w4 p'.z (at' c.a).z (at' c.b).z (at' c.c).z (at' c.d).z → Combination at' A p'

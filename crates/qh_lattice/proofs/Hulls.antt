@@ -1,8 +1,10 @@
 -- Hulls of mapped points.
 use Rattle.std.proofs.Common.{◌≡◌, ◌≢◌, ℕ, inl, inr, List, refl, subst, sym}
 use Rattle.std.specs.Prelude.{ℤ, pos, ◌<ℤ◌, ◌↔◌}
-use Rattle.qh_model.specs.headline.{Dimension.HasTetrahedron, Dimension.HasTriangle, Dimension.IsDimension, Extreme.Extreme, Extreme.Others, Combination.Combination, Hull.BodyValue, Hull.IsBody}
-use Rattle.qh_model.specs.headline.{Polygons.IsFacePolygon, Polygons.AreFaces, Polygons.IsSegmentFace, Polygons.ArePolygons, Sets.Members, SupportingPlane.IsSupportingTriple}
+use Rattle.qh_model.specs.headline.{Combination.Combination, Dimension.HasTetrahedron, Dimension.HasTriangle, Dimension.IsDimension}
+use Rattle.qh_model.specs.headline.{Extreme.Extreme, Extreme.Others, Hull.BodyValue, Hull.IsBody}
+use Rattle.qh_model.specs.headline.{Polygons.IsFacePolygon, Polygons.AreFaces, Polygons.IsSegmentFace, Polygons.ArePolygons}
+use Rattle.qh_model.specs.headline.{Sets.Members, SupportingPlane.IsSupportingTriple}
 use Rattle.qh_model.specs.headline.{Predicates.cross, Predicates.vol, Predicates.left, Predicates.AreInLine, Vector.Vector, Vector.origin}
 use Rattle.qh_model.proofs.algebra.Signs.{at_most_zero, not_less}
 use Rattle.qh_model.proofs.combinations.OtherNames.{combination_by_names}
@@ -29,7 +31,8 @@ pub back : (at up : ℕ → Vector) (A : ℕ → Type 0) → Keeps at up A → K
 back at up A h = record {
   volume = λ i j k l a b c d. same_back (vol (at i) (at j) (at k) (at l)) (vol (up i) (up j) (up k) (up l)) (h.volume i j k l a b c d);
   line = λ i j k a b c. ((h.line i j k a b c).1, (h.line i j k a b c).0);
-  turn = λ i j k u v w a b c d e f p q r. same_back (left (cross (at i) (at j) (at k)) (at u) (at v) (at w)) (left (cross (up i) (up j) (up k)) (up u) (up v) (up w))
+  turn = λ i j k u v w a b c d e f p q r.
+      same_back (left (cross (at i) (at j) (at k)) (at u) (at v) (at w)) (left (cross (up i) (up j) (up k)) (up u) (up v) (up w))
       (h.turn i j k u v w a b c d e f ((h.volume i j k u a b c d).level.1 p) ((h.volume i j k v a b c e).level.1 q) ((h.volume i j k w a b c f).level.1 r));
   extreme = λ l. ((h.extreme l).1, (h.extreme l).0);
 }

@@ -1,13 +1,16 @@
 -- Identities of mapped points.
-use Rattle.std.proofs.Common.{◌≡◌, ◌∙◌, refl, sym, ap, [], ◌∷◌, List, arith}
-use Rattle.std.proofs.lemmas.Int.{ints}
+use Rattle.std.proofs.Common.{◌≡◌, ◌∙◌, refl, [], ◌∷◌, List}
 use Rattle.std.specs.Prelude.{ℤ, pos, ◌+ℤ◌, ◌*ℤ◌, ◌-ℤ◌}
 use Rattle.qh_model.specs.headline.{Predicates.cross, Predicates.vol, Vector.Vector, Vector.origin, Vector.minus, Vector.dot, Vector.cross_product}
 use Rattle.qh_model.proofs.algebra.Ring.{Expr, ring, Expr.var, Expr.add, Expr.sub as less, Expr.mul}
 use Rattle.qh_model.proofs.algebra.VectorIdentities.{vec, put, dotE, crossE, subE, VE, vector_path, opposite, oppositeE, dot_comm, dot-origin}
 use Rattle.qh_model.proofs.closed_surfaces.Beyond.{scaled, scaledE}
-use Rattle.qh_lattice.specs.contract.LatticeMaps.{Matrix, apply, determinant, moved}
+use Rattle.qh_lattice.specs.contract.LatticeMaps.{Matrix, determinant, moved}
 use Rattle.qh_lattice.specs.laws.MapLaws.{MovedVolume}
+
+-- the image of a vector, with no shift
+abbrev pub apply : Matrix → Vector → Vector
+apply m v = record { x = dot m.first v; y = dot m.second v; z = dot m.third v }
 
 -- ---- expressions
 -- nine expressions by rows

@@ -6,15 +6,17 @@ use Rattle.qh_model.specs.headline.{Combination.Combination, Combination.IsBalan
 use Rattle.qh_model.specs.headline.{Predicates.cross, Predicates.vol, Predicates.left, Vector.Vector, Vector.origin, Vector.dot}
 use Rattle.qh_model.proofs.algebra.{Signs.less_le, Signs.not_less}
 use Rattle.qh_model.proofs.algebra.Order.{mul-pos, mul-nonneg, mul-pos_neg, cancel-pos, cancel-zero, zero_product, product_zero, zero_or_not}
-use Rattle.qh_model.proofs.algebra.Integers.{mul_sub, mul_swap, mul_comm}
+use Rattle.qh_model.proofs.algebra.Integers.{mul_sub, mul_swap, mul_comm, one_mul}
+use Rattle.qh_convex_laws.proofs.{ScaledPoints.weigh, Scales.combination_moved}
 use Rattle.qh_model.proofs.algebra.Ring.{Expr, ring, Expr.var, Expr.add, Expr.sub as less, Expr.mul}
 use Rattle.qh_model.proofs.algebra.VectorIdentities.{vec, put, dotE, combine3, vector_path, left-dot, dot_comm, dot-origin}
 use Rattle.qh_model.proofs.closed_surfaces.Beyond.{scaled}
 use Rattle.qh_model.proofs.extremes.Directions.{Parallel, square-positive}
 use Rattle.qh_model.proofs.polygons.PlaneTurns.{level_parallel}
-use Rattle.qh_lattice.specs.contract.LatticeMaps.{Matrix, apply, determinant, moved}
+use Rattle.qh_lattice.specs.contract.LatticeMaps.{Matrix, determinant, moved}
 use Rattle.qh_lattice.specs.laws.MapLaws.{SameSign, at_moved, MovedVolumeSign, MovedLine, MovedTurn, MovedExtreme}
-use Rattle.qh_lattice.proofs.Identities.{cofactors, transposed, adjugate, moved_volume, cross-moved, normal_back, shift_back, moved_back, apply-origin, dot-factor}
+use Rattle.qh_lattice.proofs.Identities.{apply, cofactors, transposed, adjugate, moved_volume, cross-moved, normal_back}
+use Rattle.qh_lattice.proofs.Identities.{shift_back, moved_back, apply-origin, dot-factor}
 
 -- ---- signs
 -- a product below 0
@@ -26,7 +28,10 @@ pub same_by : (k n a b : ℤ) → pos 0 <ℤ k → pos 0 <ℤ n → k *ℤ b ≡
 same_by k n a b h q e = record {
   above = (λ p. cancel-pos k b h (subst (λ v. pos 0 <ℤ v) (sym e) (mul-pos n a q p)), λ p. cancel-pos n a q (subst (λ v. pos 0 <ℤ v) e (mul-pos k b h p)));
   level = (λ p. cancel-zero k b h (e ∙ product_zero n a p), λ p. cancel-zero n a q (sym e ∙ product_zero k b p));
-  below = (λ p. cancel-neg k b h (subst (λ v. v <ℤ pos 0) (sym e) (mul-pos_neg n a q p)), λ p. cancel-neg n a q (subst (λ v. v <ℤ pos 0) e (mul-pos_neg k b h p)));
+  below = (
+    λ p. cancel-neg k b h (subst (λ v. v <ℤ pos 0) (sym e) (mul-pos_neg n a q p)),
+    λ p. cancel-neg n a q (subst (λ v. v <ℤ pos 0) e (mul-pos_neg k b h p)),
+  );
 }
 
 -- two zeros
@@ -61,10 +66,7 @@ nonzero_scale k n h e =
 pub moved_volume_sign : MovedVolumeSign
 moved_volume_sign m h s a b c d =
     let v = vol a b c d in let w = vol (moved m s a) (moved m s b) (moved m s c) (moved m s d) in
-    same_by (pos 1) (determinant m) v w (omega (arith, ints)) h (one w ∙ moved_volume m s a b c d)
-  where
-    one : (x : ℤ) → pos 1 *ℤ x ≡ x
-    one x = omega (arith, ints)
+    same_by (pos 1) (determinant m) v w (omega (arith, ints)) h (one_mul w ∙ moved_volume m s a b c d)
 
 -- ---- lines
 -- a normal with no image is 0
@@ -163,47 +165,16 @@ balanced_row r s w₁ w₂ w₃ w₄ p a b c d x y z =
     r.z (w *ℤ p.z) (p₁ *ℤ a.z +ℤ p₂ *ℤ b.z +ℤ p₃ *ℤ c.z +ℤ p₄ *ℤ d.z)
     (weigh_row w p₁ p₂ p₃ p₄ s r p a b c d (weights w₁ w₂ w₃ w₄)) x y z
 
--- the same members with the same weights, at other points
-combination_at : (at at' : ℕ → Vector) (A : ℕ → Type 0) (p p' : Vector) (c : Combination at A p)
-    → IsBalanced c.w1 c.w2 c.w3 c.w4 p'.x (at' c.a).x (at' c.b).x (at' c.c).x (at' c.d).x
-    → IsBalanced c.w1 c.w2 c.w3 c.w4 p'.y (at' c.a).y (at' c.b).y (at' c.c).y (at' c.d).y
-    → IsBalanced c.w1 c.w2 c.w3 c.w4 p'.z (at' c.a).z (at' c.b).z (at' c.c).z (at' c.d).z → Combination at' A p'
-combination_at at at' A p p' c x y z = record {
-  a = c.a;
-  b = c.b;
-  c = c.c;
-  d = c.d;
-  has_a = c.has_a;
-  has_b = c.has_b;
-  has_c = c.has_c;
-  has_d = c.has_d;
-  w1 = c.w1;
-  w2 = c.w2;
-  w3 = c.w3;
-  w4 = c.w4;
-  some_weight = c.some_weight;
-  x = x;
-  y = y;
-  z = z;
-}
-
 -- a combination's image is one of the images
-combination_moved : (m : Matrix) (s : Vector) (at : ℕ → Vector) (A : ℕ → Type 0) (p : Vector) → Combination at A p → Combination (at_moved m s at) A (moved m s p)
-combination_moved m s at A p c =
+image_combination : (m : Matrix) (s : Vector) (at : ℕ → Vector) (A : ℕ → Type 0) (p : Vector)
+    → Combination at A p → Combination (at_moved m s at) A (moved m s p)
+image_combination m s at A p c =
     let row = λ (r : Vector) (t : ℤ). balanced_row r t c.w1 c.w2 c.w3 c.w4 p (at c.a) (at c.b) (at c.c) (at c.d) c.x c.y c.z in
-    combination_at at (at_moved m s at) A p (moved m s p) c (row m.first s.x) (row m.second s.y) (row m.third s.z)
+    combination_moved at (at_moved m s at) A p (moved m s p) c (row m.first s.x) (row m.second s.y) (row m.third s.z)
 
 -- a factor that is not 0 goes from both sides
 cancel-both : (k a b : ℤ) → k ≢ pos 0 → k *ℤ a ≡ k *ℤ b → a ≡ b
 cancel-both k a b h e = omega (arith, ints, nonzero_factor k (a -ℤ b) h (mul_sub k a b ∙ (omega (arith, ints))))
-
--- a factor over a weighted sum
-weigh : (m a b c d r s t u : ℤ) → m *ℤ (r *ℤ a +ℤ s *ℤ b +ℤ t *ℤ c +ℤ u *ℤ d) ≡ r *ℤ (m *ℤ a) +ℤ s *ℤ (m *ℤ b) +ℤ t *ℤ (m *ℤ c) +ℤ u *ℤ (m *ℤ d)
-weigh m a b c d r s t u =
-    ring (m ∷ a ∷ b ∷ c ∷ d ∷ r ∷ s ∷ t ∷ u ∷ [])
-    (mul (var 0) (add (add (add (mul (var 5) (var 1)) (mul (var 6) (var 2))) (mul (var 7) (var 3))) (mul (var 8) (var 4))))
-    (add (add (add (mul (var 5) (mul (var 0) (var 1))) (mul (var 6) (mul (var 0) (var 2)))) (mul (var 7) (mul (var 0) (var 3))))
-    (mul (var 8) (mul (var 0) (var 4)))) refl
 
 -- one coordinate of a combination with a factor
 balanced_down : (k : ℤ) → k ≢ pos 0 → (w₁ w₂ w₃ w₄ : ℕ) (p a b c d : ℤ)
@@ -218,7 +189,7 @@ scaled_at k at i = scaled k (at i)
 
 -- a combination with a factor that is not 0
 combination_down : (k : ℤ) → k ≢ pos 0 → (at : ℕ → Vector) (A : ℕ → Type 0) (p : Vector) → Combination (scaled_at k at) A (scaled k p) → Combination at A p
-combination_down k h at A p c = combination_at (scaled_at k at) at A (scaled k p) p c
+combination_down k h at A p c = combination_moved (scaled_at k at) at A (scaled k p) p c
     (balanced_down k h c.w1 c.w2 c.w3 c.w4 p.x (at c.a).x (at c.b).x (at c.c).x (at c.d).x c.x)
     (balanced_down k h c.w1 c.w2 c.w3 c.w4 p.y (at c.a).y (at c.b).y (at c.c).y (at c.d).y c.y)
     (balanced_down k h c.w1 c.w2 c.w3 c.w4 p.z (at c.a).z (at c.b).z (at c.c).z (at c.d).z c.z)
@@ -228,11 +199,11 @@ combination_back : (m : Matrix) → determinant m ≢ pos 0 → (s : Vector) (at
     → Combination (at_moved m s at) A (moved m s p) → Combination at A p
 combination_back m h s at A p c =
     combination_down (determinant m) h at A p
-    (there (combination_moved (adjugate m) (shift_back m s) (at_moved m s at) A (moved m s p) c))
+    (there (image_combination (adjugate m) (shift_back m s) (at_moved m s at) A (moved m s p) c))
   where
     there : Combination (at_moved (adjugate m) (shift_back m s) (at_moved m s at)) A (moved (adjugate m) (shift_back m s) (moved m s p))
         → Combination (scaled_at (determinant m) at) A (scaled (determinant m) p)
-    there k = combination_at (at_moved (adjugate m) (shift_back m s) (at_moved m s at)) (scaled_at (determinant m) at) A
+    there k = combination_moved (at_moved (adjugate m) (shift_back m s) (at_moved m s at)) (scaled_at (determinant m) at) A
         (moved (adjugate m) (shift_back m s) (moved m s p)) (scaled (determinant m) p) k
         (even k (λ v. v.x) k.x) (even k (λ v. v.y) k.y) (even k (λ v. v.z) k.z)
       where
@@ -243,14 +214,16 @@ combination_back m h s at A p c =
             → IsBalanced k.w1 k.w2 k.w3 k.w4 (f (back p)) (f (back (at k.a))) (f (back (at k.b))) (f (back (at k.c))) (f (back (at k.d)))
             → IsBalanced k.w1 k.w2 k.w3 k.w4 (f (scaled (determinant m) p)) (f (scaled (determinant m) (at k.a)))
             (f (scaled (determinant m) (at k.b))) (f (scaled (determinant m) (at k.c))) (f (scaled (determinant m) (at k.d)))
-        even k f e = subst (λ (g : Vector → Vector). IsBalanced k.w1 k.w2 k.w3 k.w4 (f (g p)) (f (g (at k.a))) (f (g (at k.b))) (f (g (at k.c))) (f (g (at k.d))))
+        even k f e = subst
+            (λ (g : Vector → Vector). IsBalanced k.w1 k.w2 k.w3 k.w4 (f (g p)) (f (g (at k.a))) (f (g (at k.b))) (f (g (at k.c))) (f (g (at k.d))))
             (λ t v. moved_back m s v t) e
 
 -- ---- extreme ids
 -- of any set
-pub extreme_moved : (m : Matrix) → determinant m ≢ pos 0 → (s : Vector) (at : ℕ → Vector) (A : ℕ → Type 0) (l : ℕ) → Extreme (at_moved m s at) A l ↔ Extreme at A l
+pub extreme_moved : (m : Matrix) → determinant m ≢ pos 0 → (s : Vector) (at : ℕ → Vector) (A : ℕ → Type 0) (l : ℕ)
+    → Extreme (at_moved m s at) A l ↔ Extreme at A l
 extreme_moved m h s at A l = (
-  λ e. (e.0, λ c. e.1 (combination_moved m s at (Others A l) (at l) c)),
+  λ e. (e.0, λ c. e.1 (image_combination m s at (Others A l) (at l) c)),
   λ e. (e.0, λ c. e.1 (combination_back m h s at (Others A l) (at l) c)),
 )
 

@@ -1,7 +1,6 @@
 -- The points of a solid and their images have the same ids and the same hulls.
 use Rattle.std.proofs.Common.{◌≡◌, ◌≢◌, ℕ, ◌<◌, List, All, length, sym, ap, subst, ◌∙◌, arith}
-use Rattle.std.specs.Prelude.{pos, ◌<ℤ◌}
-use Rattle.qh_model.specs.headline.{Dimension.IsDimension, DistinctIds.AreDistinctIds, DistinctIds.IsDistinctId}
+use Rattle.qh_model.specs.headline.{DistinctIds.AreDistinctIds, DistinctIds.IsDistinctId}
 use Rattle.qh_model.specs.headline.{Hull.BodyValue, Hull.HullValue, Hull.IsBody, Hull.IsHull, Predicates.place, Sets.In, Sets.Members, Vector.Vector}
 use Rattle.qh_model.specs.contract.IdSets.{AreIndices, HasDistinctPoints, IsIdSet}
 use Rattle.qh_model.proofs.{DistinctIds.distinct_apart, DistinctIds.ids_within, Members.All-In, extremes.Dimensions.one_dimension}

@@ -38,7 +38,8 @@ impl LatticeMap {
 
     /// Returns the image of a point, if it is in range.
     fn image(&self, p: Point) -> Option<Point>
-        ensures { IfSome result (λ q. q ≡ moved (matrix_of self.now.first self.now.second self.now.third) (shift_of self.now.first self.now.second self.now.third) p) }
+        ensures { IfSome result (λ q. q ≡ moved (matrix_of self.now.first self.now.second self.now.third)
+            (shift_of self.now.first self.now.second self.now.third) p) }
     {
         let x = self.first.image(p)?;
         let y = self.second.image(p)?;

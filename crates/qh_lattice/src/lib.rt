@@ -1,7 +1,7 @@
 //! Whole-number maps that make a set about as long as wide and high, and keep its hull.
 //!
 //! Many steps of a hull ask boxes with sides along the axes, which tell little of a set that is long or flat in another
-//! direction. [`reduced`] maps such a set by a linear map of whole numbers whose determinant is above 0. Nothing is
+//! direction. [`reduced`] maps it by a linear map of whole numbers whose determinant is above 0. Nothing is
 //! rounded, and the hull stays the same, by the laws of [`laws`]: ids are extreme where they were, and faces have the
 //! same corners in the same order.
 //!

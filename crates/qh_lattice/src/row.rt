@@ -1,5 +1,5 @@
 //! Rows of whole numbers, and where points lie along them.
-ghost use Rattle.std.specs.Prelude.{◌≡◌, ◌≤◌, ◌<◌, ◌*◌, ◌<ℤ◌, ◌≤ℤ◌, ◌*ℤ◌, IfSome, length, pos, unsigned_abs};
+ghost use Rattle.std.specs.Prelude.{◌≡◌, ◌≤◌, ◌<◌, ◌*◌, ◌<ℤ◌, ◌*ℤ◌, IfSome, pos, unsigned_abs};
 ghost use Rattle.qh_model.specs.declared.limits.TheConstants.{COORDINATE_LIMIT};
 ghost use Rattle.qh_model.specs.headline.Limits.{IsCoordinate};
 ghost use Rattle.qh_model.specs.headline.Vector.{dot};

@@ -12,10 +12,9 @@ ghost use Rattle.qh_places.specs.contract.Bundles.{IsOfBundle, IsInSpans};
 ghost use Rattle.qh_places.specs.steps.Slabs.{vector_of, less_times, IsInBlock};
 
 use crate::boxes::PointBox;
-use crate::outward::corners_at;
 use crate::slabs::{Block, Direction};
 use crate::spans::{Share, Span, TIMES_LIMIT};
-use qh_model::{Point, Polygon};
+use qh_model::Point;
 use qh_pred::{Normal, Plane};
 
 /// The size that normals are scaled to, if they are smaller: 2^58.
@@ -148,19 +147,6 @@ impl Bundle {
             z: self.z.with(narrow(scaled(normal.z(), times))),
             depth: self.depth.min(depth),
         }
-    }
-
-    /// Returns the bundle of the planes of polygons, by their positions, seen from the first corner of
-    /// the first.
-    pub fn of(pts: &[Point], polygons: &[Polygon], positions: &[usize]) -> Bundle {
-        let mut found = None;
-        for position in positions {
-            if let Some(corners) = corners_at(pts, polygons, *position) {
-                let bundle = found.unwrap_or(Bundle::none(corners.a));
-                found = Some(bundle.with(&corners.plane()));
-            }
-        }
-        found.unwrap_or(Bundle::none(Point::new(0, 0, 0)))
     }
 
     /// Returns the bundle of planes, seen from a point.

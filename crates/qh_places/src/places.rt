@@ -1,5 +1,5 @@
-//! The ids of a set along a Morton curve, with their points and blocks of these.
-ghost use Rattle.std.specs.Prelude.{◌≡◌, ◌+◌, ◌<◌, ◌≤◌, ◌↔◌, ◌<ℤ◌, ℕ, List, pos, IfOk, MatchOption, IsTrue, length};
+//! The ids of a set in an order of space, with their points and blocks of these.
+ghost use Rattle.std.specs.Prelude.{◌≡◌, ◌+◌, ◌<◌, ◌≤◌, ◌↔◌, ◌<ℤ◌, ℕ, List, pos, IfOk, MatchOption, IsTrue, length, map};
 ghost use Rattle.std.specs.List.{All};
 ghost use Rattle.qh_model.specs.headline.Sets.{In};
 ghost use Rattle.qh_model.specs.headline.Vector.{Vector};
@@ -11,11 +11,10 @@ ghost use Rattle.qh_places.specs.steps.Levels.{IsLevel, AreBelowAll, HasLooked, 
 
 use crate::budget::Budget;
 use crate::bundles::Bundle;
-use crate::curve::{order_along_curve, points_of};
 use crate::levels::{Level, below_all, levels_over};
-use crate::outward::{Outward, outward_of, ranks_of};
-use qh_model::{Id, Memory, Point, Polygon};
-use qh_pred::Plane;
+use crate::outward::Outward;
+use qh_model::{Id, Point};
+use qh_pred::{Plane, point_at};
 use std::alloc::{AllocError, Global};
 
 /// The number of positions that are tested together: those of a block of the lowest level.
@@ -24,13 +23,11 @@ pub(crate) const LEAF: usize = 16;
 /// The binary logarithm of `LEAF`.
 const LEAF_SHIFT: u32 = 4;
 
-/// The ids of a set in an order of space, with their points and blocks of these. `ranks` has the position of
-/// an id, by its index; it is empty where nobody needs it.
+/// The ids of a set in an order of space, with their points and blocks of these.
 #[derive(Drop)]
 pub struct Places {
     pub ids: Vec<Id>,
     pub points: Vec<Point>,
-    pub ranks: Vec<usize>,
     levels: Vec<Level>,
     leaves: Level,
     ghost same: { length points.items ≡ length ids.items },
@@ -55,44 +52,23 @@ fn is_on(plane: &Plane, point: Point) -> bool
     plane.height(point) == 0
 }
 
+/// Returns the points of ids.
+fn points_of(alloc: Global, pts: &[Point], ids: &[Id]) -> Result<Vec<Point>, AllocError>
+    requires { AreIndices pts.now ids.now }
+    ensures { IfOk result (λ v. v.items ≡ map (place pts.now) ids.now) }
+{
+    let mut points = Vec::with_capacity(alloc, ids.len())?;
+    for id in ids {
+        points.push(point_at(pts, *id))?;
+    }
+    Ok(points)
+}
+
 impl Places {
     ghost use Rattle.qh_places.specs.contract.Places.{ArePlaces, IsAbove, AreLevel};
 
-    /// Returns the ids along a Morton curve, with their points and blocks of these. Which way is out is
-    /// guessed from the polygons, which may be any.
-    ///
-    /// `ids` has at least one id, each the index of one of the points.
-    ///
-    /// # Errors
-    ///
-    /// `Memory` where an allocation failed.
-    pub fn over(
-        alloc: Global,
-        pts: &[Point],
-        ids: &[Id],
-        polygons: &[Polygon],
-    ) -> Result<Places, Memory>
-        requires some { 0 < length ids.now }
-        requires indices { AreIndices pts.now ids.now }
-        ensures { IfOk result (ArePlaces pts.now ids.now) }
-    {
-        let ids = order_along_curve(alloc, pts, ids)?;
-        let points = points_of(alloc, pts, &ids)?;
-        let ranks = ranks_of(alloc, pts.len(), &ids)?;
-        let outward = outward_of(alloc, pts, polygons, &ranks)?;
-        let levels = levels_over(alloc, &points, &outward)?;
-        let leaves = Level::over(alloc, &points, &outward, LEAF_SHIFT)?;
-        Ok(Places {
-            ids,
-            points,
-            ranks,
-            levels,
-            leaves,
-        })
-    }
-
-    /// Returns the ids in their order, with their points and blocks of these, but without `ranks`. `outward` has a
-    /// guess for each id of which way is out.
+    /// Returns the ids in their order, with their points and blocks of these. `outward` has a guess for each id of
+    /// which way is out.
     ///
     /// Each of `ids` is the index of one of the points. Near ids best stand near each other.
     ///
@@ -115,7 +91,6 @@ impl Places {
         Ok(Places {
             ids,
             points,
-            ranks: Vec::new(alloc),
             levels,
             leaves,
         })
@@ -199,23 +174,6 @@ impl Places {
             starts,
             looked,
         })
-    }
-
-    /// Returns the positions that the planes of some polygons, by their positions in a list, have to look at.
-    ///
-    /// # Errors
-    ///
-    /// `AllocError` where an allocation failed.
-    pub fn near_polygons(
-        &self,
-        alloc: Global,
-        pts: &[Point],
-        polygons: &[Polygon],
-        positions: &[usize],
-    ) -> Result<Near, AllocError>
-        ensures { IfOk result (IsNear self.now.points.items) }
-    {
-        self.near(alloc, Bundle::of(pts, polygons, positions))
     }
 
     /// Returns the positions that some planes have to look at, which best slant alike, and best pass near

@@ -13,10 +13,6 @@ pub record Matrix : Type 0 where
   pub second : Vector
   pub third : Vector
 
--- the image of a vector
-abbrev pub apply : Matrix → Vector → Vector
-apply m v = record { x = dot m.first v; y = dot m.second v; z = dot m.third v }
-
 -- the determinant of the nine
 abbrev pub determinant : Matrix → ℤ
 determinant m = dot (cross_product m.first m.second) m.third

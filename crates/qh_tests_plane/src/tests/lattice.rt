@@ -1,7 +1,5 @@
 //! Sets that are mapped, and sets that are not. A map multiplies all volumes by one number, and fills the range along each
 //! axis.
-ghost use Rattle.std.specs.Prelude.{IfOk};
-ghost use Rattle.qh_model.specs.contract.IdSets.{AreIndices};
 
 use qh_fixtures::ids::ids_of;
 use qh_lattice::reduced;
@@ -50,7 +48,7 @@ fn images_of(alloc: Global, points: &[Point]) -> Result<Option<Vec<Point>>, Memo
     reduced(alloc, points, &ids)
 }
 
-/// Returns the volume of four points of a list, each so many behind the other.
+/// Returns the volume of four points of a list, each about `step` behind the one before.
 fn volume(points: &[Point], step: usize) -> Option<i128> {
     let a = points.get(1)?;
     let b = points.get(1 + step)?;

@@ -1,7 +1,7 @@
 -- One more polygon is seen to be a piece, or has a fault.
-use Rattle.std.proofs.Common.{◌≡◌, ℕ, [], arith, below_more, get_or, subst, List}
+use Rattle.std.proofs.Common.{ℕ, [], arith, below_more, get_or, subst, List}
 use Rattle.std.proofs.lemmas.List.{get_or_default}
-use Rattle.std.specs.Prelude.{Some, None, Option, MatchOption}
+use Rattle.std.specs.Prelude.{Option, MatchOption}
 use Rattle.qh_check.specs.declared.fault.FaceFault.{FaceFault}
 use Rattle.qh_check.specs.steps.Faces.{IsFaultOf}
 use Rattle.qh_check.specs.steps.Findings.{IsSeen}

@@ -1,8 +1,5 @@
 -- The images have the ids and the hull of the points.
-use Rattle.std.proofs.Common.{subst, sym}
 use Rattle.std.proofs.lemmas.Result.{IfOk-weaker}
-use Rattle.qh_model.specs.contract.IdSets.{IsIdSet}
-use Rattle.qh_lattice.specs.contract.LatticeMaps.{IsReduced}
 use Rattle.qh_lattice.proofs.SameHulls.{image_body, image_indices, image_set}
 use Rattle.qh_hull.proofs.blocks.body_alone.Goals as goal
 

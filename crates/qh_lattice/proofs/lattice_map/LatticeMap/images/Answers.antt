@@ -1,4 +1,4 @@
-use Rattle.std.proofs.Common.{◌≡◌, ◌∙◌, ap, arith, get_or, length, subst, sym, [], ◌∷◌, ◌++◌, ℕ, ◌<◌, ◌+◌}
+use Rattle.std.proofs.Common.{◌∙◌, ap, length, [], ◌∷◌, ◌+◌}
 use Rattle.std.proofs.lemmas.List.{length-append}
 use Rattle.qh_model.specs.headline.Predicates.{place}
 use Rattle.qh_lattice.specs.contract.LatticeMaps.{moved}

@@ -1,5 +1,5 @@
 -- The images so far are those of the points so far.
-use Rattle.std.proofs.Common.{ℕ, ◌≡◌, ◌<◌, get_or, length}
+use Rattle.std.proofs.Common.{ℕ, ◌≡◌, ◌<◌, length}
 use Rattle.qh_model.specs.headline.Predicates.{place}
 use Rattle.qh_lattice.specs.contract.LatticeMaps.{moved}
 use Rattle.qh_lattice.specs.steps.Rows.{matrix_of, shift_of}
