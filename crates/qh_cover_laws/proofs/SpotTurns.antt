@@ -22,7 +22,7 @@ toE k u = record {
 abbrev spotE : ℕ → VE → VE → Expr
 spotE k u v = dotE (crossE (subE v u) (toE k u)) (vec 0)
 
--- from the other corner it is the other turn
+-- the turn about v and u is minus the turn about u and v
 pub spot_turn-back : (n : Vector) (at : ℕ → Vector) (u v : ℕ) (s : Spot) → spot_turn n at v u s ≡ neg_ℤ (spot_turn n at u v s)
 unfolding spot_turn
 spot_turn-back n at u v s =
@@ -130,7 +130,8 @@ turns_mixed n at s a v w x y =
 pub turn_pairs : (n : Vector) (at : ℕ → Vector) (s : Spot) (c x y z : ℕ) → spot_turn n at c x s *ℤ spot_turn n at y z s
     +ℤ (spot_turn n at c y s *ℤ spot_turn n at z x s +ℤ spot_turn n at c z s *ℤ spot_turn n at x y s) ≡ pos 0
 turn_pairs n at s c x y z = pairs (pos s.scale) (L c y z) (L c x y) (L c x z) (T c x) (T c y) (T c z) (T y z) (T x y) (T z x)
-    (turns_mixed n at s c y z c x ∙ omega (arith, ints, product_zero (T y z) (L c x c) (none_back n at c x), ap (λ d. d *ℤ L c x y) (spot_turn-back n at c z s)))
+    (turns_mixed n at s c y z c x
+    ∙ omega (arith, ints, product_zero (T y z) (L c x c) (none_back n at c x), ap (λ d. d *ℤ L c x y) (spot_turn-back n at c z s)))
     (omega (arith, ints, spot_turns-add n at c y z s, spot_turn-back n at c z s)) (omega (arith, ints, spot_turns-add n at c x y s, spot_turn-back n at c y s))
     (omega (arith, ints, spot_turns-add n at c x z s, spot_turn-back n at c z s, spot_turn-back n at z x s))
   where
