@@ -20,10 +20,10 @@ use Rattle.qh_cover_laws.proofs.PlaneSpots.{turn_form, numbers, turn_of, between
 abbrev pub none_right : (n : Vector) (at : ℕ → Vector) → Spot → List (ℕ × ℕ) → Bool
 none_right n at s es = list_all (λ e. not (int_lt (spot_turn n at e.0 e.1 s) (pos 0))) es
 
-pub not_right_is : (x : ℤ) → pos 0 ≤ℤ x → not (int_lt x (pos 0)) ≡ true
+not_right_is : (x : ℤ) → pos 0 ≤ℤ x → not (int_lt x (pos 0)) ≡ true
 not_right_is x h = elim (cases_Bool (int_lt x (pos 0))) [ inl t ↦ absurd (omega (arith, ints)) | inr f ↦ rw f refl ]
 
-pub is_not_right : (x : ℤ) → not (int_lt x (pos 0)) ≡ true → pos 0 ≤ℤ x
+is_not_right : (x : ℤ) → not (int_lt x (pos 0)) ≡ true → pos 0 ≤ℤ x
 is_not_right x h = let e = not-true (int_lt x (pos 0)) h in omega (arith, ints)
 
 -- a sum of three products is above 0 if no product is below 0 and one is above 0

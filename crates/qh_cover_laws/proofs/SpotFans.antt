@@ -169,7 +169,7 @@ module _ (n : Vector) (at : ℕ → Vector) (s : Spot) where
           right_of z m = not_right n at (a ∷ u ∷ w ∷ r) t u w (inr (inl (refl, refl))) z (inr (inr m))
 
     -- so the first triangle adds one where the spot lies in it, and else the rest has the same number as the whole
-    pub first_triangle : tri n at s a u w +ℤ pos (number (p a w && all_left (steps_along w r a)))
+    first_triangle : tri n at s a u w +ℤ pos (number (p a w && all_left (steps_along w r a)))
         ≡ pos (number (p a u && (p u w && all_left (steps_along w r a))))
     first_triangle = by (cases_Bool (p a w))
       where

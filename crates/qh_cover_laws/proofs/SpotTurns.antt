@@ -11,7 +11,7 @@ use Rattle.qh_surface_laws.proofs.ConvexLists.{none_back}
 use Rattle.qh_cover_laws.specs.contract.Covering.{Spot, way_to, spot_turn}
 
 -- from a corner to the spot, of expressions: the spot is vector 1, its scale the variable k
-abbrev pub toE : ℕ → VE → VE
+abbrev toE : ℕ → VE → VE
 toE k u = record {
   x = less (vec 1).x (mul (var k) u.x);
   y = less (vec 1).y (mul (var k) u.y);

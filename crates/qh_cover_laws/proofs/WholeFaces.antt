@@ -131,7 +131,7 @@ module _ {at : ℕ → Vector} {ids : List ℕ} {qs : List (List ℕ)} {i j k : 
                   (form_level at i j k r (turns c) s level y x (omega (arith, ints, h, spot_turn-back n at x y s)))
 
       -- another piece that covers the spot lies in the plane
-      pub one_plane : (b : List ℕ) → In b qs → covers at s b ≡ true → lies_in at i j k b ≡ true
+      one_plane : (b : List ℕ) → In b qs → covers at s b ≡ true → lies_in at i j k b ≡ true
       one_plane b o t = true_from_ne_false (lies_in at i j k b) (by (piece c b o))
         where
           by : PieceOf at (Members ids) b → lies_in at i j k b ≡ false → ⊥

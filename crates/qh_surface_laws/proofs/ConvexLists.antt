@@ -18,14 +18,14 @@ abbrev turnE : ℕ → ℕ → Expr
 turnE i j = dotE (crossE (vec i) (vec j)) (vec 0)
 
 -- of the products of turns about a, one is the sum of the two others
-pub turn_products : (n a b u v w : Vector) → left n a b v *ℤ left n a u w ≡ left n a b u *ℤ left n a v w +ℤ left n a b w *ℤ left n a u v
+turn_products : (n a b u v w : Vector) → left n a b v *ℤ left n a u w ≡ left n a b u *ℤ left n a v w +ℤ left n a b w *ℤ left n a u v
 unfolding left cross
 turn_products n a b u v w =
     ring (put n (put (minus b a) (put (minus u a) (put (minus v a) (put (minus w a) [])))))
     (mul (turnE 1 3) (turnE 2 4)) (add (mul (turnE 1 2) (turnE 3 4)) (mul (turnE 1 4) (turnE 2 3))) refl
 
 -- u before v before w, all to the left of the way from a to b, or u on it
-pub turn_on : (n a b u v w : Vector) → pos 0 ≤ℤ left n a b u → pos 0 <ℤ left n a b v → pos 0 <ℤ left n a b w
+turn_on : (n a b u v w : Vector) → pos 0 ≤ℤ left n a b u → pos 0 <ℤ left n a b v → pos 0 <ℤ left n a b w
     → pos 0 <ℤ left n a u v → pos 0 <ℤ left n a v w → pos 0 <ℤ left n a u w
 turn_on n a b u v w hu hv hw uv vw =
     cancel-pos (left n a b v) (left n a u w) hv (omega (
@@ -68,7 +68,7 @@ Next x y (t ∷ []) = ⊥
 Next x y (t ∷ w ∷ r) = ((t ≡ x) × (w ≡ y)) ⊎ Next x y (w ∷ r)
 
 -- x is the last member
-abbrev pub Last : ℕ → List ℕ → Type 0
+abbrev Last : ℕ → List ℕ → Type 0
 Last x [] = ⊥
 Last x (t ∷ []) = t ≡ x
 Last x (t ∷ w ∷ r) = Last x (w ∷ r)
@@ -165,7 +165,7 @@ module _ (n : Vector) (at : ℕ → Vector) where
     pub turns : Turn u v w
 
   -- what is met along a list with left turns has left turns
-  pub along_turn : (p q : List ℕ) → IsMetAlong p q → AllTurn q → AllTurn p
+  along_turn : (p q : List ℕ) → IsMetAlong p q → AllTurn q → AllTurn p
   along_turn [] q h t = tt
   along_turn (u ∷ p) [] h t = absurd h
   along_turn (u ∷ p) (v ∷ q) (inl h) t =

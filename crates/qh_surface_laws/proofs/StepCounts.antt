@@ -23,7 +23,7 @@ times u v es = count (is_edge (u, v)) es
 abbrev pub Has : ℕ → ℕ → List (ℕ × ℕ) → Type 0
 Has u v es = In {X = ℕ × ℕ} (u, v) es
 
-pub count-append : {X : Type 0} (p : X → Bool) (xs ys : List X) → count p (xs ++ ys) ≡ count p xs + count p ys
+count-append : {X : Type 0} (p : X → Bool) (xs ys : List X) → count p (xs ++ ys) ≡ count p xs + count p ys
 count-append p [] ys = omega arith
 count-append p (x ∷ xs) ys = omega (arith, count-append p xs ys)
 
@@ -50,7 +50,7 @@ none_there u v (e ∷ es) n = elim (cases_Bool (is_edge (u, v) e)) [
 ]
 
 -- a pair that is in a list is counted at least once
-pub some_there : (u v : ℕ) (es : List (ℕ × ℕ)) → Has u v es → 0 < times u v es
+some_there : (u v : ℕ) (es : List (ℕ × ℕ)) → Has u v es → 0 < times u v es
 some_there u v [] m = absurd m
 some_there u v (e ∷ es) (inl h) =
     let t : is_edge (u, v) e ≡ true = subst (λ (x : ℕ × ℕ). is_edge (u, v) x ≡ true) h (edge_tests.itself (u, v)) in rw t (omega arith)
