@@ -24,7 +24,7 @@ pub covers_height : {at : ℕ → Vector} {A : ℕ → Type 0} {q : List ℕ} (p
 covers_height {at} p s t = (Decides-int_eq (spot_height at p.i p.j p.k s) (pos 0)).0 (and_parts (int_eq (spot_height at p.i p.j p.k s) (pos 0))
     (all_left (normal p) at s (steps_round (p.i ∷ p.j ∷ p.k ∷ p.rest))) (subst (λ x. covers at s x ≡ true) p.is t)).0
 
--- counts of a list where all that pass one test pass another, and the rest a third
+-- counts by a test that equals a third where a second is passed, and is not passed elsewhere
 pub count_parts : (c l p : List ℕ → Bool) (qs : List (List ℕ)) → ((q : List ℕ) → In q qs → l q ≡ true → c q ≡ p q)
     → ((q : List ℕ) → In q qs → l q ≡ false → c q ≡ false) → count c qs ≡ count p (filter l qs)
 count_parts c l p [] h k = refl
@@ -40,12 +40,12 @@ module _ {at : ℕ → Vector} {ids : List ℕ} {qs : List (List ℕ)} {i j k : 
   n = cross (at i) (at j) (at k)
 
   module _ {q : List ℕ} (e : lies_in at i j k q ≡ true) (p : PieceOf at (Members ids) q) where
-    -- they have one side outside
+    -- the piece has the same side outside
     pub flat_along : IsAlong n (normal p)
     flat_along = same_plane at ids c.solid c.plane p.plane (lies_level at i j k q e p.i (has_i p))
         (lies_level at i j k q e p.j (has_j p)) (lies_level at i j k q e p.k (has_k p))
 
-    -- a spot of the plane lies in theirs, and one of theirs in the plane
+    -- a spot lies in its plane exactly if it lies in the plane of the face
     pub flat_height : (s : Spot) → spot_height at i j k s ≡ pos 0 → spot_height at p.i p.j p.k s ≡ pos 0
     flat_height s h = along_height at i j k p.i p.j p.k s flat_along h (lies_level at i j k q e p.i (has_i p))
 
@@ -54,7 +54,7 @@ module _ {at : ℕ → Vector} {ids : List ℕ} {qs : List (List ℕ)} {i j k : 
         (vol_along (at i) (at j) (at k) (at p.i) (at p.j) (at p.k) (at i) flat_along (lies_level at i j k q e p.i (has_i p)))
         (vol-first (at i) (at j) (at k)))
 
-  -- a piece covers the spot where it lies to the left of each of its sides
+  -- it covers a spot of the plane exactly if the spot lies to the left of each of its sides
   pub covers_flat : (s : Spot) → spot_height at i j k s ≡ pos 0 → (q : List ℕ) → In q qs → lies_in at i j k q ≡ true
       → covers at s q ≡ all_left n at s (steps_round q)
   covers_flat s level q m e = by (piece c q m)
@@ -90,7 +90,7 @@ module _ {at : ℕ → Vector} {ids : List ℕ} {qs : List (List ℕ)} {i j k : 
   face_turns : AllTurn N at F
   face_turns = polygon_turns N at c.polygon
 
-  -- the triangles of a fan count whether it lies inside the polygon
+  -- the number of triangles of a fan in which the spot lies is 1 if it lies inside the polygon, and else 0
   fan_count : (q : List ℕ) (x y z : ℕ) (rest : List ℕ) → q ≡ x ∷ y ∷ z ∷ rest → ((l : ℕ) → In l q → In l F) → AllTurn N at q
       → covered N at s q ≡ pos (number (left_all q))
   fan_count q x y z rest e h t =

@@ -1,4 +1,4 @@
--- Spots of a face: inside it, off all lines through two of its corners, and inside what is cut out of it.
+-- Spots of a face: inside it, off all lines through two of its corners, and inside polygons that are cut out of it.
 use Rattle.std.proofs.Common.{◌⊎◌, ◌≡◌, ◌≢◌, ℕ, arith, refl, sym, ap, subst, ◌∙◌, inl, inr, List, [], ◌∷◌, Bool, true, not, map}
 use Rattle.std.proofs.lemmas.{Bool.cases_Bool, Bool.not-true, Bool.Decides.Decides-int_eq, Int.ints, Int.by_lt_z}
 use Rattle.std.specs.{List.list_all, Prelude.ℤ, Prelude.pos, Prelude.◌+ℤ◌, Prelude.◌*ℤ◌, Prelude.◌≤ℤ◌, Prelude.◌<ℤ◌, Prelude.int_lt}
@@ -20,13 +20,13 @@ use Rattle.qh_cover_laws.proofs.PlaneSpots.{turn_form, numbers, turn_of, between
 abbrev pub none_right : (n : Vector) (at : ℕ → Vector) → Spot → List (ℕ × ℕ) → Bool
 none_right n at s es = list_all (λ e. not (int_lt (spot_turn n at e.0 e.1 s) (pos 0))) es
 
-pub not_right_is : (x : ℤ) → pos 0 ≤ℤ x → not (int_lt x (pos 0)) ≡ true
+not_right_is : (x : ℤ) → pos 0 ≤ℤ x → not (int_lt x (pos 0)) ≡ true
 not_right_is x h = elim (cases_Bool (int_lt x (pos 0))) [ inl t ↦ absurd (omega (arith, ints)) | inr f ↦ rw f refl ]
 
-pub is_not_right : (x : ℤ) → not (int_lt x (pos 0)) ≡ true → pos 0 ≤ℤ x
+is_not_right : (x : ℤ) → not (int_lt x (pos 0)) ≡ true → pos 0 ≤ℤ x
 is_not_right x h = let e = not-true (int_lt x (pos 0)) h in omega (arith, ints)
 
--- a sum of products of which none is below 0 and one is above
+-- a sum of three products is above 0 if no product is below 0 and one is above 0
 one_above : (x y z a b c : ℤ) → pos 0 <ℤ x → pos 0 <ℤ y → pos 0 <ℤ z → pos 0 ≤ℤ a → pos 0 ≤ℤ b → pos 0 ≤ℤ c
     → (pos 0 <ℤ a) ⊎ ((pos 0 <ℤ b) ⊎ (pos 0 <ℤ c)) → pos 0 <ℤ (x *ℤ a +ℤ (y *ℤ b +ℤ z *ℤ c))
 one_above x y z a b c hx hy hz ha hb hc (inl h) =
@@ -36,7 +36,7 @@ one_above x y z a b c hx hy hz ha hb hc (inr (inl h)) =
 one_above x y z a b c hx hy hz ha hb hc (inr (inr h)) =
     omega (arith, ints, mul-nonneg x a (positive_le _ hx) ha, mul-nonneg y b (positive_le _ hy) hb, mul-pos z c hz h)
 
--- where a polygon has a spot to the left of each step, and where no step has it to the right
+-- a spot to the left of each side, and to the right of no side
 abbrev pub IsLeft : (n : Vector) (at : ℕ → Vector) → Spot → List ℕ → Type 0
 IsLeft n at s q = (u v : ℕ) → Follows u v q → pos 0 <ℤ spot_turn n at u v s
 
@@ -68,17 +68,17 @@ module _ {at : ℕ → Vector} {ids : List ℕ} {qs : List (List ℕ)} {i j k : 
   pub turns : AllTurn n at F
   turns = polygon_turns n at c.polygon
 
-  -- a spot of the plane to the left of each side is covered, and one to the right of no side is reached
+  -- a spot of the plane to the left of each side is covered
   pub covers_face : (z : Spot) → spot_height at i j k z ≡ pos 0 → IsLeft n at z F → covers at z F ≡ true
   covers_face z h g = rw ((Decides-int_eq (spot_height at i j k z) (pos 0)).1 h, of_left n at z F g) refl
 
-  -- off all lines
+  -- a spot with no turn 0 lies off all lines
   pub off_lines : (z : Spot) → ((u v : ℕ) → In u F → In v F → u ≢ v → ¬ (spot_turn n at u v z ≡ pos 0)) → IsOffLines at z F
   unfolding spot_turn
   off_lines z off u v mu mv ne e = off u v mu mv ne (ap (λ x. dot x n) e ∙ dot-origin n)
 
   -- ---- a spot inside a list of corners lies inside the face
-  -- where a side does not have the corners to its right, it has the spot to its left
+  -- a spot inside a triangle of its corners lies to the left of each side, since no corner lies to the right
   weighed : (z : Spot) (q : List ℕ) (t : InTriangle n at z q) → ((x : ℕ) → In x q → In x F) → IsLeft n at z F
   weighed z q t h x y g = cancel-pos _ _ t.turns (subst (λ d. pos 0 <ℤ d) (sym (turns_mixed n at z t.a t.v t.w x y))
       (one_above _ _ _ _ _ _ t.vw t.wa t.av (least t.a t.has_a) (least t.v t.has_v) (least t.w t.has_w)

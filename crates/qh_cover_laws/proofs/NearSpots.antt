@@ -109,7 +109,7 @@ module _ (at : ℕ → Vector) (i j k : ℕ) (r : List ℕ) (t : AllTurn (cross 
   lines = chosen IsLine line_or_not form (pairs F)
 
   module _ (s : Spot) (in_plane : spot_height at i j k s ≡ pos 0) where
-    -- turns not below 0 are forms not below 0
+    -- a turn that is not below 0 has a form that is not below 0
     pub form_level : (u v : ℕ) → pos 0 ≤ℤ spot_turn n at u v s → pos 0 ≤ℤ dot (turn_form at i j k u v) (numbers at i j k s)
     form_level u v h = let p = mul-nonneg (left n (at i) (at j) (at k)) (spot_turn n at u v s) (positive_le _ first) h in
         omega (arith, ints, p, turn_of at i j k s in_plane u v)
@@ -189,7 +189,7 @@ module _ (at : ℕ → Vector) (i j k : ℕ) (r : List ℕ) (t : AllTurn (cross 
                   height : (u v w : ℕ) → dot (height_form at i j k u v w) y ≡ spot_height at u v w (spot_at at i j k c h y.y y.z)
                   height u v w = value (height_form at i j k u v w) ∙ sym (height_at at i j k c h y.y y.z u v w)
 
-    -- with one more form
+    -- a spot near it, at which a form is above 0
     pub near_one : (f : Vector) → f ≢ origin → pos 0 ≤ℤ dot f (numbers at i j k s) → Near (f ∷ [])
     near_one f some h = near (f ∷ []) f rise
       where

@@ -1,4 +1,4 @@
--- Spots of a plane by three whole numbers, and by weights of three corners: their turns and heights are scalar products, and weighed.
+-- Spots of a plane, given by three whole numbers or by weights of three corners. Their turns and heights are scalar products.
 use Rattle.std.proofs.Common.{◌≡◌, ℕ, ◌<◌, arith, refl, sym, ap, ◌∙◌, [], ◌∷◌, ◌+◌}
 use Rattle.std.proofs.lemmas.Int.{ints}
 use Rattle.std.specs.Prelude.{ℤ, pos, ◌+ℤ◌, ◌*ℤ◌, ◌-ℤ◌}
@@ -86,7 +86,7 @@ module _ (at : ℕ → Vector) (i j k : ℕ) where
   unfoldable pub numbers : Spot → Vector
   numbers s = triple (D *ℤ pos s.scale) (dot (cross_product (way_to (at i) s) Q) n) (dot (cross_product P (way_to (at i) s)) n)
 
-  -- they are the spot, scaled by the turn of the corners
+  -- they give the spot, scaled by the turn of the corners
   form_of : (s : Spot) → spot_height at i j k s ≡ pos 0 → (m u : Vector) → dot (form m u) (numbers s) ≡ D *ℤ dot m (way_to u s)
   unfolding numbers spot_height left cross
   form_of s level m u =

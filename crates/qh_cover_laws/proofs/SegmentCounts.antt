@@ -1,4 +1,4 @@
--- Both sides of a segment between two corners of a face lie in equally many pieces, so pieces take its steps equally often both ways.
+-- Equally many pieces cover two spots on both sides of a segment between corners of a face. So they take its steps equally often.
 use Rattle.std.proofs.Common.{⊎_elim, ◌≡◌, ◌≢◌, ℕ, ◌+◌, ◌≤◌, arith, refl, sym, subst, ◌∙◌, inl, inr, ◌⊎◌, List, [], ◌∷◌, Bool, true, false}
 use Rattle.std.proofs.lemmas.{Bool.false_from_ne_true, Int.ints}
 use Rattle.std.specs.{List.flat_map, Prelude.count_by, Prelude.pos, Prelude.◌≤ℤ◌, Prelude.◌<ℤ◌}
@@ -47,7 +47,7 @@ module _ (n : Vector) (at : ℕ → Vector) (q : List ℕ) (t : AllTurn n at q) 
       by (inl a) b (inl c) e = absurd (ne (a ∙ sym c))
       by a (inl b) c (inl e) = absurd (ne (b ∙ sym e))
 
--- what takes the step from u to v has each spot to the left of it that is close to it
+-- a list that takes the step from u to v has the spots to the left of the step that are close to it
 module _ (n : Vector) (at : ℕ → Vector) (u v : ℕ) (z : Spot) (before : pos 0 <ℤ spot_turn n at u v z) (q : List ℕ) (t : AllTurn n at q)
     (some : (x y : ℕ) → (w : ℕ) × In w q × (w ≢ x) × (w ≢ y)) (step : Follows u v q)
     (close : (x y : ℕ) → In x q → In y q → pos 0 ≤ℤ left n (at x) (at y) (at u) → pos 0 ≤ℤ left n (at x) (at y) (at v)

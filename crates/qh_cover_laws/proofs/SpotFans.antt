@@ -30,7 +30,7 @@ module _ (n : Vector) (at : ℕ → Vector) (s : Spot) where
   Off X = OffLines n at s X
 
   -- ---- fans
-  -- the triangles of a and two neighbours each in which the spot lies
+  -- the number of triangles of a and two neighbours each in which the spot lies
   abbrev pub covered_along : ℕ → ℕ → List ℕ → ℤ
   covered_along a u [] = pos 0
   covered_along a u (w ∷ r) = tri n at s a u w +ℤ covered_along a w r
@@ -40,7 +40,7 @@ module _ (n : Vector) (at : ℕ → Vector) (s : Spot) where
   covered (a ∷ []) = pos 0
   covered (a ∷ u ∷ r) = covered_along a u r
 
-  -- told by the steps round the polygon
+  -- it is the sum of `over` along the steps round the polygon
   module _ (X : ℕ → Type 0) (off : Off X) (c : ℕ) (hc : X c) where
     along_over : (a u : ℕ) (r : List ℕ) → X a → ((x : ℕ) → In x (u ∷ r) → X x) → Ordered (Turn n at a) (u ∷ r)
         → sum_z (over n at s c) (steps_along u r a) +ℤ over n at s c (a, u) ≡ covered_along a u r
@@ -169,7 +169,7 @@ module _ (n : Vector) (at : ℕ → Vector) (s : Spot) where
           right_of z m = not_right n at (a ∷ u ∷ w ∷ r) t u w (inr (inl (refl, refl))) z (inr (inr m))
 
     -- so the first triangle adds one where the spot lies in it, and else the rest has the same number as the whole
-    pub first_triangle : tri n at s a u w +ℤ pos (number (p a w && all_left (steps_along w r a)))
+    first_triangle : tri n at s a u w +ℤ pos (number (p a w && all_left (steps_along w r a)))
         ≡ pos (number (p a u && (p u w && all_left (steps_along w r a))))
     first_triangle = by (cases_Bool (p a w))
       where

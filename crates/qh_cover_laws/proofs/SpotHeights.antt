@@ -22,7 +22,7 @@ level_way at i j k u s h e =
     let d : dot n (minus (at u) (at i)) ≡ pos 0 = sym (vol-dot (at i) (at j) (at k) (at u)) ∙ e in
     omega (arith, ints, way_height n (at i) (at u) s, h, product_zero (pos s.scale) (dot n (minus (at u) (at i))) d)
 
--- and back
+-- and back: the spot lies in the plane
 way_level : (at : ℕ → Vector) (i j k u : ℕ) (s : Spot) → vol (at i) (at j) (at k) (at u) ≡ pos 0
     → dot (cross (at i) (at j) (at k)) (way_to (at u) s) ≡ pos 0 → spot_height at i j k s ≡ pos 0
 unfolding spot_height

@@ -36,7 +36,7 @@ abbrev pub signed : Bool → Bool → Bool → Bool → Bool → Bool → ℤ
 signed a b c x y z = pos (number (all_three a b c)) -ℤ pos (number (all_three x y z))
 
 -- b are the signs of the turns from a corner to three others, and d those round these
-pub triangles_add : (b₁ b₂ b₃ d₁ d₂ d₃ : Bool) → fits_sum (same b₁ d₂) (same b₂ d₃) (same b₃ d₁) ≡ true
+triangles_add : (b₁ b₂ b₃ d₁ d₂ d₃ : Bool) → fits_sum (same b₁ d₂) (same b₂ d₃) (same b₃ d₁) ≡ true
     → signed d₁ d₂ d₃ (not d₁) (not d₂) (not d₃)
     ≡ signed b₁ d₁ (not b₂) (not b₁) (not d₁) b₂
     +ℤ (signed b₂ d₂ (not b₃) (not b₂) (not d₂) b₃ +ℤ signed b₃ d₃ (not b₁) (not b₃) (not d₃) b₁)

@@ -11,7 +11,7 @@ use Rattle.qh_surface_laws.proofs.ConvexLists.{none_back}
 use Rattle.qh_cover_laws.specs.contract.Covering.{Spot, way_to, spot_turn}
 
 -- from a corner to the spot, of expressions: the spot is vector 1, its scale the variable k
-abbrev pub toE : ℕ → VE → VE
+abbrev toE : ℕ → VE → VE
 toE k u = record {
   x = less (vec 1).x (mul (var k) u.x);
   y = less (vec 1).y (mul (var k) u.y);
@@ -22,7 +22,7 @@ toE k u = record {
 abbrev spotE : ℕ → VE → VE → Expr
 spotE k u v = dotE (crossE (subE v u) (toE k u)) (vec 0)
 
--- from the other corner it is the other turn
+-- the turn about v and u is minus the turn about u and v
 pub spot_turn-back : (n : Vector) (at : ℕ → Vector) (u v : ℕ) (s : Spot) → spot_turn n at v u s ≡ neg_ℤ (spot_turn n at u v s)
 unfolding spot_turn
 spot_turn-back n at u v s =

@@ -21,7 +21,7 @@ use Rattle.qh_cover_laws.proofs.FaceSpots.{moved, moved_left, not_beyond}
 use Rattle.qh_cover_laws.proofs.NearSpots.{near_one, Near, near, form_some, form_level}
 
 -- ---- counts
--- one that is counted
+-- some member passes a test that is counted at least once
 counted : {X : Type 0} (p : X → Bool) (xs : List X) → 0 < count p xs → (x : X) × In x xs × (p x ≡ true)
 counted p [] h = absurd (omega arith)
 counted p (x ∷ xs) h = elim (cases_Bool (p x)) [
@@ -29,7 +29,7 @@ counted p (x ∷ xs) h = elim (cases_Bool (p x)) [
   | inr f ↦ (let k = rw f at h in let r = counted p xs (omega (arith, k)) in (r.0, inr r.1, r.2))
 ]
 
--- where all that pass one test pass another
+-- if each member that passes one test passes another, the count of the other is no lower
 count_more : {X : Type 0} (p r : X → Bool) (xs : List X) → ((x : X) → In x xs → p x ≡ true → r x ≡ true) → count p xs ≤ count r xs
 count_more p r [] h = omega arith
 count_more p r (x ∷ xs) h = let rest = count_more p r xs (λ y m. h y (inr m)) in elim (cases_Bool (p x)) [
@@ -76,7 +76,7 @@ module _ {at : ℕ → Vector} {ids : List ℕ} {qs : List (List ℕ)} {i j k : 
     in_F : (l : ℕ) → In l list → In l F
     in_F l o = lies_member c q m lies l (subst (In l) (sym p.is) o)
 
-    -- it reaches a spot of the plane where this is to the right of none of its sides
+    -- it reaches a spot of the plane that is to the right of none of its sides
     reaches_flat : (s : Spot) → spot_height at i j k s ≡ pos 0 → IsNotRight n at s q → reaches at s q ≡ true
     reaches_flat s level side = subst (λ x. reaches at s x ≡ true) (sym p.is) (rw (
       (Decides-int_eq (spot_height at p.i p.j p.k s) (pos 0)).1 (flat_height c lies p s level),
@@ -95,7 +95,7 @@ module _ {at : ℕ → Vector} {ids : List ℕ} {qs : List (List ℕ)} {i j k : 
       closed : IsNotRight n at s list
       closed u v g = not_right_along (normal p) n at u v s (along_back n (normal p) (flat_along c lies p)) (right_of (normal p) at s list two.1 u v g)
 
-      -- is a spot of the face
+      -- the face reaches it, too
       pub face_reaches : reaches at s F ≡ true
       face_reaches = rw (
         (Decides-int_eq (spot_height at i j k s) (pos 0)).1 reach_level,
@@ -104,7 +104,7 @@ module _ {at : ℕ → Vector} {ids : List ℕ} {qs : List (List ℕ)} {i j k : 
 
     -- ---- a spot of the plane that it covers
     module _ (s : Spot) (level : spot_height at i j k s ≡ pos 0) (cover : covers at s q ≡ true) where
-      -- one near it lies inside it too
+      -- a spot near it lies inside the piece, too
       near_left : {extra : List Vector} (y : NearTo s level extra) → all_left n at y.spot (steps_round list) ≡ true
       near_left y = of_left n at y.spot list (λ u v g. let o = follows_members u v list g in y.keeps u v (in_F u o.0) (in_F v o.1)
           (left_of n at s q (sym (covers_flat c s level q m lies) ∙ cover) u v (subst (Follows u v) (sym p.is) g)))
@@ -118,7 +118,7 @@ module _ {at : ℕ → Vector} {ids : List ℕ} {qs : List (List ℕ)} {i j k : 
       near_triangle : {extra : List Vector} (y : NearTo s level extra) → InTriangle n at y.spot list
       near_triangle y = in_triangle n at y.spot (λ l. In l F) y.off p.i p.j p.k p.rest in_F list_turns (near_left y)
 
-      -- it lies strictly inside the face
+      -- the spot lies strictly inside the face
       pub inside_face : covers at s F ≡ true
       inside_face = covers_face c s level (λ x y g. by_lt_z (pos 0) (spot_turn n at x y s) (λ h. h) (λ h. absurd (beyond x y g h)))
         where
@@ -130,8 +130,8 @@ module _ {at : ℕ → Vector} {ids : List ℕ} {qs : List (List ℕ)} {i j k : 
                   (follows_members x y F g).0 (λ e. follows_apart c x y g (sym e)))
                   (form_level at i j k r (turns c) s level y x (omega (arith, ints, h, spot_turn-back n at x y s)))
 
-      -- another piece that covers it lies in the plane
-      pub one_plane : (b : List ℕ) → In b qs → covers at s b ≡ true → lies_in at i j k b ≡ true
+      -- another piece that covers the spot lies in the plane
+      one_plane : (b : List ℕ) → In b qs → covers at s b ≡ true → lies_in at i j k b ≡ true
       one_plane b o t = true_from_ne_false (lies_in at i j k b) (by (piece c b o))
         where
           by : PieceOf at (Members ids) b → lies_in at i j k b ≡ false → ⊥

@@ -1,5 +1,5 @@
--- Closed ways over the corners of a polygon that go along its sides one way only, and along other pairs as often as back:
--- they go round the polygon, each side as often as the others.
+-- Closed ways over the corners of a polygon. If they take no side back, and each other step as often as the step back, they take all
+-- sides equally often.
 use Rattle.std.proofs.Common.{◌≡◌, ℕ, ◌≤◌, arith, refl, sym, subst, ◌∙◌, inl, inr, ⊎_elim, List, [], ◌∷◌, false, cond, eqb}
 use Rattle.std.proofs.lemmas.{Bool.cases_Bool, Bool.eqb-true, Int.ints}
 use Rattle.std.specs.{List.flat_map, Prelude.ℤ, Prelude.pos, Prelude.◌+ℤ◌, Prelude.◌-ℤ◌}
@@ -8,7 +8,7 @@ use Rattle.qh_model.specs.contract.{ClosedPolygons.steps_along, ClosedPolygons.s
 use Rattle.qh_model.proofs.{Decisions.Decided, closed_surfaces.SignedVolume.edge_tests, closed_surfaces.SignedVolume.eqb-refl, closed_surfaces.Sums.sum_z}
 use Rattle.qh_surface_laws.proofs.StepCounts.{alike_tests, times, pair_ends, Beside, follows_or_not, IsOdd, sum-append, sum_off, lead, lead-odd}
 
--- steps lead to u as often as from it
+-- 1 for a step that leads to u, and -1 for a step that leads away from u
 abbrev pub arrival : ℕ → (ℕ × ℕ) → ℤ
 arrival u e = pos (cond (eqb e.1 u) 1 0) -ℤ pos (cond (eqb e.0 u) 1 0)
 
@@ -25,7 +25,7 @@ all_arrivals u [] = refl
 all_arrivals u (q ∷ qs) =
     sum-append (arrival u) (steps_round q) (flat_map steps_round qs) ∙ omega (arith, ints, round_arrivals u q, all_arrivals u qs)
 
--- the ways of one face
+-- the steps of closed ways of this kind
 pub record AreWays (F : List ℕ) (es : List (ℕ × ℕ)) : Type 0 where
   pub apart : (u v : ℕ) → ¬ (Beside F u v) → times u v es ≡ times v u es
   pub one_way : (u v : ℕ) → Follows u v F → times v u es ≡ 0
@@ -35,7 +35,7 @@ pub record AreWays (F : List ℕ) (es : List (ℕ × ℕ)) : Type 0 where
   pub one_after : (u x y : ℕ) → Follows u x F → Follows u y F → x ≡ y
 
 module _ (F : List ℕ) (es : List (ℕ × ℕ)) (ways : AreWays F es) where
-  -- beside the polygon what arrives at u comes from the corner before, and leaves for the one after
+  -- on sides, what arrives at u comes from the corner before, and what leaves goes to the corner after
   module _ (p u s : ℕ) (hp : Follows p u F) (hs : Follows u s F) where
     abbrev rest : (ℕ × ℕ) → ℤ
     rest e = arrival u e +ℤ (lead u s e -ℤ lead p u e)
@@ -80,7 +80,7 @@ module _ (F : List ℕ) (es : List (ℕ × ℕ)) (ways : AreWays F es) where
         by (inr n) (inl g) = absurd (h (let o = rest-odd (y, x) in let z = on_side y x g n in omega (arith, ints, o, z)))
         by (inr n) (inr k) = ways.apart x y (λ b. ⊎_elim n k b)
 
-    -- so both sides at a corner are gone along equally often
+    -- so both sides at a corner are taken equally often
     goes_on : times p u es ≡ times u s es
     goes_on = omega (arith, ints, sum_off rest rest-odd es balanced, rest_sum es, ways.arrive u, ways.one_way p u hp, ways.one_way u s hs)
 
@@ -97,7 +97,7 @@ closing : (t : ℕ) (r : List ℕ) (e : ℕ) → (p : ℕ) × FollowsAlong p e t
 closing t [] e = (t, (refl, refl))
 closing t (w ∷ r) e = let c = closing w r e in (c.0, inr c.1)
 
--- all sides are gone along equally often
+-- all sides are taken equally often
 pub equally_often : (F : List ℕ) (es : List (ℕ × ℕ)) → AreWays F es → (u v x y : ℕ) → Follows u v F → Follows x y F → times u v es ≡ times x y es
 equally_often [] es w u v x y f g = absurd f
 equally_often (t ∷ r) es w u v x y f g =

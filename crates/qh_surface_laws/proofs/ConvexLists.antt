@@ -1,5 +1,5 @@
--- Lists of corners of which each three, in their order, turn left: polygons are these lists, from any corner on, and so
--- are those that go round some of their corners.
+-- Lists of corners of which each three, in their order, turn left. A polygon is one, from any of its corners on, and so is a list
+-- that goes round some of its corners.
 use Rattle.std.proofs.Common.{◌≡◌, ℕ, arith, refl, [], ◌≢◌, ◌+◌, sym, ap, subst, ◌∙◌, inl, inr, ⊎_elim, ◌⊎◌, List, ◌∷◌, ◌++◌, take, drop, append_assoc}
 use Rattle.std.proofs.Common.{append-nil}
 use Rattle.std.proofs.lemmas.{Int.ints, List.take-append-drop, List.drop_more}
@@ -17,15 +17,15 @@ use Rattle.qh_check.specs.contract.Pieces.{IsMetAlong, IsMetRound}
 abbrev turnE : ℕ → ℕ → Expr
 turnE i j = dotE (crossE (vec i) (vec j)) (vec 0)
 
--- of the products of turns about a, one is the sum of two others
-pub turn_products : (n a b u v w : Vector) → left n a b v *ℤ left n a u w ≡ left n a b u *ℤ left n a v w +ℤ left n a b w *ℤ left n a u v
+-- of the products of turns about a, one is the sum of the two others
+turn_products : (n a b u v w : Vector) → left n a b v *ℤ left n a u w ≡ left n a b u *ℤ left n a v w +ℤ left n a b w *ℤ left n a u v
 unfolding left cross
 turn_products n a b u v w =
     ring (put n (put (minus b a) (put (minus u a) (put (minus v a) (put (minus w a) [])))))
     (mul (turnE 1 3) (turnE 2 4)) (add (mul (turnE 1 2) (turnE 3 4)) (mul (turnE 1 4) (turnE 2 3))) refl
 
 -- u before v before w, all to the left of the way from a to b, or u on it
-pub turn_on : (n a b u v w : Vector) → pos 0 ≤ℤ left n a b u → pos 0 <ℤ left n a b v → pos 0 <ℤ left n a b w
+turn_on : (n a b u v w : Vector) → pos 0 ≤ℤ left n a b u → pos 0 <ℤ left n a b v → pos 0 <ℤ left n a b w
     → pos 0 <ℤ left n a u v → pos 0 <ℤ left n a v w → pos 0 <ℤ left n a u w
 turn_on n a b u v w hu hv hw uv vw =
     cancel-pos (left n a b v) (left n a u w) hv (omega (
@@ -37,7 +37,7 @@ turn_on n a b u v w hu hv hw uv vw =
     ))
 
 -- ---- lists that are met along others
--- what holds of all members
+-- what holds of all members of a list holds of those of a list that is met along it
 along_all : (P : ℕ → Type 0) (p q : List ℕ) → IsMetAlong p q → ((x : ℕ) → In x q → P x) → (x : ℕ) → In x p → P x
 along_all P [] q h a x m = absurd m
 along_all P (u ∷ p) [] h a x m = absurd h
@@ -45,7 +45,7 @@ along_all P (u ∷ p) (v ∷ q) (inl h) a x (inl e) = subst P (sym (e ∙ h.0)) 
 along_all P (u ∷ p) (v ∷ q) (inl h) a x (inr m) = along_all P p q h.1 (λ y o. a y (inr o)) x m
 along_all P (u ∷ p) (v ∷ q) (inr h) a x m = along_all P (u ∷ p) q h (λ y o. a y (inr o)) x m
 
--- their order
+-- a list that is met along an ordered list is ordered
 along_ordered : (R : ℕ → ℕ → Type 0) (p q : List ℕ) → IsMetAlong p q → Ordered R q → Ordered R p
 along_ordered R [] q h o = tt
 along_ordered R (u ∷ p) [] h o = absurd h
@@ -53,7 +53,7 @@ along_ordered R (u ∷ p) (v ∷ q) (inl h) o =
     ((λ y m. subst (λ t. R t y) (sym h.0) (along_all (R v) p q h.1 o.0 y m)), along_ordered R p q h.1 o.1)
 along_ordered R (u ∷ p) (v ∷ q) (inr h) o = along_ordered R (u ∷ p) q h o.1
 
--- a last member
+-- an ordered list with one more member at its end
 ordered_last : (R : ℕ → ℕ → Type 0) (x : ℕ) (ys : List ℕ) → ((z : ℕ) → In z ys → R z x) → Ordered R ys → Ordered R (ys ++ x ∷ [])
 ordered_last R x [] h o = ((λ z m. absurd m), tt)
 ordered_last R x (y ∷ ys) h o = (
@@ -67,8 +67,8 @@ Next x y [] = ⊥
 Next x y (t ∷ []) = ⊥
 Next x y (t ∷ w ∷ r) = ((t ≡ x) × (w ≡ y)) ⊎ Next x y (w ∷ r)
 
--- x is the last
-abbrev pub Last : ℕ → List ℕ → Type 0
+-- x is the last member
+abbrev Last : ℕ → List ℕ → Type 0
 Last x [] = ⊥
 Last x (t ∷ []) = t ≡ x
 Last x (t ∷ w ∷ r) = Last x (w ∷ r)
@@ -97,7 +97,7 @@ last_ordered R x w (t ∷ []) h (inr m) n o = absurd m
 last_ordered R x w (t ∷ v ∷ r) h (inl e) n o = subst (λ a. R a x) (sym e) (o.0 x (last_member x (v ∷ r) h))
 last_ordered R x w (t ∷ v ∷ r) h (inr m) n o = last_ordered R x w (v ∷ r) h m n o.1
 
--- what follows comes next, or is the end behind the last
+-- where a step goes from x to y, y comes next after x, or x is the last member and y the end
 next_or_last : (x y t : ℕ) (r : List ℕ) (e : ℕ) → FollowsAlong x y t r e → Next x y (t ∷ r) ⊎ (Last x (t ∷ r) × (e ≡ y))
 next_or_last x y t [] e h = inr h
 next_or_last x y t (w ∷ r) e (inl h) = inl (inl h)
@@ -109,12 +109,12 @@ module _ (n : Vector) (at : ℕ → Vector) where
   abbrev pub Turn : ℕ → ℕ → ℕ → Type 0
   Turn x y z = pos 0 <ℤ left n (at x) (at y) (at z)
 
-  -- each three, in their order
+  -- each three members, in their order, turn left
   abbrev pub AllTurn : List ℕ → Type 0
   AllTurn [] = Unit {0}
   AllTurn (x ∷ xs) = Ordered (Turn x) xs × AllTurn xs
 
-  -- a turn goes round
+  -- three corners turn left from any of them on
   pub turned : (x y z : ℕ) → Turn x y z → Turn y z x
   turned x y z h = subst (λ v. pos 0 <ℤ v) (left-turn n (at x) (at y) (at z)) h
 
@@ -137,7 +137,7 @@ module _ (n : Vector) (at : ℕ → Vector) where
   pub no_back : (x y z : ℕ) → Turn x y z → ¬ (Turn x z y)
   no_back x y z h k = omega (arith, ints, left-flip n (at x) (at y) (at z))
 
-  -- of three corners one is neither of two
+  -- of three corners that turn left one is neither of two ids, so what holds of every corner that is neither holds of one of them
   pub one_apart : (P : ℕ → Type 0) (x y z : ℕ) → Turn x y z → (u v : ℕ) → ((w : ℕ) → In w (x ∷ y ∷ z ∷ []) → w ≢ u → w ≢ v → P w) → P x ⊎ (P y ⊎ P z)
   one_apart P x y z t u v h = by (ℕ_discrete x u) (ℕ_discrete x v) (ℕ_discrete y u) (ℕ_discrete y v)
     where
@@ -165,7 +165,7 @@ module _ (n : Vector) (at : ℕ → Vector) where
     pub turns : Turn u v w
 
   -- what is met along a list with left turns has left turns
-  pub along_turn : (p q : List ℕ) → IsMetAlong p q → AllTurn q → AllTurn p
+  along_turn : (p q : List ℕ) → IsMetAlong p q → AllTurn q → AllTurn p
   along_turn [] q h t = tt
   along_turn (u ∷ p) [] h t = absurd h
   along_turn (u ∷ p) (v ∷ q) (inl h) t =
@@ -206,7 +206,7 @@ module _ (n : Vector) (at : ℕ → Vector) where
       rest_turns v l e p.1 o.1 (λ y i. m y (inr i)),
     )
 
-  -- a polygon
+  -- a polygon is a list of this kind
   round_turns : (q : List ℕ) → Once q → AroundCycle (TurnsLeft at n q) q → AllTurn q
   round_turns [] o c = tt
   round_turns (x ∷ l) o c = rest_turns (x ∷ l) x l x c o (λ y i. i)
@@ -214,7 +214,7 @@ module _ (n : Vector) (at : ℕ → Vector) where
   pub polygon_turns : {X : ℕ → Type 0} {q : List ℕ} → IsPolygon at X n q → AllTurn q
   polygon_turns {X} {q} p = round_turns q p.once (round_told (TurnsLeft at n q) q p.round)
 
-  -- from another corner on
+  -- and so is the list from another corner on
   first_last : (x : ℕ) (xs : List ℕ) → Ordered (Turn x) xs → AllTurn xs → AllTurn (xs ++ x ∷ [])
   first_last x [] o t = (tt, tt)
   first_last x (y ∷ ys) o t =
@@ -225,7 +225,7 @@ module _ (n : Vector) (at : ℕ → Vector) where
   rotated (x ∷ xs) ys t = subst AllTurn (append_assoc ys (x ∷ []) xs)
       (rotated xs (ys ++ x ∷ []) (subst AllTurn (append_assoc xs ys (x ∷ [])) (first_last x (xs ++ ys) t.0 t.1)))
 
-  -- what goes round some corners of a polygon
+  -- and a list that goes round some corners of a polygon
   pub met_turns : {X : ℕ → Type 0} {face : List ℕ} → IsPolygon at X n face → (q : List ℕ) → IsMetRound q face → AllTurn q
   met_turns p [] h = absurd h
   met_turns {X} {face} p (u ∷ l) (k, (in_face, here, along)) =
@@ -234,7 +234,7 @@ module _ (n : Vector) (at : ℕ → Vector) where
       let t : AllTurn (u ∷ (drop (k + 1) face ++ take k face)) = subst (λ f. AllTurn (f ++ take k face)) first turns in
       (along_ordered (Turn u) l (drop (k + 1) face ++ take k face) along t.0, along_turn l (drop (k + 1) face ++ take k face) along t.1)
 
-  -- ---- the sides of these lists
+  -- ---- sides
   next_left : (x y w : ℕ) (q : List ℕ) → AllTurn q → Next x y q → In w q → w ≢ x → w ≢ y → Turn x y w
   next_left x y w [] t h m nx ny = absurd h
   next_left x y w (a ∷ []) t h m nx ny = absurd h
@@ -258,7 +258,7 @@ module _ (n : Vector) (at : ℕ → Vector) where
       closing (b ∷ r) t h (inr m) =
           subst (λ s. Turn x s w) h.1 (turned w x a (turned a w x (last_ordered (Turn a) x w (b ∷ r) h.0 m nx t.0)))
 
-  -- and none to the right
+  -- and no corner lies to the right
   pub not_right : (q : List ℕ) → AllTurn q → (x y : ℕ) → Follows x y q → (w : ℕ) → In w q → pos 0 ≤ℤ left n (at x) (at y) (at w)
   not_right q t x y f w m = by (same_id w x) (same_id w y)
     where

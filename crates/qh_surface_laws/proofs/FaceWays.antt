@@ -49,7 +49,7 @@ module _ {at : ℕ → Vector} {ids : List ℕ} {qs : List (List ℕ)} {i j k : 
           kept_alike (lies_in at i j k) u v qs (diagonal_kept c u v h a b) ∙ closed_times qs surface.closed u v
           ∙ sym (kept_alike (lies_in at i j k) v u qs (diagonal_kept c v u (λ s. h (⊎_elim (λ c. inr c) (λ c. inl c) s)) b a))
 
-  -- they are ways round the face
+  -- the steps of the pieces are closed ways over the corners of the face
   face_ways : AreWays F (es c)
   face_ways = record {
     apart = apart;
@@ -109,7 +109,7 @@ module _ {at : ℕ → Vector} {ids : List ℕ} {qs : List (List ℕ)} {i j k : 
       let same = one_polygon at (OnPlane at (Extreme at A) i j k) n F (piece c r.0 r.1).face c.polygon g in
       (r.0, in_filter (lies_in at i j k) qs r.0 r.1 (of_face c (piece c r.0 r.1) same))
 
-  -- so their areas do not add up to nothing
+  -- so the areas of the pieces do not add up to 0
   part_area : (q : List ℕ) → In q (parts c) → pos 0 <ℤ turns_of n at q
   part_area q h = by (piece c q (in_parts c q h).0)
     where
@@ -139,7 +139,7 @@ module _ {at : ℕ → Vector} {ids : List ℕ} {qs : List (List ℕ)} {i j k : 
           by (inl (inr h)) = face_ways.one_way v u h ∙ sym (z v u h)
           by (inr x) = apart u v x
 
-  -- each side of the face is gone along once
+  -- each side of the face is taken once
   side_once : (u v : ℕ) → Follows u v F → times u v (es c) ≡ 1
   side_once u v h = by (cases_lt 0 (times u v (es c)))
     where
@@ -147,7 +147,7 @@ module _ {at : ℕ → Vector} {ids : List ℕ} {qs : List (List ℕ)} {i j k : 
       by (inl l) = let o = face_ways.once u v h in omega (arith, l, o)
       by (inr l) = absurd (not_nothing (λ x y g. let e = equally_often F (es c) face_ways u v x y h g in omega (arith, l, e)))
 
-  -- they go round the face once: what changes its sign with a step adds up to the same over all their steps and over those of the face
+  -- what changes its sign with a step adds up to the same over the steps of the pieces and over those of the face
   pub goes_round_once : (g : (ℕ × ℕ) → ℤ) → IsOdd g → sum_z g (es c) ≡ sum_z g (steps_round F)
   goes_round_once g odd = sum_same g odd (es c) (steps_round F) alike
     where

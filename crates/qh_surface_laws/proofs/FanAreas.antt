@@ -8,7 +8,7 @@ use Rattle.qh_model.proofs.{closed_surfaces.Sums.sum_z, lists.Ordered.Ordered}
 use Rattle.qh_model.proofs.algebra.{Ring.ring, Ring.Expr.add, VectorIdentities.left-flip, VectorIdentities.vec, VectorIdentities.put, VectorIdentities.leftE}
 use Rattle.qh_surface_laws.proofs.{ConvexLists.AllTurn, ConvexLists.Turn, StepCounts.IsOdd, StepCounts.sum-append}
 
--- the turns of the triangles of a and two neighbours each
+-- the sum of the turns of the triangles of a and two neighbours each
 abbrev pub turns_along : (n : Vector) (at : ℕ → Vector) → ℕ → ℕ → List ℕ → ℤ
 turns_along n at a u [] = pos 0
 turns_along n at a u (w ∷ r) = left n (at a) (at u) (at w) +ℤ turns_along n at a w r
@@ -45,7 +45,7 @@ module _ (n : Vector) (at : ℕ → Vector) (c : ℕ) where
   all_swept [] = refl
   all_swept (q ∷ qs) = sum-append swept (steps_round q) (flat_map steps_round qs) ∙ omega (arith, ints, round_swept q, all_swept qs)
 
--- ---- lists of which each three corners turn left have one above 0
+-- ---- the area of a list of which each three corners turn left is above 0
 turns_positive : (n : Vector) (at : ℕ → Vector) (a u : ℕ) (r : List ℕ) → Ordered (Turn n at a) (u ∷ r) → pos 0 ≤ℤ turns_along n at a u r
 turns_positive n at a u [] o = omega (arith, ints)
 turns_positive n at a u (w ∷ r) o = let h = o.0 w (inl refl) in omega (arith, ints, h, turns_positive n at a w r o.1)

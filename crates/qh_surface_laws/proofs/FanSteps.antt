@@ -8,7 +8,7 @@ use Rattle.qh_model.proofs.closed_surfaces.Sums.{sum_z}
 use Rattle.qh_surface_laws.proofs.StepCounts.{times, Has, closed_times, pair_ends, IsOdd, sum-append, lead, lead-odd, lead_sum}
 
 -- ---- the triangles of a polygon
--- from a, along the list from u
+-- the triangles of a and two neighbours each, from u along the list
 abbrev pub triples_along : ℕ → ℕ → List ℕ → List Triple
 triples_along a u [] = []
 triples_along a u (w ∷ r) = record { i = a; j = u; k = w } ∷ triples_along a w r
@@ -95,7 +95,7 @@ fan_step a u (w ∷ r) x y (inr (inr (inr m))) = more (fan_step a w r x y m)
     more (inr (inl h)) = inr (inl (inr h.0, inr h.1))
     more (inr (inr h)) = inr (inr (inr h.0, h.1))
 
--- each once
+-- each edge of a fan is there once
 once_fan_along : (a u : ℕ) (r : List ℕ) → Once (a ∷ u ∷ r) → Once (edges (triples_along a u r))
 once_fan_along a u [] o = tt
 once_fan_along a u (w ∷ r) o = (first, (second, (third, once_fan_along a w r ((λ i. o.0 (inr i)), o.1.1))))

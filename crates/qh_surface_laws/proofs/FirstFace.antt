@@ -51,7 +51,7 @@ right_angled w n = by (zero_or_not w.y) (zero_or_not w.z)
       some = λ k. n (vector_path w origin (ap (λ (v : Vector). v.z) k) e g);
     }
 
--- products at right angles
+-- the product of two vectors at right angles to a third
 lagrange : (a b c : Vector) → dot (cross_product a b) (cross_product a c) ≡ dot a a *ℤ dot b c -ℤ dot a c *ℤ dot b a
 lagrange a b c =
     let P = vec 0 in let Q = vec 1 in let R = vec 2 in
@@ -111,7 +111,7 @@ module _ (at : ℕ → Vector) (ids : List ℕ) (solid : HasTetrahedron at (Memb
     has_m : dot c (to m) ≡ pos 0
     keeps : (v : ℕ) → dot u (to v) ≡ pos 0 → dot f (to v) ≡ pos 0 → dot c (to v) ≡ pos 0
 
-  -- about the members that lie in it, if u is at right angles to the ways to these
+  -- this exists if u is at right angles to the ways to all members in the plane
   turn : (f u : Vector) → Holds f → u ≢ origin → dot f u ≡ pos 0 → ((g : ℕ) → A g → dot f (to g) ≡ pos 0 → dot u (to g) ≡ pos 0) → Turned f u
   turn f u h some_u across flat = ⊎_elim none made
       (least marked (λ g. neg_ℤ (dot f (to g))) (λ g. dot u (to g)) ids (λ g hg k. let l = holds (lower_or_not g) k in omega (arith, ints, l)))
@@ -230,7 +230,7 @@ module _ (at : ℕ → Vector) (ids : List ℕ) (solid : HasTetrahedron at (Memb
       past : (g : ℕ) → A g → g ≢ p → dot sep.w (to g) <ℤ pos 0
       past g hg n = let k = sep.past g (hg, n) in omega (arith, ints, k, dot-minus sep.w (at g) (at p))
 
-      -- of a vector, p is in its plane
+      -- p lies in each plane through p
       only_p : (f : Vector) (g : ℕ) → g ≡ p → dot f (to g) ≡ pos 0
       only_p f g e = subst (λ x. dot f (to x) ≡ pos 0) (sym e) (to_p f)
 

@@ -102,7 +102,7 @@ module _ (at : ℕ → Vector) (ids : List ℕ) (d : HasDistinctPoints at (Membe
   A = Members ids
 
   -- a face has three corners
-  pub long_face : (q : List ℕ) → IsFace at A q → LongEnough q
+  long_face : (q : List ℕ) → IsFace at A q → LongEnough q
   long_face q f = by (some_corners at ids d q f)
     where
       by : (i j k : ℕ) × BeginsWith q i j k × HasFace at A q i j k → LongEnough q
@@ -117,7 +117,7 @@ module _ (at : ℕ → Vector) (ids : List ℕ) (d : HasDistinctPoints at (Membe
       by (i, j, k, b, (t, g)) = (i, j, k, t, (b, (u ∷ p, g, (0, (omega arith, refl, met_self p [])))))
 
   -- and so is a triangle of its fan
-  pub fan_piece : (q t : List ℕ) → IsFace at A q → In t (fan q) → IsPiece at A t
+  fan_piece : (q t : List ℕ) → IsFace at A q → In t (fan q) → IsPiece at A t
   fan_piece [] t f m = absurd (let l = long_face [] f in omega (arith, l))
   fan_piece (a ∷ []) t f m = absurd (let l = long_face (a ∷ []) f in omega (arith, l))
   fan_piece (a ∷ b ∷ []) t f m = absurd (let l = long_face (a ∷ b ∷ []) f in omega (arith, l))
@@ -157,7 +157,7 @@ module _ (at : ℕ → Vector) (ids : List ℕ) (qs : List (List ℕ)) (d : HasD
   once_each : Once qs
   once_each = ordered_once qs (rising-ordered qs faces.rising)
 
-  pub faces_surface : IsFaceSurface at (Members ids) qs
+  faces_surface : IsFaceSurface at (Members ids) qs
   faces_surface = record {
     some = some;
     pieces = λ q m. face_piece at ids d q (faces.only q m);
@@ -176,7 +176,7 @@ module _ (at : ℕ → Vector) (ids : List ℕ) (qs : List (List ℕ)) (d : HasD
   fan_steps : flat_map steps_round (fans qs) ≡ edges (flat_map triples_in qs)
   fan_steps = fans_edges qs (λ q m. long_face at ids d q (faces.only q m))
 
-  pub fans_surface : IsFaceSurface at (Members ids) (fans qs)
+  fans_surface : IsFaceSurface at (Members ids) (fans qs)
   fans_surface = record {
     some = some_fans qs some;
     pieces = λ t m. let r = of_flat_map fan qs t m in fan_piece at ids d r.0 t (faces.only r.0 r.1) r.2;

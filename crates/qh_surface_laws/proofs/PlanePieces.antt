@@ -155,11 +155,11 @@ module _ {at : ℕ → Vector} {ids : List ℕ} {qs : List (List ℕ)} {i j k : 
   of_corners q h = pass_all (λ l. int_eq (vol (at i) (at j) (at k) (at l)) (pos 0)) q
       (λ l m. (Decides-int_eq (vol (at i) (at j) (at k) (at l)) (pos 0)).1 (on l (h l m)))
 
-  -- a piece does where its face is the face
+  -- a piece lies in the plane if its face is the face
   pub of_face : {q : List ℕ} (p : PieceOf at A q) → F ≡ p.face → lies_in at i j k q ≡ true
   of_face {q} p e = of_corners q (λ l h. subst (In l) (sym e) (in_face p l h))
 
-  -- and there alone
+  -- and only then
   pub its_face : {q : List ℕ} (p : PieceOf at A q) → lies_in at i j k q ≡ true → F ≡ p.face
   its_face {q} p e = let lev = lies_level at i j k q e in
       same_face at ids c.solid c.plane p.plane (lev p.i (has_i p)) (lev p.j (has_j p)) (lev p.k (has_k p)) c.polygon p.polygon
@@ -192,7 +192,7 @@ module _ {at : ℕ → Vector} {ids : List ℕ} {qs : List (List ℕ)} {i j k : 
   pub step_in : (u v : ℕ) → Has u v es → (q : List ℕ) × In q parts × Follows u v q
   step_in u v m = let r = of_flat_map steps_round parts (u, v) m in (r.0, r.1, (on_round u v r.0).0 r.2)
 
-  -- none goes back along a side
+  -- no piece takes a side back
   pub none_back : (u v : ℕ) → Follows u v F → ¬ (Has v u es)
   none_back u v h m =
       let s = step_in v u m in

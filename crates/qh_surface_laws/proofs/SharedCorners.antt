@@ -77,7 +77,7 @@ module _ (at : ℕ → Vector) (ids : List ℕ) (solid : IsDimension at (Members
             negative : (s t h v : ℤ) → (s *ℤ h) <ℤ pos 0 → (t *ℤ v) ≤ℤ pos 0 → s *ℤ h ≡ t *ℤ neg_ℤ v → ⊥
             negative s t h v p q e = omega (arith, ints, p, q, e, mul_neg t v)
 
-    -- and the same polygon
+    -- and has the same polygon
     pub same_face : {u v w : ℕ} {F G : List ℕ} → IsSupportingTriple at (Members ids) u v w → height u ≡ pos 0 → height v ≡ pos 0 → height w ≡ pos 0
         → IsFacePolygon at (Members ids) i j k F → IsFacePolygon at (Members ids) u v w G → F ≡ G
     same_face {u} {v} {w} {F} {G} t hu hv hw f g =

@@ -10,7 +10,7 @@ use Rattle.qh_model.proofs.{lists.Filters.of_filter, lists.Images.in_map, lists.
 use Rattle.qh_model.proofs.closed_surfaces.Sums.{count, count-is, sum_z, count_kept, sum_z-same_counts}
 use Rattle.qh_model.proofs.closed_surfaces.SignedVolume.{edge_tests, back, is_edge-back}
 
--- tests that are passed together
+-- tests of which each is passed where the other is are equal
 pub alike_tests : (a b : Bool) → (a ≡ true) ↔ (b ≡ true) → a ≡ b
 alike_tests true b h = sym (h.0 refl)
 alike_tests false true h = h.1 refl
@@ -23,14 +23,14 @@ times u v es = count (is_edge (u, v)) es
 abbrev pub Has : ℕ → ℕ → List (ℕ × ℕ) → Type 0
 Has u v es = In {X = ℕ × ℕ} (u, v) es
 
-pub count-append : {X : Type 0} (p : X → Bool) (xs ys : List X) → count p (xs ++ ys) ≡ count p xs + count p ys
+count-append : {X : Type 0} (p : X → Bool) (xs ys : List X) → count p (xs ++ ys) ≡ count p xs + count p ys
 count-append p [] ys = omega arith
 count-append p (x ∷ xs) ys = omega (arith, count-append p xs ys)
 
 pub pair_ends : {x y a b : ℕ} → ◌≡◌ {A = ℕ × ℕ} (x, y) (a, b) → (x ≡ a) × (y ≡ b)
 pair_ends p = (ap (λ (t : ℕ × ℕ). t.0) p, ap (λ (t : ℕ × ℕ). t.1) p)
 
--- the count of polygons is that of their steps
+-- the steps that polygons take are counted in the list of all their steps
 pub step_times : (qs : List (List ℕ)) (u v : ℕ) → step_count qs u v ≡ times u v (flat_map steps_round qs)
 step_times qs u v = sym (count-is (is_edge (u, v)) (flat_map steps_round qs))
 
@@ -41,7 +41,7 @@ pub times-more : (u v : ℕ) (q : List ℕ) (qs : List (List ℕ))
     → times u v (flat_map steps_round (q ∷ qs)) ≡ times u v (steps_round q) + times u v (flat_map steps_round qs)
 times-more u v q qs = count-append (is_edge (u, v)) (steps_round q) (flat_map steps_round qs)
 
--- a pair that is not there is there no time
+-- a pair that is not in a list is counted 0 times
 pub none_there : (u v : ℕ) (es : List (ℕ × ℕ)) → ¬ (Has u v es) → times u v es ≡ 0
 none_there u v [] n = refl
 none_there u v (e ∷ es) n = elim (cases_Bool (is_edge (u, v) e)) [
@@ -49,14 +49,14 @@ none_there u v (e ∷ es) n = elim (cases_Bool (is_edge (u, v) e)) [
   | inr f ↦ rw f (let r = none_there u v es (λ i. n (inr i)) in omega (arith, r))
 ]
 
--- one that is there is there some time
-pub some_there : (u v : ℕ) (es : List (ℕ × ℕ)) → Has u v es → 0 < times u v es
+-- a pair that is in a list is counted at least once
+some_there : (u v : ℕ) (es : List (ℕ × ℕ)) → Has u v es → 0 < times u v es
 some_there u v [] m = absurd m
 some_there u v (e ∷ es) (inl h) =
     let t : is_edge (u, v) e ≡ true = subst (λ (x : ℕ × ℕ). is_edge (u, v) x ≡ true) h (edge_tests.itself (u, v)) in rw t (omega arith)
 some_there u v (e ∷ es) (inr m) = let r = some_there u v es m in omega (arith, r)
 
--- and back
+-- and a pair that is counted is in the list
 pub is_there : (u v : ℕ) (es : List (ℕ × ℕ)) → 0 < times u v es → Has u v es
 is_there u v [] h = absurd (omega arith)
 is_there u v (e ∷ es) h = elim (cases_Bool (is_edge (u, v) e)) [
@@ -70,7 +70,7 @@ there_or_not u v es = elim (cases_lt 0 (times u v es)) [
   | inr h ↦ inr (λ m. let s = some_there u v es m in omega (arith, h, s))
 ]
 
--- in a list with each member once it is there once at most
+-- in a list with each member once, a pair is counted at most once
 pub once_times : (u v : ℕ) (es : List (ℕ × ℕ)) → Once es → times u v es ≤ 1
 once_times u v [] o = omega arith
 once_times u v (e ∷ es) o = elim (cases_Bool (is_edge (u, v) e)) [
@@ -78,7 +78,7 @@ once_times u v (e ∷ es) o = elim (cases_Bool (is_edge (u, v) e)) [
   | inr f ↦ rw f (let r = once_times u v es o.1 in omega (arith, r))
 ]
 
--- lists that have each member once and nothing in common have each member once together
+-- lists with each member once and no member in common, joined, have each member once
 pub once_flat_map : {X Y : Type 0} (f : X → List Y) (xs : List X) → Once xs → ((x : X) → In x xs → Once (f x))
     → ((x y : X) (z : Y) → In x xs → In y xs → In z (f x) → In z (f y) → x ≡ y) → Once (flat_map f xs)
 once_flat_map f [] o each one = tt
@@ -94,7 +94,7 @@ way_follows x y t [] e (inr h) = absurd h
 way_follows x y t (w ∷ r) e (inl h) = let p = pair_ends h in inl (sym p.0, sym p.1)
 way_follows x y t (w ∷ r) e (inr h) = inr (way_follows x y w r e h)
 
--- pairs with different first members are different, and those of the steps are the corners
+-- pairs with different first members are different, and the first members of the steps are the corners
 pub once_firsts : (es : List (ℕ × ℕ)) → Once (map (λ (e : ℕ × ℕ). e.0) es) → Once es
 once_firsts [] o = tt
 once_firsts (e ∷ es) o = ((λ m. o.0 (in_map (λ (e : ℕ × ℕ). e.0) es e m)), once_firsts es o.1)
@@ -107,7 +107,7 @@ pub step_firsts : (q : List ℕ) → map (λ (e : ℕ × ℕ). e.0) (steps_round
 step_firsts [] = refl
 step_firsts (t ∷ r) = along_firsts t r t
 
--- a polygon with each corner once takes a step once or not at all
+-- a polygon with each corner once takes each of its steps once
 pub taken : (u v : ℕ) (q : List ℕ) → Once q → Follows u v q → times u v (steps_round q) ≡ 1
 taken u v q o h =
     let l = some_there u v (steps_round q) ((on_round u v q).1 h) in
@@ -141,7 +141,7 @@ sum-turned : (g : (ℕ × ℕ) → ℤ) → IsOdd g → (es : List (ℕ × ℕ))
 sum-turned g h [] = refl
 sum-turned g h (e ∷ es) = rw (h e, sum-turned g h es) (omega (arith, ints))
 
--- over steps that are taken as often as back it is nothing
+-- over steps that are taken as often as the steps back, the sum is 0
 pub sum_cancels : (g : (ℕ × ℕ) → ℤ) → IsOdd g → (es : List (ℕ × ℕ)) → ((u v : ℕ) → times u v es ≡ times v u es) → sum_z g es ≡ pos 0
 sum_cancels g h es c =
     let same = sum_z-same_counts is_edge edge_tests g es (map back es) (λ e. c e.0 e.1 ∙ sym (times-turned e.0 e.1 es)) in
@@ -151,7 +151,7 @@ pub sum-append : {X : Type 0} (g : X → ℤ) (xs ys : List X) → sum_z g (xs +
 sum-append g [] ys = omega (arith, ints)
 sum-append g (x ∷ xs) ys = omega (arith, ints, sum-append g xs ys)
 
--- over two lists that go along each step as much oftener than back it is the same
+-- over two lists the sum is the same, if both take each step equally much more often than the step back
 pub sum_same : (g : (ℕ × ℕ) → ℤ) → IsOdd g → (es fs : List (ℕ × ℕ)) → ((u v : ℕ) → times u v es + times v u fs ≡ times v u es + times u v fs)
     → sum_z g es ≡ sum_z g fs
 sum_same g h es fs c =
@@ -165,7 +165,7 @@ sum_same g h es fs c =
     )) in
     omega (arith, ints, zero_sum, sum-append g es (map back fs), sum-turned g h fs)
 
--- ---- only where it is not 0 the steps have to be taken as often as back
+-- ---- the sum is 0, too, if only steps at which the function is not 0 are taken as often as the steps back
 module _ (g : (ℕ × ℕ) → ℤ) (odd : IsOdd g) (es : List (ℕ × ℕ)) where
   some_or_not : (e : ℕ × ℕ) → Decided (¬ (g e ≡ pos 0))
   some_or_not e = contrary (g e ≡ pos 0) (same_number (g e) (pos 0))
@@ -201,7 +201,7 @@ module _ (g : (ℕ × ℕ) → ℤ) (odd : IsOdd g) (es : List (ℕ × ℕ)) whe
           by (inl z) = dropped_times u v z ∙ sym (dropped_times v u (let o = odd (u, v) in omega (arith, ints, o, z)))
           by (inr n) = kept_times u v n ∙ h u v n ∙ sym (kept_times v u (λ z. n (let o = odd (u, v) in omega (arith, ints, o, z))))
 
--- ---- how much oftener a step is taken than the step back
+-- ---- how much more often a step is taken than the step back
 abbrev pub lead : ℕ → ℕ → (ℕ × ℕ) → ℤ
 lead u v e = pos (cond (is_edge (u, v) e) 1 0) -ℤ pos (cond (is_edge (v, u) e) 1 0)
 

@@ -1,4 +1,4 @@
-//! The laws of surfaces in pieces: the hull's own polygons are one, and each measures as much as the hull.
+//! The laws of surfaces in pieces: the polygons of a right hull are a surface, and each surface measures as much as the hull.
 //!
 //! They stand above `qh_check`, whose definition of a surface they speak of. No program rests on them.
 #![tactic(auto)]
