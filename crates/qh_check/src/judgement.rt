@@ -1,4 +1,7 @@
 //! The judgement on faces.
+ghost use Rattle.std.specs.Prelude.{Some};
+ghost use Rattle.qh_check.specs.contract.Texts.{judgement_text};
+
 use crate::flaw::SurfaceVerdict;
 use std::fmt;
 
@@ -12,6 +15,8 @@ pub enum Judgement {
 }
 
 impl fmt::Display for Judgement {
+    ghost output = { λ x. Some (judgement_text x) };
+
     fn fmt<W: fmt::Write>(&self, f: &mut fmt::Formatter<W>) -> fmt::Result {
         match self {
             Judgement::Told(verdict) => write!(f, "{verdict}"),
