@@ -1,6 +1,6 @@
 //! Lines of text for a person.
 ghost use Rattle.std.specs.Prelude.{◌≡◌, ℕ, ◌+◌, ◌-◌, ◌^◌, ◌<◌, List, Option, None, Some, is_ok, if◌then◌else◌};
-ghost use Rattle.qh_write.specs.headline.Sinks.{SendsLine};
+ghost use Rattle.qh_write.specs.contract.LineDevices.{SendsLine};
 
 use crate::sink::SinkFault;
 use std::fmt::Display;

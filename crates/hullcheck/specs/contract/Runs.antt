@@ -5,8 +5,7 @@ use Rattle.std.specs.declared.io.ErrorKind.TheVariants.{OutOfMemory}
 use Rattle.qh_check.specs.contract.Texts.{judgement_text}
 use Rattle.qh_check.specs.declared.judgement.Judgement.{Judgement}
 use Rattle.qh_write.specs.declared.sink.SinkFault.{SinkFault}
-use Rattle.qh_write.specs.contract.LineDevices.{IsCounted, LineDevice, SaysLine}
-use Rattle.qh_write.specs.headline.Sinks.{SendsLine}
+use Rattle.qh_write.specs.contract.LineDevices.{IsCounted, LineDevice, SaysLine, SendsLine}
 use Rattle.hullcheck.specs.declared.fault.Fault.{Fault}
 use Rattle.hullcheck.specs.declared.fault.Fault.TheVariants.{Memory, Output, Usage}
 use Rattle.hullcheck.specs.contract.Checking.{IsJudgeFault}
