@@ -3,7 +3,7 @@ use super::assert_rows;
 use qh_fixtures::files::{
     CUBE, OCTAHEDRON, OCTAHEDRON_OFF, ONE_POINT, SQUARE, TETRAHEDRON, TETRAHEDRON_OFF,
 };
-use qh_outcomes::{Asked, OFFT, SUMMARY};
+use crate::tests::outcomes::{Asked, OFFT, SUMMARY};
 use qh_write::Out;
 use std::test::Fail;
 
