@@ -9,7 +9,7 @@ ghost use Rattle.hullcheck.specs.steps.Unread.{StopsText};
 
 use crate::fault::Fault;
 use qh_check::{Judgement, judge_faces};
-use qh_faces::{Faces, Layout, Reading, read_faces};
+use qh_read::faces::{Faces, Layout, Reading, read_faces};
 use qh_model::{BYTE_LIMIT, Form, Memory, Point, ReadFault};
 use qh_read::{PIECE_LENGTH, Source, read_form_threads};
 use std::alloc::Global;

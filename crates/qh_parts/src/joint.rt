@@ -8,7 +8,7 @@ ghost use Rattle.qh_parts.specs.steps.Kept.{HaveKept};
 use crate::given::{Given, given_in_threads};
 use qh_bodies::UnsortedFaces;
 use qh_division::{Divided, Part, kept_ids};
-use qh_gap::bridge_over;
+use qh_guess::gap::bridge_over;
 use qh_guess::Outline;
 use qh_model::{Id, Memory, Polygon};
 use std::alloc::Global;

@@ -6,8 +6,8 @@ use Rattle.qh_model.specs.declared.read_fault.ReadFault.{ReadFault}
 use Rattle.qh_model.specs.declared.read_fault.ReadFault.TheVariants as reads
 use Rattle.qh_model.specs.headline.Forms.{IsFirstFault}
 use Rattle.qh_read.specs.contract.ReadFaults.{IsTextFault}
-use Rattle.qh_faces.specs.declared.reading.Reading.{Reading}
-use Rattle.qh_faces.specs.contract.FaceFiles.{IsFaultOfFaces}
+use Rattle.qh_read.specs.declared.faces.reading.Reading.{Reading}
+use Rattle.qh_read.specs.contract.FaceFiles.{IsFaultOfFaces}
 use Rattle.hullcheck.specs.declared.fault.Fault.{Fault}
 use Rattle.hullcheck.specs.declared.fault.Fault.TheVariants.{Usage, Memory, Device, Output, Points, Faces}
 use Rattle.hullcheck.specs.contract.CommandLine.{Asked, asked_by}

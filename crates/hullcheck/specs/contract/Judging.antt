@@ -2,10 +2,10 @@
 use Rattle.std.specs.Prelude.{ℕ, ◌≡◌, List, Option, Some, IfSome}
 use Rattle.qh_model.specs.headline.PointFile.{Reads}
 use Rattle.qh_model.specs.headline.Vector.{Vector}
-use Rattle.qh_faces.specs.declared.reading.Layout.{Layout}
-use Rattle.qh_faces.specs.declared.reading.Layout.TheVariants.{Off, Counted, Lines}
-use Rattle.qh_faces.specs.declared.reading.Reading.{Reading}
-use Rattle.qh_faces.specs.contract.FaceFiles.{ReadsFaces}
+use Rattle.qh_read.specs.declared.faces.reading.Layout.{Layout}
+use Rattle.qh_read.specs.declared.faces.reading.Layout.TheVariants.{Off, Counted, Lines}
+use Rattle.qh_read.specs.declared.faces.reading.Reading.{Reading}
+use Rattle.qh_read.specs.contract.FaceFiles.{ReadsFaces}
 use Rattle.qh_check.specs.declared.judgement.Judgement.{Judgement}
 use Rattle.qh_check.specs.contract.Judging.{IsJudgement}
 use Rattle.hullcheck.specs.contract.CommandLine.{Asked, asked_by}

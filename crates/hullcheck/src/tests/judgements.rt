@@ -3,7 +3,7 @@ use crate::command_line::settings_of;
 use crate::fault::Fault;
 use crate::judging::check_streams;
 use qh_check::{Judgement, SurfaceVerdict};
-use qh_faces::{Layout, Reading, Turn};
+use qh_read::faces::{Layout, Reading, Turn};
 use qh_model::ReadFault;
 use qh_read::MemSource;
 use std::alloc::{AllocError, Global};

@@ -1,5 +1,5 @@
 //! Worked rows: texts, and the faces that they have.
-use qh_faces::{Layout, Reading, Turn, read_faces};
+use qh_read::faces::{Layout, Reading, Turn, read_faces};
 use qh_fixtures::faces::are_round;
 use qh_model::ReadFault;
 use std::alloc::Global;

@@ -6,10 +6,10 @@
 ghost use Rattle.std.specs.Prelude.{◌≤◌, length};
 ghost use Rattle.qh_model.specs.declared.limits.TheConstants.{POINT_LIMIT};
 
+use crate::tests::outcomes::{Asked, Call, OFF, Outcome, refusal, shown};
 use qh_fixtures::files::{OCTAHEDRON, OCTAHEDRON_OFF};
 use qh_fixtures::points::octahedron;
 use qh_model::{Body, Cut, Id, Memory, Point};
-use crate::tests::outcomes::{Asked, Call, OFF, Outcome, refusal, shown};
 use qh_plane::distinct;
 use qh_read::ReadFault;
 use qh_run::{Gate, NoGate, RunError, run_hull};

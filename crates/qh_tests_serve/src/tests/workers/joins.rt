@@ -1,8 +1,8 @@
 //! Runs in many small blocks: what workers find in two blocks is joined in the tree.
 use super::paraboloid::{asked_in, points};
 use super::stored_points::STORED;
-use qh_model::{Body, Id, Memory, Point};
 use crate::tests::outcomes::{Asked, Call};
+use qh_model::{Body, Id, Memory, Point};
 use qh_run::{Gate, NoGate};
 use std::alloc::{AllocError, Global};
 use std::sync::atomic::{AtomicU64, Ordering};

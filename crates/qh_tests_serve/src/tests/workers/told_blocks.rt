@@ -1,8 +1,8 @@
 //! A gate that keeps what it was told: which pass claimed and delivered each block.
 use super::gated::{BY_THREES, WATCHED, Watched, outcome_by};
+use crate::tests::outcomes::Asked;
 use qh_fixtures::files::OCTAHEDRON_OFF;
 use qh_model::{Body, Id, Memory, Point};
-use crate::tests::outcomes::Asked;
 use qh_run::{Gate, NoGate};
 use std::alloc::{AllocError, Global};
 use std::process::Abort;
