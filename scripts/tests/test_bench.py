@@ -21,7 +21,7 @@ import worst_points  # noqa: E402
 import worst_workers  # noqa: E402
 
 # Crates of laws, which have no code that runs.
-LAWS = {"qh_laws", "qh_seam_laws", "qh_convex_laws", "qh_tree_laws"}
+LAWS = {"qh_laws"}
 
 
 class FailedRuns(unittest.TestCase):

@@ -41,7 +41,7 @@ class Plants(unittest.TestCase):
                     self.assertEqual(wrong_workers.tell("a body", said, wrong_workers.FAIL), wanted != wrong_workers.FAIL)
 
     def test_one_line_states_the_runs_of_boards(self):
-        text = (TOP / "crates/qh_tests_board/src/tests/board/runs.rt").read_text(encoding="utf-8")
+        text = (TOP / "crates/qh_tests_run/src/tests/board/runs.rt").read_text(encoding="utf-8")
         self.assertEqual(text.count("\nconst RUNS: u32 = "), 1)
 
 

@@ -1,5 +1,5 @@
 //! The judgement on the faces that a source gives, for the points that another gives.
-ghost use Rattle.std.specs.Prelude.{◌≡◌, ◌≤◌, ◌<◌, ◌-◌, ◌^◌, IfErr, IfOk, OnOk, length};
+ghost use Rattle.std.specs.Prelude.{◌≡◌, ◌≤◌, ◌<◌, ◌-◌, ◌^◌, IfErr, IfOk, length};
 ghost use Rattle.qh_model.specs.declared.limits.TheConstants.{BYTE_LIMIT, POINT_LIMIT};
 ghost use Rattle.qh_read.specs.headline.SourceBytes.{GivesAll};
 ghost use Rattle.qh_check.specs.contract.Judging.{IsJudgement};
@@ -9,8 +9,8 @@ ghost use Rattle.hullcheck.specs.steps.Unread.{StopsText};
 
 use crate::fault::Fault;
 use qh_check::{Judgement, judge_faces};
-use qh_read::faces::{Faces, Layout, Reading, read_faces};
 use qh_model::{BYTE_LIMIT, Form, Memory, Point, ReadFault};
+use qh_read::faces::{Faces, Layout, Reading, read_faces};
 use qh_read::{PIECE_LENGTH, Source, read_form_threads};
 use std::alloc::Global;
 use std::thread::Threads;

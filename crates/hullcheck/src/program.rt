@@ -1,5 +1,5 @@
 //! The program between the words of a command line, files, and lines for a person.
-ghost use Rattle.std.specs.Prelude.{◌≡◌, ◌≢◌, ◌⊎◌, ◌^◌, ◌-◌, ◌<◌, ◌≤◌, ◌+◌, IfErr, IfOk, map, string_bytes};
+ghost use Rattle.std.specs.Prelude.{◌≡◌, ◌≢◌, ◌^◌, ◌-◌, ◌<◌, IfErr, IfOk, map, string_bytes};
 ghost use Rattle.std.specs.Option.{option_map};
 ghost use Rattle.std.specs.declared.io.ErrorKind.TheVariants.{OutOfMemory};
 ghost use Rattle.qh_write.specs.contract.LineDevices.{LineDevice};
@@ -144,7 +144,7 @@ pub fn run<R: Threads + Sync, F: Files, O: Lines, L: Lines>(
         let before : LineDevice = record { went = L.went errors.old; failures = L.count errors.old } in
         let after : LineDevice = record { went = L.went errors.new; failures = L.count errors.new } in
         IsRun (IsJudged (λ v. map string_bytes v.items) words (F.contents files.old) (F.failures files.old < F.failures files.new))
-            old new before after result }
+        old new before after result }
 {
     let judged = judge(rt, alloc, words, files);
     end(output, errors, judged)

@@ -63,10 +63,7 @@ impl<R: rt::Files + Input> Files for SystemFiles<'_, R> {
 
     ghost failures = { λ s. s.failures };
 
-    fn open(
-        &mut self,
-        name: Option<&str>,
-    ) -> Result<SystemFile<R::File, R::Reader>, ErrorKind> {
+    fn open(&mut self, name: Option<&str>) -> Result<SystemFile<R::File, R::Reader>, ErrorKind> {
         let reader = match name {
             None => Reader::Standard(self.rt.reader()),
             Some(path) => match fs::open(self.rt, path) {
@@ -91,9 +88,7 @@ impl<R: rt::Files + Input> Files for SystemFiles<'_, R> {
 /// Returns the words of the command line, the program's name first.
 fn words<R: Env + AllocGlobal>(rt: &R) -> Result<Vec<String>, ErrorKind> {
     match env::args(rt) {
-        Ok(args) => args
-            .collect(rt.alloc())
-            .map_err(|_| ErrorKind::OutOfMemory),
+        Ok(args) => args.collect(rt.alloc()).map_err(|_| ErrorKind::OutOfMemory),
         Err(error) => Err(error.kind()),
     }
 }

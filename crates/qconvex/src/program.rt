@@ -1,8 +1,7 @@
 //! The program between the words of a command line, a source of points and a sink of texts.
 ghost use Rattle.std.specs.Prelude.{◌≡◌, ◌≢◌, ◌-◌, ◌^◌, ◌<◌, map, string_bytes};
 ghost use Rattle.std.specs.declared.io.ErrorKind.TheVariants.{OutOfMemory};
-ghost use Rattle.qh_serve.specs.headline.Serving.{Devices};
-ghost use Rattle.qconvex.specs.contract.Outcomes.{IsOutcome};
+ghost use Rattle.qconvex.specs.contract.Outcomes.{IsOutcome, devices};
 ghost use Rattle.qh_write.specs.contract.LineDevices.{LineDevice};
 ghost use Rattle.qconvex.specs.contract.Runs.{IsAsked, IsRun, SaysFault, outcome_status};
 ghost use Rattle.qconvex.specs.declared.command_line.ArgFault.TheVariants.{Usage, Memory};
@@ -48,8 +47,8 @@ pub fn respond<R: Threads + Sync, S: Source, K: Sink>(
 ) -> Result<(), Fault>
     requires source { S.failure_count source.old < 2 ^ 64 - 1 }
     requires sink { K.count sink.old < 2 ^ 64 - 1 }
-    ensures { let old : Devices = record { to_come = S.remaining source.old; went = K.went sink.old; source_failures = S.failure_count source.old; sink_failures = K.count sink.old; flushed = K.is_flushed sink.old } in
-        let new : Devices = record { to_come = S.remaining source.new; went = K.went sink.new; source_failures = S.failure_count source.new; sink_failures = K.count sink.new; flushed = K.is_flushed sink.new } in
+    ensures { let old = devices (S.remaining source.old) (K.went sink.old) (S.failure_count source.old) (K.count sink.old) (K.is_flushed sink.old) in
+        let new = devices (S.remaining source.new) (K.went sink.new) (S.failure_count source.new) (K.count sink.new) (K.is_flushed sink.new) in
         IsOutcome asked old new result }
 {
     match asked {
@@ -105,8 +104,8 @@ pub fn run<R: Threads + Sync, S: Source, K: Sink, L: Lines>(
     requires source { S.failure_count source.old < 2 ^ 64 - 1 }
     requires sink { K.count sink.old < 2 ^ 64 - 1 }
     requires errors { L.count errors.old < 2 ^ 64 - 1 }
-    ensures { let old : Devices = record { to_come = S.remaining source.old; went = K.went sink.old; source_failures = S.failure_count source.old; sink_failures = K.count sink.old; flushed = K.is_flushed sink.old } in
-        let new : Devices = record { to_come = S.remaining source.new; went = K.went sink.new; source_failures = S.failure_count source.new; sink_failures = K.count sink.new; flushed = K.is_flushed sink.new } in
+    ensures { let old = devices (S.remaining source.old) (K.went sink.old) (S.failure_count source.old) (K.count sink.old) (K.is_flushed sink.old) in
+        let new = devices (S.remaining source.new) (K.went sink.new) (S.failure_count source.new) (K.count sink.new) (K.is_flushed sink.new) in
         let before : LineDevice = record { went = L.went errors.old; failures = L.count errors.old } in
         let after : LineDevice = record { went = L.went errors.new; failures = L.count errors.new } in
         IsRun (λ v. map string_bytes v.items) words old new before after result }

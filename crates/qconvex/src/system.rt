@@ -12,9 +12,7 @@ use std::{env, io};
 /// Returns the words of the command line, the program's name first.
 fn words<R: Env + AllocGlobal>(rt: &R) -> Result<Vec<String>, ErrorKind> {
     match env::args(rt) {
-        Ok(args) => args
-            .collect(rt.alloc())
-            .map_err(|_| ErrorKind::OutOfMemory),
+        Ok(args) => args.collect(rt.alloc()).map_err(|_| ErrorKind::OutOfMemory),
         Err(error) => Err(error.kind()),
     }
 }

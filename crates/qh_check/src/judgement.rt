@@ -21,7 +21,10 @@ impl fmt::Display for Judgement {
         match self {
             Judgement::Told(verdict) => write!(f, "{verdict}"),
             Judgement::Stranger(position) => {
-                write!(f, "face {position}: a corner of it is none of the points")
+                write!(
+                    f,
+                    "face {position}: one of its corners is not a point of the set"
+                )
             }
         }
     }

@@ -1,11 +1,10 @@
 -- What keeps from a verdict on the bytes of two files. This project's own.
-use Rattle.std.specs.Prelude.{ℕ, ◌≡◌, ◌<◌, List, ◌++◌, Option, None, Some, IfSome, length}
+use Rattle.std.specs.Prelude.{ℕ, ◌≡◌, ◌<◌, List, Option, None, Some, IfSome, length}
 use Rattle.qh_model.specs.declared.form.Form.TheVariants as forms
 use Rattle.qh_model.specs.declared.limits.TheConstants.{BYTE_LIMIT}
 use Rattle.qh_model.specs.declared.read_fault.ReadFault.{ReadFault}
 use Rattle.qh_model.specs.declared.read_fault.ReadFault.TheVariants as reads
 use Rattle.qh_model.specs.headline.Forms.{IsFirstFault}
-use Rattle.qh_read.specs.contract.ReadFaults.{IsTextFault}
 use Rattle.qh_read.specs.declared.faces.reading.Reading.{Reading}
 use Rattle.qh_read.specs.contract.FaceFiles.{IsFaultOfFaces}
 use Rattle.hullcheck.specs.declared.fault.Fault.{Fault}

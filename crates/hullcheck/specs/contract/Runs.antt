@@ -13,7 +13,7 @@ use Rattle.hullcheck.specs.contract.FaultTexts.{fault_text}
 use Rattle.hullcheck.specs.contract.Judging.{IsToldBy}
 use Rattle.hullcheck.specs.contract.Statuses.{fault_status, judgement_status}
 
--- there are no words, for want of memory or since one is not UTF-8
+-- there are no words: out of memory, or one is not UTF-8
 abbrev pub IsUnread : ErrorKind → Result Judgement Fault → Type 0
 IsUnread kind judged = (kind ≡ OutOfMemory → judged ≡ Err Memory) × (kind ≢ OutOfMemory → judged ≡ Err Usage)
 

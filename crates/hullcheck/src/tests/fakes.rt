@@ -4,8 +4,8 @@ ghost use Rattle.std.specs.Prelude.{None};
 use crate::files::Files;
 use qh_read::{DeviceFault, Source};
 use qh_write::{Lines, SinkFault};
-use std::fmt::Display;
-use std::fmt::Write;
+use std::alloc::Global;
+use std::fmt::{Display, Write};
 use std::io::ErrorKind;
 
 /// A file in memory. A read of one without bytes fails.
@@ -80,8 +80,28 @@ impl<'a> Files for FakeFiles<'a> {
 #[derive(Drop)]
 pub struct FakeLines {
     pub text: String,
-    pub fails: bool,
-    pub failures: u64,
+    fails: bool,
+    failures: u64,
+}
+
+impl FakeLines {
+    /// Creates a device that keeps its lines.
+    pub fn kept(alloc: Global) -> FakeLines {
+        FakeLines {
+            text: String::new(alloc),
+            fails: false,
+            failures: 0,
+        }
+    }
+
+    /// Creates a device of which each call fails.
+    pub fn failing(alloc: Global) -> FakeLines {
+        FakeLines {
+            text: String::new(alloc),
+            fails: true,
+            failures: 0,
+        }
+    }
 }
 
 impl Lines for FakeLines {

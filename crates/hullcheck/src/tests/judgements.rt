@@ -3,15 +3,16 @@ use crate::command_line::settings_of;
 use crate::fault::Fault;
 use crate::judging::check_streams;
 use qh_check::{Judgement, SurfaceVerdict};
-use qh_read::faces::{Layout, Reading, Turn};
 use qh_model::ReadFault;
 use qh_read::MemSource;
+use qh_read::faces::{Layout, Reading, Turn};
 use std::alloc::{AllocError, Global};
 use std::test::Fail;
 use std::thread::Threads;
 
 /// The corners of a cube, and two of them once more.
-pub const CUBE: &str = "3 10\n0 0 0\n0 0 1\n0 1 0\n0 1 1\n1 0 0\n1 0 1\n1 1 0\n1 1 1\n0 0 0\n1 1 1\n";
+pub const CUBE: &str =
+    "3 10\n0 0 0\n0 0 1\n0 1 0\n0 1 1\n1 0 0\n1 0 1\n1 1 0\n1 1 1\n0 0 0\n1 1 1\n";
 
 /// Returns the judgement on a text of faces of the cube.
 fn told<R: Threads + Sync>(

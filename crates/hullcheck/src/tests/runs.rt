@@ -2,7 +2,6 @@
 use super::fakes::{FakeFiles, FakeLines};
 use super::judgements::{BY_INDICES, COUNTED, CUBE, words};
 use crate::program::run;
-use std::alloc::Global;
 use std::test::Fail;
 
 const USAGE: &str =
@@ -19,8 +18,20 @@ const FILES: [(&str, Option<&str>); 5] = [
 
 /// Words, the standard input, the exit status, and what goes to the output and to the errors.
 const RUNS: [(&[&str], &str, u8, &str, &str); 10] = [
-    (&["hullcheck", "cube", "faces", "--counted"], "", 0, "all right\n", ""),
-    (&["hullcheck", "--counted", "cube"], COUNTED, 0, "all right\n", ""),
+    (
+        &["hullcheck", "cube", "faces", "--counted"],
+        "",
+        0,
+        "all right\n",
+        "",
+    ),
+    (
+        &["hullcheck", "--counted", "cube"],
+        COUNTED,
+        0,
+        "all right\n",
+        "",
+    ),
     (
         &["hullcheck", "--indices", "--clockwise", "cube"],
         BY_INDICES,
@@ -32,7 +43,7 @@ const RUNS: [(&[&str], &str, u8, &str, &str); 10] = [
         &["hullcheck", "--counted", "cube", "stranger"],
         COUNTED,
         1,
-        "face 1: a corner of it is none of the points\n",
+        "face 1: one of its corners is not a point of the set\n",
         "",
     ),
     (&["hullcheck"], COUNTED, 2, "", USAGE),
@@ -73,15 +84,6 @@ const RUNS: [(&[&str], &str, u8, &str, &str); 10] = [
     ),
 ];
 
-/// Returns lines of which none was written yet.
-fn lines(alloc: Global, fails: bool) -> FakeLines {
-    FakeLines {
-        text: String::new(alloc),
-        fails,
-        failures: 0,
-    }
-}
-
 #[test]
 fn runs(rt: HostRuntime) -> Result<(), Fail> {
     for (texts, input, status, wanted, line) in RUNS {
@@ -91,8 +93,15 @@ fn runs(rt: HostRuntime) -> Result<(), Fail> {
             failures: 0,
         };
         let words = words(rt.alloc(), texts)?;
-        let (mut output, mut errors) = (lines(rt.alloc(), false), lines(rt.alloc(), false));
-        let ended = run(&rt, rt.alloc(), Ok(words), &mut files, &mut output, &mut errors);
+        let (mut output, mut errors) = (FakeLines::kept(rt.alloc()), FakeLines::kept(rt.alloc()));
+        let ended = run(
+            &rt,
+            rt.alloc(),
+            Ok(words),
+            &mut files,
+            &mut output,
+            &mut errors,
+        );
         let told = (ended, output.text.as_str(), errors.text.as_str());
         assert_eq!(rt; told, (status, wanted, line), "at {texts:?}");
     }
@@ -107,8 +116,15 @@ fn a_judgement_that_cannot_be_written_is_a_fault(rt: HostRuntime) -> Result<(), 
         failures: 0,
     };
     let words = words(rt.alloc(), &["hullcheck", "cube", "--counted"])?;
-    let (mut output, mut errors) = (lines(rt.alloc(), true), lines(rt.alloc(), false));
-    let ended = run(&rt, rt.alloc(), Ok(words), &mut files, &mut output, &mut errors);
+    let (mut output, mut errors) = (FakeLines::failing(rt.alloc()), FakeLines::kept(rt.alloc()));
+    let ended = run(
+        &rt,
+        rt.alloc(),
+        Ok(words),
+        &mut files,
+        &mut output,
+        &mut errors,
+    );
     let wanted = "hullcheck: the judgement could not be written\n";
     assert_eq!(rt; (ended, errors.text.as_str()), (4, wanted));
     Ok(())

@@ -14,7 +14,7 @@ use Rattle.qconvex.specs.contract.Outcomes.{IsOutcome}
 use Rattle.qconvex.specs.declared.command_line.ArgFault.{ArgFault}
 use Rattle.qconvex.specs.declared.command_line.ArgFault.TheVariants.{Usage, Memory}
 
--- there are no words, for want of memory or since one is not UTF-8
+-- there are no words: out of memory, or one is not UTF-8
 abbrev pub IsUnread : ErrorKind → Result SettingsValue ArgFault → Type 0
 IsUnread kind asked = (kind ≡ OutOfMemory → asked ≡ Err Memory) × (kind ≢ OutOfMemory → asked ≡ Err Usage)
 

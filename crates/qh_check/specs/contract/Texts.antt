@@ -25,4 +25,4 @@ verdict_text (Twice u v) =
 -- the judgement
 abbrev pub judgement_text : Judgement → List ℕ
 judgement_text (Told verdict) = verdict_text verdict
-judgement_text (Stranger n) = codes "face " ++ decimal n ++ codes ": a corner of it is none of the points"
+judgement_text (Stranger n) = codes "face " ++ decimal n ++ codes ": one of its corners is not a point of the set"
