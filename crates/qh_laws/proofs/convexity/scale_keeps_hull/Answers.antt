@@ -1,4 +1,4 @@
-use Rattle.qh_laws.proofs.convex.scale_keeps_hull.Goals as goal
+use Rattle.qh_laws.proofs.convexity.scale_keeps_hull.Goals as goal
 use Rattle.qh_laws.proofs.Scales.{scaled_volume, scale_keeps_distinct, scale_keeps_convex, scale_keeps_polygons, scale_keeps_extremes, scale_keeps_faces}
 
 pub returns : goal.returns
