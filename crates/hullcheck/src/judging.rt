@@ -46,7 +46,7 @@ fn judge<R: Threads + Sync>(
     pts: &[Point],
     faces: &Faces,
     layout: Layout,
-    workers: u32,
+    threads: u32,
 ) -> Result<Judgement, Memory>
     requires some { 0 < length pts.now }
     requires few { length pts.now ≤ POINT_LIMIT }
@@ -56,10 +56,11 @@ fn judge<R: Threads + Sync>(
         Layout::Off => faces.vertices.as_slice(),
         Layout::Counted | Layout::Lines => pts,
     };
-    judge_faces(rt, alloc, pts, named, &faces.polygons, workers)
+    judge_faces(rt, alloc, pts, named, &faces.polygons, threads)
 }
 
-/// Returns the judgement on the faces that a source gives, for the points that another gives.
+/// Returns the judgement on the faces that a source gives, for the points that another gives, by at most `threads`
+/// threads.
 ///
 /// # Errors
 ///
@@ -70,7 +71,7 @@ pub fn check_streams<R: Threads + Sync, S: Source, F: Source>(
     points: &mut S,
     faces: &mut F,
     reading: Reading,
-    workers: u32,
+    threads: u32,
 ) -> Result<Judgement, Fault>
     requires points { S.failure_count points.old < 2 ^ 64 - 1 }
     requires faces { F.failure_count faces.old < 2 ^ 64 - 1 }
@@ -80,11 +81,11 @@ pub fn check_streams<R: Threads + Sync, S: Source, F: Source>(
     ensures few_points { S.failure_count points.new ≤ S.failure_count points.old + 1 }
     ensures few_faces { F.failure_count faces.new ≤ F.failure_count faces.old + 1 }
 {
-    let pts = read_form_threads(rt, alloc, workers as usize, Form::Qhull, points).map_err(
+    let pts = read_form_threads(rt, alloc, threads as usize, Form::Qhull, points).map_err(
         Fault::Points,
     )?;
     let text = text_of(alloc, faces).map_err(Fault::Faces)?;
     let faces = read_faces(alloc, &text, reading).map_err(Fault::Faces)?;
-    let judgement = judge(rt, alloc, &pts, &faces, reading.layout, workers)?;
+    let judgement = judge(rt, alloc, &pts, &faces, reading.layout, threads)?;
     Ok(judgement)
 }

@@ -61,6 +61,7 @@ fn judge_words<R: Threads + Sync, F: Files>(
     rt: &R,
     alloc: Global,
     words: &[String],
+    processors: usize,
     files: &mut F,
 ) -> Result<Judgement, Fault>
     requires { F.failures files.old < 2 ^ 31 }
@@ -71,8 +72,15 @@ fn judge_words<R: Threads + Sync, F: Files>(
     let settings = settings_of(words)?;
     let mut points = open(files, settings.points)?;
     let mut faces = open(files, settings.faces)?;
-    let (reading, workers) = (settings.reading, settings.workers);
-    let judged = check_streams(rt, alloc, &mut points, &mut faces, reading, workers);
+    let threads = (settings.workers as usize).min(processors).max(1);
+    let judged = check_streams(
+        rt,
+        alloc,
+        &mut points,
+        &mut faces,
+        settings.reading,
+        threads as u32,
+    );
     files.close(points);
     files.close(faces);
     judged
@@ -83,6 +91,7 @@ fn judge<R: Threads + Sync, F: Files>(
     rt: &R,
     alloc: Global,
     words: Result<Vec<String>, ErrorKind>,
+    processors: usize,
     files: &mut F,
 ) -> Result<Judgement, Fault>
     requires { F.failures files.old < 2 ^ 31 }
@@ -90,7 +99,7 @@ fn judge<R: Threads + Sync, F: Files>(
         (F.failures files.old < F.failures files.new) result }
 {
     match words {
-        Ok(words) => judge_words(rt, alloc, &words, files),
+        Ok(words) => judge_words(rt, alloc, &words, processors, files),
         Err(kind) => Err(unread_words(kind)),
     }
 }
@@ -127,11 +136,13 @@ fn end<O: Lines, L: Lines>(output: &mut O, errors: &mut L, judged: Result<Judgem
 
 /// Judges the faces that the words of a command line name, writes the judgement or the fault, and returns the exit status.
 ///
-/// The words come with the program's name first, or with why the system couldn't give them.
+/// The words come with the program's name first, or with why the system couldn't give them. The number of processors
+/// limits the threads, and changes nothing else.
 pub fn run<R: Threads + Sync, F: Files, O: Lines, L: Lines>(
     rt: &R,
     alloc: Global,
     words: Result<Vec<String>, ErrorKind>,
+    processors: usize,
     files: &mut F,
     output: &mut O,
     errors: &mut L,
@@ -146,6 +157,6 @@ pub fn run<R: Threads + Sync, F: Files, O: Lines, L: Lines>(
         IsRun (IsJudged (λ v. map string_bytes v.items) words (F.contents files.old) (F.failures files.old < F.failures files.new))
         old new before after result }
 {
-    let judged = judge(rt, alloc, words, files);
+    let judged = judge(rt, alloc, words, processors, files);
     end(output, errors, judged)
 }

@@ -8,7 +8,7 @@ use qh_write::{ErrorLines, OutLines};
 use std::io::{ErrorKind, Read};
 use std::process::ExitCode;
 use std::rt::Env;
-use std::thread::Threads;
+use std::thread::{Threads, available_parallelism};
 use std::{env, fs, rt};
 
 /// Where the bytes of a file come from.
@@ -93,6 +93,14 @@ fn words<R: Env + AllocGlobal>(rt: &R) -> Result<Vec<String>, ErrorKind> {
     }
 }
 
+/// Returns the number of processors that this process may use, or the greatest number if the system doesn't tell it.
+fn processors<R: Threads>(rt: &R) -> usize {
+    match available_parallelism(rt) {
+        Ok(count) => count.get(),
+        Err(_) => usize::MAX,
+    }
+}
+
 /// Runs the program between the command line, the files and the standard streams.
 pub fn start<R: Env + rt::Files + Input + Print + Eprint + AllocGlobal + Threads + Sync>(
     rt: &R,
@@ -103,6 +111,7 @@ pub fn start<R: Env + rt::Files + Input + Print + Eprint + AllocGlobal + Threads
         rt,
         rt.alloc(),
         words(rt),
+        processors(rt),
         &mut files,
         &mut output,
         &mut errors,

@@ -26,12 +26,16 @@ fn unread(kind: ErrorKind) -> ArgFault
     }
 }
 
-/// Returns the settings that words ask for, where they could be read.
-fn asked(alloc: Global, words: Result<Vec<String>, ErrorKind>) -> Result<Settings, ArgFault>
+/// Returns the settings that words ask for on this number of processors, where the words could be read.
+fn asked(
+    alloc: Global,
+    words: Result<Vec<String>, ErrorKind>,
+    processors: usize,
+) -> Result<Settings, ArgFault>
     ensures { IsAsked (λ v. map string_bytes v.items) words result }
 {
     match words {
-        Ok(words) => settings_of(alloc, words),
+        Ok(words) => Ok(settings_of(alloc, words)?.on_processors(processors)),
         Err(kind) => Err(unread(kind)),
     }
 }
@@ -53,14 +57,14 @@ pub fn respond<R: Threads + Sync, S: Source, K: Sink>(
 {
     match asked {
         Ok(settings) => {
-            let workers = settings.workers();
+            let threads = settings.threads();
             serve(
                 rt,
                 alloc,
                 source,
                 sink,
                 &settings,
-                &Threaded { rt, workers },
+                &Threaded { rt, threads },
             )
         }
         Err(ArgFault::Help(text)) => match send(sink, text.as_bytes()) {
@@ -92,11 +96,13 @@ fn end<L: Lines>(errors: &mut L, outcome: Result<(), Fault>) -> u8
 /// Judges the words of a command line, serves the source and the sink or writes the help text, and returns the exit
 /// status: 0, or that of the fault whose line went to the errors.
 ///
-/// The words come with the program's name first, or with why the system couldn't give them.
+/// The words come with the program's name first, or with why the system couldn't give them. The number of processors
+/// limits the threads, and changes nothing else.
 pub fn run<R: Threads + Sync, S: Source, K: Sink, L: Lines>(
     rt: &R,
     alloc: Global,
     words: Result<Vec<String>, ErrorKind>,
+    processors: usize,
     source: &mut S,
     sink: &mut K,
     errors: &mut L,
@@ -110,6 +116,6 @@ pub fn run<R: Threads + Sync, S: Source, K: Sink, L: Lines>(
         let after : LineDevice = record { went = L.went errors.new; failures = L.count errors.new } in
         IsRun (λ v. map string_bytes v.items) words old new before after result }
 {
-    let outcome = respond(rt, alloc, asked(alloc, words), source, sink);
+    let outcome = respond(rt, alloc, asked(alloc, words, processors), source, sink);
     end(errors, outcome)
 }

@@ -6,7 +6,7 @@ use qh_write::{ErrorLines, StdSink};
 use std::io::ErrorKind;
 use std::process::ExitCode;
 use std::rt::Env;
-use std::thread::Threads;
+use std::thread::{Threads, available_parallelism};
 use std::{env, io};
 
 /// Returns the words of the command line, the program's name first.
@@ -14,6 +14,14 @@ fn words<R: Env + AllocGlobal>(rt: &R) -> Result<Vec<String>, ErrorKind> {
     match env::args(rt) {
         Ok(args) => args.collect(rt.alloc()).map_err(|_| ErrorKind::OutOfMemory),
         Err(error) => Err(error.kind()),
+    }
+}
+
+/// Returns the number of processors that this process may use, or the greatest number if the system doesn't tell it.
+fn processors<R: Threads>(rt: &R) -> usize {
+    match available_parallelism(rt) {
+        Ok(count) => count.get(),
+        Err(_) => usize::MAX,
     }
 }
 
@@ -25,6 +33,7 @@ pub fn start<R: Env + Input + Print + Eprint + AllocGlobal + Threads + Sync>(rt:
         rt,
         rt.alloc(),
         words(rt),
+        processors(rt),
         &mut source,
         &mut sink,
         &mut errors,

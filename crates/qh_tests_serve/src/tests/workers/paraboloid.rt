@@ -103,7 +103,7 @@ fn has_the_same_text_by_parts(rt: HostRuntime) -> Result<(), Fail> {
     let whole = outcome_of(&rt, asked, input.as_bytes(), &NoGate)?;
     let gate = Threaded {
         rt: &rt,
-        workers: 4,
+        threads: 4,
     };
     let by_parts = outcome_of(&rt, asked, input.as_bytes(), &gate)?;
     let holds = whole.output.starts_with(LARGE_BEGINNING) && by_parts.output == whole.output;
