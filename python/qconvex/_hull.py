@@ -104,6 +104,7 @@ class ConvexHull:
 
     def _take(self, points: NDArray[np.int32], hull: FlatHull) -> None:
         self.points: NDArray[np.int32] = points
+        self.grid_points: NDArray[np.int32] = points
         self.dimension: int = hull.dimension
         self.distinct: int = hull.distinct
         self.nedges: int = hull.edges
@@ -170,7 +171,7 @@ class ConvexHull:
     @cached_property
     def normals(self) -> NDArray[np.int64]:
         """The outer normal of each triangle, an int64 array of shape (nsimplices, 3), exact. Its length is twice the area."""
-        return normals_of(self.points, self.simplices)
+        return normals_of(self.grid_points, self.simplices)
 
     @cached_property
     def equations(self) -> NDArray[np.float64]:
@@ -193,7 +194,7 @@ class ConvexHull:
         """Six times the volume, exact; 0 below dimension 3."""
         if self.dimension < 3:
             return 0
-        return six_volumes(self.points, self.simplices)
+        return six_volumes(self.grid_points, self.simplices)
 
     @cached_property
     def volume(self) -> float:
@@ -208,7 +209,7 @@ class ConvexHull:
     @cached_property
     def _first_corners(self) -> NDArray[np.int32]:
         """The first corner of each triangle."""
-        return self.points.take(self.simplices[:, 0], 0)
+        return self.grid_points.take(self.simplices[:, 0], 0)
 
     @cached_property
     def _doubled_areas(self) -> NDArray[np.float64]:

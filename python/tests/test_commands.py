@@ -5,10 +5,8 @@ import json
 import os
 import re
 import shutil
-import struct
 import subprocess
 import sys
-import time
 import tomllib
 from pathlib import Path
 
@@ -165,121 +163,6 @@ def test_numbers_are_exact_and_an_exponent_without_end_is_refused():
             number(word)
     done = run("hullfacets", given="OFF\n1 1 0\n0 0 1e999999999\n1 0\n")
     assert done.returncode == 1 and done.stderr == b"-: the exponent of 1e999999999 is beyond 2000\n"
-
-
-# ---- meshpoints
-
-
-def ply(order, kind="float"):
-    letter = {"float": "f", "double": "d"}[kind]
-    head = f"ply\nformat {order} 1.0\nelement marker 1\nproperty short a\nelement vertex 8\nproperty uchar red\n"
-    head += "".join(f"property {kind} {axis}\n" for axis in "xyz") + "element face 0\nproperty list uchar int vertex_indices\nend_header\n"
-    if order == "ascii":
-        return head.encode() + b"7\n" + b"".join(b"9 %d.0 %d %de0\n" % point for point in CUBE)
-    sign = "<" if order == "binary_little_endian" else ">"
-    rows = b"".join(struct.pack(f"{sign}B3{letter}", 9, *point) for point in CUBE)
-    return head.encode() + struct.pack(f"{sign}h", 7) + rows
-
-
-def stl_triangles():
-    """Two triangles on each side of the cube."""
-    faces = [line.split()[1:] for line in CUBE_OFF.splitlines() if line.startswith("4 ")]
-    return [[CUBE[int(face[k])] for k in corners] for face in faces for corners in ((0, 1, 2), (0, 2, 3))]
-
-
-def stl_binary():
-    triangles = stl_triangles()
-    rows = b"".join(struct.pack("<12fH", 0, 0, 0, *sum(triangle, ()), 0) for triangle in triangles)
-    return b"solid but of bytes".ljust(80) + struct.pack("<I", len(triangles)) + rows
-
-
-def stl_text():
-    loops = ["".join("vertex %d %d %d\n" % corner for corner in triangle) for triangle in stl_triangles()]
-    rows = [f"facet normal 0 0 0\nouter loop\n{loop}endloop\nendfacet\n" for loop in loops]
-    return ("solid cube\n" + "".join(rows) + "endsolid cube\n").encode()
-
-
-MESHES = {
-    "cube.off": CUBE_OFF.encode(),
-    "cube.obj": b"# a cube\n" + b"".join(b"v %d %d %d\nvn 1 0 0\n" % point for point in CUBE),
-    "ascii.ply": ply("ascii"),
-    "little.ply": ply("binary_little_endian"),
-    "big.ply": ply("binary_big_endian", "double"),
-    "bytes.stl": stl_binary(),
-    "text.stl": stl_text(),
-}
-
-
-@pytest.mark.parametrize("name", MESHES)
-def test_vertices_of_each_format(name, tmp_path):
-    path = tmp_path / name
-    path.write_bytes(MESHES[name])
-    lines = out("meshpoints", "--scale", 2, "--centre", "0,0,0", path).splitlines()
-    assert lines[:2] == ["3 scale 2 centre 0 0 0", "8"]
-    assert sorted(tuple(map(int, line.split())) for line in lines[2:]) == [tuple(2 * part for part in point) for point in CUBE]
-
-
-def test_the_error_is_told_and_is_no_less_than_it_was(tmp_path):
-    path = tmp_path / "thirds.obj"
-    path.write_text("v 0.1 0.25 -1e-3\nv 1 2 3\n")
-    done = run("meshpoints", "--scale", 10, "--centre", "0,0,0", path)
-    assert done.stdout.decode().splitlines()[2:] == ["1 2 0", "10 20 30"]  # 2.5 goes to the even number
-    assert done.stderr.decode() == "2 of 6 coordinates were rounded, by at most 0.05\n"
-    third = run("meshpoints", "--scale", "1/3", "--centre", "0,0,0", path).stderr.decode()
-    assert third == "5 of 6 coordinates were rounded, by at most 1\n"
-    assert run("meshpoints", path).stdout.decode().split("\n")[0].startswith("3 scale ")
-
-
-def test_a_hull_comes_back_in_the_units_of_the_mesh(tmp_path):
-    path = tmp_path / "points.txt"
-    path.write_text(out("meshpoints", "--scale", 8, "--centre", "1/2,0,0", TOP / "examples" / "knot.obj"))
-    assert out("meshpoints", "--back", path, given="OFF\n1 1 0\n4 -8 1\n1 0\n") == "OFF\n1 1 0\n1 -1 0.125\n1 0\n"
-
-
-def test_a_scale_and_a_centre_are_numbers(tmp_path):
-    scales = [("--scale", word) for word in ("0", "1/0", "x", "1e999999999")]
-    for words in (*scales, ("--centre", "1,2"), ("--centre", "0,0,1/0")):
-        done = run("meshpoints", *words, TOP / "examples" / "knot.obj")
-        assert done.returncode == 2 and not done.stdout and b"Traceback" not in done.stderr
-    path = tmp_path / "points.txt"
-    for note in ("scale 0 centre 0 0 0", "scale x centre 0 0 0", "scale 1 centre 0 1/0 0"):
-        path.write_text(f"3 {note}\n1\n0 0 0\n")
-        done = run("meshpoints", "--back", path, given="OFF\n1 1 0\n1 1 1\n1 0\n")
-        assert done.returncode == 1 and not done.stdout and b"Traceback" not in done.stderr
-
-
-def test_a_hundred_thousand_vertices_take_a_second_or_so(tmp_path):
-    path = tmp_path / "many.stl"
-    count = 200_000
-    corners = [struct.pack("<3f", k % 317, k % 1009 / 8, k / 100_000) for k in range(100_000)]
-    places = ((k // 2, (k + 7) // 2 % 100_000, (k + 99) % 100_000) for k in range(count))
-    rows = b"".join(bytes(12) + b"".join(corners[place] for place in triangle) + b"\0\0" for triangle in places)
-    path.write_bytes(bytes(80) + struct.pack("<I", count) + rows)
-    start = time.perf_counter()
-    assert out("meshpoints", path).count("\n") == 100_002
-    assert time.perf_counter() - start < 10  # about 1 on a quiet machine
-
-
-NO_MESHES = {
-    "none.xyz": b"",
-    "empty.obj": b"",
-    "words.obj": b"v a b c\n",
-    "far.obj": b"v 1 2 1e999999999\n",
-    "nan.obj": b"v 1 2 nan\n",
-    "two.obj": b"v 1 2\n",
-    "short.ply": ply("binary_little_endian")[:-3],
-    "list.ply": ply("binary_little_endian").replace(b"property short a", b"property list uchar int a"),
-    "head.ply": b"ply\nformat ascii 1.0\n",
-    "nan.stl": bytes(80) + struct.pack("<I12fH", 1, *[float("nan")] * 12, 0),
-}
-
-
-@pytest.mark.parametrize("name", NO_MESHES)
-def test_what_is_no_mesh_is_refused(name, tmp_path):
-    path = tmp_path / name
-    path.write_bytes(NO_MESHES[name])
-    done = run("meshpoints", path)
-    assert done.returncode == 1 and not done.stdout and b"Traceback" not in done.stderr
 
 
 # ---- hullview
