@@ -9,7 +9,8 @@ from typing import Any
 import numpy as np
 from numpy.typing import NDArray
 
-from ._grid import BITS_LIMIT, floats_of, snap
+from ._arrays import floats_of
+from ._grid import BITS_LIMIT, snap
 from ._hull import ConvexHull
 from ._library import flat_hull
 from ._triangles import equations_of
@@ -60,8 +61,9 @@ class FloatHull(ConvexHull):
         coordinates = self.points.copy()
         for axis, middle in enumerate(self.centre):
             if abs(middle) < _WHOLE:
+                steps = self.grid_points[:, axis].astype(np.float64) + middle
                 with np.errstate(over="ignore"):
-                    coordinates[:, axis] = np.ldexp((self.grid_points[:, axis] + np.int64(middle)).astype(np.float64), exponent)
+                    coordinates[:, axis] = np.ldexp(steps, exponent)
         return np.clip(coordinates, -most, most)
 
     @property

@@ -7,6 +7,7 @@ from typing import TYPE_CHECKING, Any, Sequence, Union
 import numpy as np
 from numpy.typing import NDArray
 
+from ._arrays import numbers_of
 from ._library import RANGE_REFUSAL, FlatHull, flat_hull, six_volumes
 from ._limits import COORDINATE_LIMIT
 from ._texts import obj_text, off_text
@@ -26,10 +27,13 @@ WHOLE_REFUSAL = (
 
 def whole_points(points: WholePoints, copy: bool = False) -> NDArray[np.int32]:
     """Returns the points as an aligned, C-contiguous (n, 3) array of int32; a copy cannot be written."""
-    given: NDArray[Any] = np.asarray(points)
+    given = numbers_of(points)
     if given.ndim != 2 or given.shape[1] != 3:
         raise ValueError(f"points must have the shape (n, 3), and have {given.shape}")
-    if given.dtype.kind == "O" and all(isinstance(number, (int, np.integer)) for number in given.flat):
+    if given.dtype.kind == "O":
+        wrong = {type(number).__name__ for number in given.flat if not isinstance(number, (int, np.integer))}
+        if wrong:
+            raise TypeError(WHOLE_REFUSAL.format(" and ".join(sorted(wrong))))
         if any(abs(int(number)) > COORDINATE_LIMIT for number in given.flat):
             raise ValueError(RANGE_REFUSAL)
         given = given.astype(np.int32)

@@ -165,6 +165,11 @@ def test_numbers_are_exact_and_an_exponent_without_end_is_refused():
     assert done.returncode == 1 and done.stderr == b"-: the exponent of 1e999999999 is beyond 2000\n"
 
 
+def test_coordinates_of_any_length_are_written():
+    lines = out("hullfacets", given="OFF\n4 4 6\n0 0 0\n1e2000 0 0\n0 1e2000 0\n0 0 1e2000\n3 0 2 1\n3 0 1 3\n3 0 3 2\n3 1 2 3\n").splitlines()
+    assert lines[0] == "six times the volume: 1" + "0" * 6000
+
+
 # ---- hullview
 
 

@@ -129,6 +129,8 @@ def main() -> None:
     parser.add_argument("file", nargs="?", default="-", metavar="FILE", help="the text of `off` (default: standard input)")
     options = parser.parse_args()
     signal.signal(signal.SIGPIPE, signal.SIG_DFL)
+    if hasattr(sys, "set_int_max_str_digits"):
+        sys.set_int_max_str_digits(0)  # products of coordinates have more digits than newer versions write by themselves
     hull = read_off_file(options.file)
     points = whole_points(hull)
     if not hull.faces or points is None:
