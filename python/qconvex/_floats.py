@@ -13,6 +13,7 @@ from ._arrays import floats_of
 from ._grid import BITS_LIMIT, snap
 from ._hull import ConvexHull
 from ._library import flat_hull
+from ._sides import Places
 from ._triangles import equations_of
 
 # Centres from here on are those of floats that are whole steps each.
@@ -91,6 +92,9 @@ class FloatHull(ConvexHull):
     def equations(self) -> NDArray[np.float64]:
         """[normal, offset] of each triangle in the units of the floats, rounded."""
         return equations_of(self.normals, self._doubled_areas, self.coordinates[self.simplices[:, 0]])
+
+    def _places(self, floats: NDArray[np.float64]) -> Places:
+        return Places(floats, self._exponent, self.centre)
 
     def _coordinates(self) -> NDArray[Any]:
         return self.coordinates

@@ -129,12 +129,27 @@ def test_lrs_finds_the_vertices_again(name, tmp_path):
 
 @pytest.mark.skipif(not shutil.which("polymake"), reason="polymake is missing")
 @pytest.mark.parametrize("name", SHAPES)
-def test_polymake_takes_vertices_and_facets(name):
-    line = out("hullfacets", "--form", "polymake", given=SHAPES[name])
-    asked = ' print $p->N_VERTICES, " ", $p->DIM, " ", $p->VOLUME, " ", $p->LATTICE ? 1 : 0;'
-    told = subprocess.run(["polymake", "my " + line + asked], check=True, capture_output=True, text=True).stdout.split()
+def test_polymake_takes_vertices_and_facets(name, tmp_path):
+    script = tmp_path / "hull.txt"
+    asked = 'print $p->N_VERTICES, " ", $p->DIM, " ", $p->LATTICE ? 1 : 0, " ", $p->F_VECTOR;'
+    script.write_text(out("hullfacets", "--form", "polymake", given=SHAPES[name]))
+    words = ["polymake", f'script("{script}"); {asked}']
+    told = subprocess.run(words, check=True, capture_output=True, text=True, stdin=subprocess.DEVNULL).stdout.split()
+    script.write_text(script.read_text() + asked)
+    words = ["polymake", "--script", str(script)]
+    assert subprocess.run(words, check=True, capture_output=True, text=True, stdin=subprocess.DEVNULL).stdout.split() == told
+    numbers = json.loads(out("hullfacets", "--json", given=SHAPES[name]))["f_vector"]
     dimension = {"cube": "3", "square": "2", "segment": "1", "point": "0"}[name]
-    assert told[:2] == [str(len(vertices_in(SHAPES[name]))), dimension] and told[3] == "1"
+    assert told[:3] == [str(len(vertices_in(SHAPES[name]))), dimension, "1"] and told[3:] == list(map(str, numbers))[: int(dimension)]
+
+
+def test_corners_have_their_indices_in_the_input():
+    told = json.loads(out("hullfacets", "--form", "json", given="8\n" + "".join(f"{7 * place}\n" for place in range(8)) + CUBE_OFF))
+    assert told["f_vector"] == [8, 12, 6] and told["facets"][0]["corners"] == [0, 1, 3, 2] and told["facets"][0]["indices"] == [0, 7, 21, 14]
+    assert [corner["index"] for corner in told["corners"]] == list(range(0, 56, 7))
+    assert "index" not in json.loads(out("hullfacets", "--form", "json", given=CUBE_OFF))["corners"][0]
+    done = run("hullfacets", "--form", "json", given="7\n" + "1\n" * 7 + CUBE_OFF)
+    assert done.returncode == 1 and b"7 indices stand before" in done.stderr
 
 
 def test_what_is_no_hull_is_refused():
