@@ -1,16 +1,19 @@
-"""The vertices of meshes, exactly: in off, obj, stl and ply."""
+"""The vertices and the faces of meshes, and the points of tables, by the endings of their files."""
 from __future__ import annotations
 
 import os
-import struct
 import sys
-from itertools import chain
-from typing import List
+from typing import Callable, List, Mapping, TypeVar
 
 from . import contents
-from .exact_numbers import Vertices, of_numbers, of_words
+from .exact_numbers import Vertices, of_words
+from .mesh_faces import FACES
 from .off_files import Malformed, Row, lines_of, parts_of, rows_of
 from .ply_files import of_ply
+from .stl_files import of_stl
+from .tables import of_npy, of_point_text, of_table
+
+Read = TypeVar("Read")
 
 
 def text_of(data: bytes) -> str:
@@ -38,47 +41,29 @@ def of_obj(data: bytes) -> Vertices:
     return of_words(first_three(rows, 1))
 
 
-STL_HEAD, STL_TRIANGLE = 84, struct.Struct("<12x12s12s12s2x")
-
-
-def of_stl(data: bytes) -> Vertices:
-    """The corners of the triangles of an stl file, each once."""
-    count = int.from_bytes(data[80:STL_HEAD], "little")
-    if len(data) == STL_HEAD + count * STL_TRIANGLE.size:
-        corners = dict.fromkeys(chain.from_iterable(STL_TRIANGLE.iter_unpack(data[STL_HEAD:])))
-        return of_numbers(list(struct.unpack(f"<{3 * len(corners)}f", b"".join(corners))))
-    if not data.lstrip().startswith(b"solid"):
-        raise Malformed(f"it has {len(data)} bytes; {count} triangles have {STL_HEAD + count * STL_TRIANGLE.size}")
-    return of_stl_text(data)
-
-
-def of_stl_text(data: bytes) -> Vertices:
-    """The corners of an stl text, each once, three to each facet."""
-    split = [(line, text.split()) for line, text in enumerate(lines_of(text_of(data)), 1)]
-    rows = [row for row in split if row[1]]
-    corners = 0
-    for line, words in rows:
-        if words[0] == "endfacet" and corners != 3 or words[0] == "endsolid" and corners:
-            raise Malformed(f"line {line}: a facet has {corners} corners")
-        corners = 0 if words[0] == "endfacet" else corners + (words[0] == "vertex")
-    if rows[-1][1][0] != "endsolid":
-        raise Malformed(f"line {rows[-1][0]}: the text ends before its endsolid")
-    lines = {tuple(words[1:4]): line for line, words in rows if words[0] == "vertex"}
-    return of_words([(line, list(words)) for words, line in lines.items()])
-
-
 READERS = {".off": of_off, ".obj": of_obj, ".ply": of_ply, ".stl": of_stl}
+READERS.update({".xyz": of_table, ".csv": of_table, ".tsv": of_table, ".txt": of_point_text, ".npy": of_npy})
 
 
 def vertices_of_mesh(path: str) -> Vertices:
     """The vertices of a file; one that can't be read ends the process."""
+    return read(path, READERS)
+
+
+def faces_of_mesh(path: str) -> List[List[int]]:
+    """The faces of a file, by the places of their corners among its vertices; one that can't be read ends the process."""
+    return read(path, FACES)
+
+
+def read(path: str, readers: Mapping[str, Callable[[bytes], Read]]) -> Read:
+    """What the reader for a file's ending reads in it, which is something."""
     ending = os.path.splitext(path)[1].lower()
-    if ending not in READERS:
-        sys.exit(f"{path}: of meshes, {', '.join(READERS)} are read")
+    if ending not in readers:
+        sys.exit(f"{path}: the files that are read end with {', '.join(readers)}")
     try:
-        vertices = READERS[ending](contents.bytes_of(path))
-        if not vertices.axes[0]:
-            raise Malformed("there are no vertices")
-        return vertices
+        found = readers[ending](contents.bytes_of(path))
+        if not (found.axes[0] if isinstance(found, Vertices) else found):
+            raise Malformed("there are no vertices" if isinstance(found, Vertices) else "there are no faces")
+        return found
     except Malformed as wrong:
         sys.exit(f"{path}: {wrong}")

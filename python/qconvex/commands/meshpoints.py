@@ -1,6 +1,8 @@
 """Makes a point file of a mesh's vertices, scaled to whole numbers; and turns the hull back to the mesh's own units.
 
-    meshpoints MESH > points.txt                the vertices of an off, obj, ply or stl file, of text or of bytes
+    meshpoints MESH > points.txt                the vertices of an off, obj, ply or stl file, of text or of bytes, or the points
+                                                of a table: xyz, csv or tsv, txt as rbox writes it, or npy
+    meshpoints --faces points.txt HULL > hull.off          the faces of another mesh, on the grid of these points
     meshpoints --back points.txt < hull.off > hull-in-units.off
 
 The vertices are put on a grid of whole numbers, and on standard error it says `exact` if none of them moved. Decimals are
@@ -26,7 +28,7 @@ from fractions import Fraction
 from .._limits import COORDINATE_LIMIT, POINT_LIMIT
 from . import contents, off_files
 from .grids import Fractions, Map, Rounded, decimals_of, map_of_vertices, rounded
-from .meshes import vertices_of_mesh
+from .meshes import READERS, faces_of_mesh, vertices_of_mesh
 from .off_files import Malformed, Number, off_text, read_off_file
 
 NOTE = re.compile(r"scale (\S+) centre (\S+) (\S+) (\S+)")
@@ -39,10 +41,15 @@ def write_points(found: Rounded, by: Map) -> None:
     print(3, "scale", by.scale, "centre", *by.centre)
     print(len(found.points))
     sys.stdout.writelines("%d %d %d\n" % point for point in found.points)
-    rounding = f"{found.count} of {3 * len(found.points)} coordinates were rounded, by at most {decimals_of(found.most)}"
-    print(rounding if found.count else "exact: no coordinate was rounded", file=sys.stderr)
+    report(found)
     if len(found.points) > POINT_LIMIT:
         print(f"more than {POINT_LIMIT} points: hullmany takes them", file=sys.stderr)
+
+
+def report(found: Rounded) -> None:
+    """Says how many coordinates were rounded, and by how much at most."""
+    rounding = f"{found.count} of {3 * len(found.points)} coordinates were rounded, by at most {decimals_of(found.most)}"
+    print(rounding if found.count else "exact: no coordinate was rounded", file=sys.stderr)
 
 
 def number(word: str) -> Fraction:
@@ -85,6 +92,13 @@ def write_back(by: Map) -> None:
     sys.stdout.write(off_text(points, hull.faces))
 
 
+def write_faces(path: str, by: Map) -> None:
+    """Writes the faces of a mesh as OFF, with its vertices on a grid."""
+    found = rounded(vertices_of_mesh(path), by)
+    sys.stdout.write(off_text(found.points, faces_of_mesh(path)))
+    report(found)
+
+
 def vector(words: str) -> Fractions:
     """Three numbers with commas between."""
     parts = tuple(map(number, words.split(",")))
@@ -98,7 +112,8 @@ def main() -> None:
     parser.add_argument("--scale", type=scale_of, help="how many units of the grid one unit of the mesh has, as 1000 or 1/3")
     parser.add_argument("--centre", type=vector, metavar="X,Y,Z", help="what becomes the origin (write --centre=-1,0,0)")
     parser.add_argument("--back", metavar="POINTS", help="turn the faces of standard input to the units of this file's mesh")
-    parser.add_argument("mesh", nargs="?", metavar="MESH", help="a file whose name ends with .off, .obj, .ply or .stl")
+    parser.add_argument("--faces", metavar="POINTS", help="write the faces of MESH as OFF, on the grid of this file")
+    parser.add_argument("mesh", nargs="?", metavar="MESH", help="a file whose name ends with one of " + " ".join(READERS))
     options = parser.parse_args()
     signal.signal(signal.SIGPIPE, signal.SIG_DFL)
     if options.back:
@@ -106,6 +121,9 @@ def main() -> None:
         return
     if not options.mesh:
         parser.error("a MESH is wanted, or --back")
+    if options.faces:
+        write_faces(options.mesh, map_of(options.faces))
+        return
     vertices = vertices_of_mesh(options.mesh)
     by = map_of_vertices(vertices, options.scale, options.centre)
     write_points(rounded(vertices, by), by)

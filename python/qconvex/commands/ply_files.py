@@ -7,7 +7,7 @@ from itertools import chain
 from typing import List, Tuple
 
 from .exact_numbers import Vertices, of_numbers, of_words
-from .off_files import COUNT, Malformed, lines_of
+from .off_files import COUNT, Malformed, Row, lines_of
 
 # The types of ply, by struct's letters.
 TYPES = dict(zip("char uchar short ushort int uint float double".split(), "bBhHiIfd"))
@@ -97,17 +97,22 @@ def of_ply(data: bytes) -> Vertices:
     return of_ply_bytes(data[header.end :], header) if header.order else of_ply_text(data[header.end :], header)
 
 
+def ply_rows(body: bytes, header: Header) -> List[Row]:
+    """The rows of a text, one for each that its header counts."""
+    split = ((line, text.split()) for line, text in enumerate(lines_of(body.decode("utf-8", "replace")), header.lines + 1))
+    rows = [row for row in split if row[1] and row[1][0] != "comment"]
+    wanted = sum(element.count for element in header.elements)
+    if len(rows) != wanted:
+        raise Malformed(f"the header of the ply file counts {wanted} rows, and {len(rows)} rows follow line {header.lines}")
+    return rows
+
+
 def of_ply_text(body: bytes, header: Header) -> Vertices:
     """The vertices of a text, behind the rows of the elements before."""
     before, element = header.vertex()
     places = [[words[-1] for words in element.properties].index(axis) for axis in "xyz"]
-    split = ((line, text.split()) for line, text in enumerate(lines_of(body.decode("utf-8", "replace")), header.lines + 1))
-    rows = [row for row in split if row[1] and row[1][0] != "comment"]
     first = sum(other.count for other in before)
-    wanted = sum(other.count for other in header.elements)
-    if len(rows) != wanted:
-        raise Malformed(f"the header of the ply file counts {wanted} rows, and {len(rows)} rows follow line {header.lines}")
-    found = rows[first : first + element.count]
+    found = ply_rows(body, header)[first : first + element.count]
     for line, words in found:
         if len(words) != len(element.properties):
             raise Malformed(f"line {line}: a vertex has {len(words)} numbers; its properties are {len(element.properties)}")
