@@ -217,3 +217,53 @@ def test_a_fault_is_shown_where_it_stands(tmp_path):
     path.write_text("3\n1\n1 2 3 # a point\n")
     assert out("hullexplain", path).startswith("No fault: 1 points.")
     assert os.access(BIN / "hullexplain", os.X_OK)
+
+
+KINDS = {
+    "gzip": b"\x1f\x8b\x08\0\0\0", "a zip": b"PK\x03\x04ab", "numpy": b"\x93NUMPY\x01\0", "PLY": b"ply\nformat ascii 1.0\n",
+    "OFF": CUBE_OFF.encode(), "STL mesh:": b"solid a\n facet normal 0 0 1\n", "OBJ": b"# by Blender\nmtllib a.mtl\no Cube\nv 1 2 3\n",
+    "JSON": b'{"points": [[1, 2, 3]]}', "STL mesh in binary": bytes(84), "UTF-16": "3\n1\n0 0 0".encode("utf-16"), "is binary": b"3\n\0\0\0",
+    "XML": b"<?xml version='1.0'?>",
+}
+
+
+@pytest.mark.parametrize("kind", KINDS)
+def test_a_file_of_another_kind_is_known(kind, tmp_path):
+    path = tmp_path / "file"
+    path.write_bytes(KINDS[kind])
+    done = run("hullexplain", path)
+    assert done.returncode == 1 and done.stdout.decode().startswith("qconvex: ") and kind in done.stdout.decode()
+
+
+def test_a_point_file_is_of_no_other_kind():
+    from qconvex.commands.file_kinds import kind_of
+
+    for path in [*(TOP / "examples").glob("*.txt"), *(TOP / "examples" / "faults").iterdir()]:
+        assert kind_of(path.read_bytes()) is None
+
+
+LINES = {
+    "oops": "OUT is one of", "off --workers 0": "from 1 to 64", "--block=1048577": "from 1 to 1048576", "--from obj": "FORM is", "--from": "wants a value",
+    "--workers 1 off --workers 2": "--workers stands twice", "--work 4": "no option", "-V": "no option", "o": "nearest here is off", "--workers 1_0": "from 1",
+}
+
+
+@pytest.mark.parametrize("line", LINES)
+def test_a_command_line_is_explained(line):
+    done = run("hullexplain", "qconvex", *line.split())
+    said = done.stdout.decode().splitlines()
+    assert done.returncode == 1 and said[0] == "qconvex: 12: Usage" and LINES[line] in said[-1]
+    assert said[2] == f"    qconvex {line}" and set(said[3]) == {" ", "^"}
+
+
+def test_a_right_command_line_and_a_file_behind_it():
+    for line in ("", "off", "--workers=4 rank --block 3 Fx Fx", "--help oops", "--from off"):
+        assert out("hullexplain", "qconvex", *line.split()).startswith("No fault")
+    path = TOP / "examples" / "unit-cube.txt"
+    assert f"qconvex off < {path}" in run("hullexplain", "/usr/bin/qconvex-exact", path).stdout.decode()
+    assert run("hullexplain", path, "oops").returncode == 2 and out("hullexplain", path, "--comments").startswith("No fault")
+
+
+def test_a_point_file_has_no_facets():
+    done = run("hullfacets", TOP / "examples" / "unit-cube.txt")
+    assert done.returncode == 1 and b"this is a point file" in done.stderr

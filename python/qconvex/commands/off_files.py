@@ -66,6 +66,8 @@ def rows_of(text: str) -> List[Row]:
 def parts_of(rows: List[Row]) -> Tuple[List[Row], List[Row]]:
     """The rows of the points and of the faces, after the row of their counts, which has to count them right."""
     line, counts = rows[0] if rows else (1, [])
+    if len(counts) == 1 and COUNT.fullmatch(counts[0]):
+        raise Malformed("this is a point file, without faces: qconvex off < FILE writes the hull with its faces")
     if len(counts) < 2 or not all(map(COUNT.fullmatch, counts[:2])):
         raise Malformed(f"line {line}: no OFF text: the numbers of points and faces are missing")
     points, faces = map(int, counts[:2])
