@@ -20,7 +20,7 @@ pub trait Files {
     fn open(&mut self, name: Option<&str>) -> Result<Self::File, ErrorKind>
         requires { failures self.old < 2 ^ 32 }
         ensures same { contents self.new ≡ contents self.old }
-        ensures bytes { IfOk result (λ f. Self.File.remaining f ≡ contents self.old (option_map (λ w. w.now) name)) }
+        ensures bytes { IfOk result (λ f. Self.File.remaining f ≡ contents self.old (option_map (λ w. w.now) name.entry)) }
         ensures begins { IfOk result (λ f. Self.File.failure_count f ≡ 0) }
         ensures count { failures self.new ≡ (if is_ok result then failures self.old else failures self.old + 1) };
 

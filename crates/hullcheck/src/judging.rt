@@ -1,5 +1,5 @@
 //! The judgement on the faces that a source gives, for the points that another gives.
-ghost use Rattle.std.specs.Prelude.{◌≡◌, ◌≤◌, ◌<◌, ◌-◌, ◌^◌, IfErr, IfOk, length};
+ghost use Rattle.std.specs.Prelude.{◌≡◌, ◌≤◌, ◌<◌, ◌+◌, ◌-◌, ◌^◌, IfErr, IfOk, length};
 ghost use Rattle.qh_model.specs.declared.limits.TheConstants.{BYTE_LIMIT, POINT_LIMIT};
 ghost use Rattle.qh_read.specs.headline.SourceBytes.{GivesAll};
 ghost use Rattle.qh_check.specs.contract.Judging.{IsJudgement};

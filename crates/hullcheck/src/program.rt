@@ -39,7 +39,7 @@ fn unread_words(kind: ErrorKind) -> Fault
 fn open<F: Files>(files: &mut F, name: Option<&str>) -> Result<F::File, Fault>
     requires { F.failures files.old < 2 ^ 32 }
     ensures same { F.contents files.new ≡ F.contents files.old }
-    ensures bytes { IfOk result (λ f. F.File.remaining f ≡ F.contents files.old (option_map (λ w. w.now) name)) }
+    ensures bytes { IfOk result (λ f. F.File.remaining f ≡ F.contents files.old (option_map (λ w. w.now) name.entry)) }
     ensures begins { IfOk result (λ f. F.File.failure_count f ≡ 0) }
     ensures kept { IfOk result (λ _. F.failures files.new ≡ F.failures files.old) }
     ensures fault { IfErr result (IsOpenFault (F.failures files.old < F.failures files.new)) }
