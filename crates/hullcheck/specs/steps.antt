@@ -1,3 +1,2 @@
 -- What private functions speak of: nothing to believe.
-pub mod Unread
 pub mod Words

@@ -15,7 +15,7 @@ pub enum Fault {
     Usage,
     /// An allocation failed.
     Memory,
-    /// A file could not be opened.
+    /// A file could not be opened, or the faces could not be read.
     Device,
     /// The judgement could not be written.
     Output,
@@ -108,7 +108,7 @@ impl fmt::Display for Fault {
                 "usage: hullcheck [--workers N] [--indices | --counted] [--clockwise] POINTS [FACES]"
             ),
             Fault::Memory => write!(f, "hullcheck: out of memory"),
-            Fault::Device => write!(f, "hullcheck: a file could not be opened"),
+            Fault::Device => write!(f, "hullcheck: a file could not be read"),
             Fault::Output => write!(f, "hullcheck: the judgement could not be written"),
             Fault::Points(fault) => write!(f, "hullcheck: the points: {}", Words(*fault)),
             Fault::Faces(fault) => write!(f, "hullcheck: the faces: {}", Words(*fault)),

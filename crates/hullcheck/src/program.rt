@@ -1,13 +1,11 @@
 //! The program between the words of a command line, files, and lines for a person.
-ghost use Rattle.std.specs.Prelude.{◌≡◌, ◌≢◌, ◌^◌, ◌-◌, ◌<◌, IfErr, IfOk, map, string_bytes};
-ghost use Rattle.std.specs.Option.{option_map};
+ghost use Rattle.std.specs.Prelude.{◌≡◌, ◌≢◌, ◌⊎◌, ◌^◌, ◌-◌, ◌<◌, IfErr, IfOk, false, true, map, string_bytes};
 ghost use Rattle.std.specs.declared.io.ErrorKind.TheVariants.{OutOfMemory};
 ghost use Rattle.qh_write.specs.contract.LineDevices.{LineDevice};
 ghost use Rattle.hullcheck.specs.declared.fault.Fault.TheVariants.{Device, Memory, Usage};
 ghost use Rattle.hullcheck.specs.contract.Checking.{IsJudgeFault};
 ghost use Rattle.hullcheck.specs.contract.Judging.{IsToldBy};
 ghost use Rattle.hullcheck.specs.contract.Runs.{IsEnd, IsJudged, IsRefusal, IsRun};
-ghost use Rattle.hullcheck.specs.steps.Unread.{IsOpenFault};
 
 use crate::command_line::settings_of;
 use crate::fault::Fault;
@@ -31,23 +29,13 @@ fn unread_words(kind: ErrorKind) -> Fault
     }
 }
 
-/// Opens a file.
-///
-/// # Errors
-///
-/// `Memory` if an allocation failed, and else `Device`.
-fn open<F: Files>(files: &mut F, name: Option<&str>) -> Result<F::File, Fault>
-    requires { F.failures files.old < 2 ^ 32 }
-    ensures same { F.contents files.new ≡ F.contents files.old }
-    ensures bytes { IfOk result (λ f. F.File.remaining f ≡ F.contents files.old (option_map (λ w. w.now) name.entry)) }
-    ensures begins { IfOk result (λ f. F.File.failure_count f ≡ 0) }
-    ensures kept { IfOk result (λ _. F.failures files.new ≡ F.failures files.old) }
-    ensures fault { IfErr result (IsOpenFault (F.failures files.old < F.failures files.new)) }
+/// Returns the fault of a file that could not be opened or read: out of memory, or the device failed.
+fn unread_file(kind: ErrorKind) -> Fault
+    ensures { (result ≡ Memory) ⊎ (result ≡ Device) }
 {
-    match files.open(name) {
-        Ok(file) => Ok(file),
-        Err(ErrorKind::OutOfMemory) => Err(Fault::Memory),
-        Err(_) => Err(Fault::Device),
+    match kind {
+        ErrorKind::OutOfMemory => Fault::Memory,
+        _ => Fault::Device,
     }
 }
 
@@ -55,8 +43,8 @@ fn open<F: Files>(files: &mut F, name: Option<&str>) -> Result<F::File, Fault>
 ///
 /// # Errors
 ///
-/// `Usage` if the words are no command line, `Memory` if an allocation failed, `Device` if a file could not be opened,
-/// and `Points` or `Faces` with the first fault of either file.
+/// `Usage` if the words are no command line, `Memory` if an allocation failed, `Device` if a file could not be opened
+/// or the faces could not be read, and `Points` or `Faces` with the first fault of either file.
 fn judge_words<R: Threads + Sync, F: Files>(
     rt: &R,
     alloc: Global,
@@ -64,25 +52,22 @@ fn judge_words<R: Threads + Sync, F: Files>(
     processors: usize,
     files: &mut F,
 ) -> Result<Judgement, Fault>
-    requires { F.failures files.old < 2 ^ 31 }
     ensures told { IfOk result (IsToldBy (map string_bytes words.now) (F.contents files.old)) }
-    ensures fault { IfErr result (IsJudgeFault (map string_bytes words.now) (F.contents files.old)
-        (F.failures files.old < F.failures files.new)) }
+    ensures fault { IfErr result (IsJudgeFault (map string_bytes words.now) (F.contents files.old) (F.failed files.new ≡ true)) }
 {
     let settings = settings_of(words)?;
-    let mut points = open(files, settings.points)?;
-    let mut faces = open(files, settings.faces)?;
+    let mut points = files.open(settings.points.unwrap()).map_err(unread_file)?;
+    let text = files.text(alloc, settings.faces).map_err(unread_file)?;
     let threads = (settings.workers as usize).min(processors).max(1);
     let judged = check_streams(
         rt,
         alloc,
         &mut points,
-        &mut faces,
+        &text,
         settings.reading,
         threads as u32,
     );
     files.close(points);
-    files.close(faces);
     judged
 }
 
@@ -94,9 +79,7 @@ fn judge<R: Threads + Sync, F: Files>(
     processors: usize,
     files: &mut F,
 ) -> Result<Judgement, Fault>
-    requires { F.failures files.old < 2 ^ 31 }
-    ensures { IsJudged (λ v. map string_bytes v.items) words (F.contents files.old)
-        (F.failures files.old < F.failures files.new) result }
+    ensures { IsJudged (λ v. map string_bytes v.items) words (F.contents files.old) (F.failed files.new ≡ true) result }
 {
     match words {
         Ok(words) => judge_words(rt, alloc, &words, processors, files),
@@ -147,14 +130,14 @@ pub fn run<R: Threads + Sync, F: Files, O: Lines, L: Lines>(
     output: &mut O,
     errors: &mut L,
 ) -> u8
-    requires files { F.failures files.old < 2 ^ 31 }
+    requires files { F.failed files.old ≡ false }
     requires output { O.count output.old < 2 ^ 64 - 1 }
     requires errors { L.count errors.old < 2 ^ 64 - 1 }
     ensures { let old : LineDevice = record { went = O.went output.old; failures = O.count output.old } in
         let new : LineDevice = record { went = O.went output.new; failures = O.count output.new } in
         let before : LineDevice = record { went = L.went errors.old; failures = L.count errors.old } in
         let after : LineDevice = record { went = L.went errors.new; failures = L.count errors.new } in
-        IsRun (IsJudged (λ v. map string_bytes v.items) words (F.contents files.old) (F.failures files.old < F.failures files.new))
+        IsRun (IsJudged (λ v. map string_bytes v.items) words (F.contents files.old) (F.failed files.new ≡ true))
         old new before after result }
 {
     let judged = judge(rt, alloc, words, processors, files);

@@ -3,85 +3,64 @@ ghost use Rattle.std.specs.Prelude.{None};
 
 use crate::files::Files;
 use crate::program::run;
-use qh_read::{DeviceFault, Source};
+use qh_read::{Source, StdSource};
 use qh_write::{ErrorLines, OutLines};
+use std::alloc::Global;
 use std::io::{ErrorKind, Read};
 use std::process::ExitCode;
 use std::rt::Env;
 use std::thread::{Threads, available_parallelism};
-use std::{env, fs, rt};
+use std::{env, fs, io, rt};
 
-/// Where the bytes of a file come from.
-#[derive(Drop)]
-enum Reader<F: Read + Drop, I: Read + Drop> {
-    Named(F),
-    Standard(I),
-}
-
-/// A file of the system, or its standard input.
-#[derive(Drop)]
-pub struct SystemFile<F: Read + Drop, I: Read + Drop> {
-    reader: Reader<F, I>,
-    failures: u64,
-}
-
-impl<F: Read + Drop, I: Read + Drop> Source for SystemFile<F, I> {
-    ghost remaining = { λ _. None };
-
-    ghost failure_count = { λ s. s.failures };
-
-    fn read(&mut self, buf: &mut [u8]) -> Result<usize, DeviceFault> {
-        let read = match &mut self.reader {
-            Reader::Named(file) => file.read(buf),
-            Reader::Standard(input) => input.read(buf),
-        };
-        match read {
-            Ok(count) => Ok(count),
-            Err(_) => {
-                self.failures += 1;
-                Err(DeviceFault)
-            }
-        }
-    }
-
-    fn failures(&self) -> u64 {
-        self.failures
-    }
+/// Returns all bytes of a reader.
+fn bytes_of<S: Read + Drop>(alloc: Global, mut reader: S) -> io::Result<Vec<u8>> {
+    let mut bytes = Vec::new(alloc);
+    reader.read_to_end(&mut bytes)?;
+    Ok(bytes)
 }
 
 /// The files of the system.
 #[derive(Drop)]
 struct SystemFiles<'r, R> {
     rt: &'r R,
-    failures: u64,
+    failed: bool,
 }
 
 impl<R: rt::Files + Input> Files for SystemFiles<'_, R> {
-    type File = SystemFile<R::File, R::Reader>;
+    type File = StdSource<R::File>;
 
     ghost contents = { λ _ _. None };
 
-    ghost failures = { λ s. s.failures };
+    ghost failed = { λ s. s.failed };
 
-    fn open(&mut self, name: Option<&str>) -> Result<SystemFile<R::File, R::Reader>, ErrorKind> {
-        let reader = match name {
-            None => Reader::Standard(self.rt.reader()),
-            Some(path) => match fs::open(self.rt, path) {
-                Ok(file) => Reader::Named(file),
-                Err(error) => {
-                    self.failures += 1;
-                    return Err(error.kind());
-                }
-            },
-        };
-        Ok(SystemFile {
-            reader,
-            failures: 0,
-        })
+    fn open(&mut self, name: &str) -> Result<StdSource<R::File>, ErrorKind> {
+        match fs::open(self.rt, name) {
+            Ok(file) => Ok(StdSource::new(file)),
+            Err(error) => {
+                self.failed = true;
+                Err(error.kind())
+            }
+        }
     }
 
-    fn close(&mut self, file: SystemFile<R::File, R::Reader>) {
-        self.failures += file.failures;
+    fn close(&mut self, file: StdSource<R::File>) {
+        if file.failures() > 0 {
+            self.failed = true;
+        }
+    }
+
+    fn text(&mut self, alloc: Global, name: Option<&str>) -> Result<Vec<u8>, ErrorKind> {
+        let text = match name {
+            None => bytes_of(alloc, self.rt.reader()),
+            Some(path) => fs::open(self.rt, path).and_then(|file| bytes_of(alloc, file)),
+        };
+        match text {
+            Ok(bytes) => Ok(bytes),
+            Err(error) => {
+                self.failed = true;
+                Err(error.kind())
+            }
+        }
     }
 }
 
@@ -105,7 +84,7 @@ fn processors<R: Threads>(rt: &R) -> usize {
 pub fn start<R: Env + rt::Files + Input + Print + Eprint + AllocGlobal + Threads + Sync>(
     rt: &R,
 ) -> ExitCode {
-    let mut files = SystemFiles { rt, failures: 0 };
+    let mut files = SystemFiles { rt, failed: false };
     let (mut output, mut errors) = (OutLines::new(rt), ErrorLines::new(rt));
     ExitCode::from(run(
         rt,

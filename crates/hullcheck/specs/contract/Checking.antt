@@ -5,6 +5,8 @@ use Rattle.qh_model.specs.declared.limits.TheConstants.{BYTE_LIMIT}
 use Rattle.qh_model.specs.declared.read_fault.ReadFault.{ReadFault}
 use Rattle.qh_model.specs.declared.read_fault.ReadFault.TheVariants as reads
 use Rattle.qh_model.specs.headline.Forms.{IsFirstFault}
+use Rattle.qh_read.specs.contract.ReadFaults.{IsTextFault}
+use Rattle.qh_read.specs.headline.SourceBytes.{Gives, GivesAll}
 use Rattle.qh_read.specs.declared.faces.reading.Reading.{Reading}
 use Rattle.qh_read.specs.contract.FaceFiles.{IsFaultOfFaces}
 use Rattle.hullcheck.specs.declared.fault.Fault.{Fault}
@@ -12,25 +14,26 @@ use Rattle.hullcheck.specs.declared.fault.Fault.TheVariants.{Usage, Memory, Devi
 use Rattle.hullcheck.specs.contract.CommandLine.{Asked, asked_by}
 use Rattle.hullcheck.specs.contract.Judging.{IsWhole}
 
--- a file has more bytes than an input may have
-abbrev pub IsLong : Option (List ℕ) → Type 0
-IsLong content = IfSome content (λ known. BYTE_LIMIT < length known)
+-- a fault of reading all points: the first one of all bytes that came; or a read failed; or more came than an input may have
+pub record IsPointsFault (old new : Option (List ℕ)) (Failed : Type 0) (e : ReadFault) : Type 0 where
+  pub text : IsTextFault e → GivesAll old new (λ bytes. IsFirstFault forms.Qhull bytes e)
+  pub device : e ≡ reads.Device → Failed
+  pub big : e ≡ reads.Big → Gives old new (λ bytes. BYTE_LIMIT < length bytes)
 
--- the fault is one of all bytes of the file; or the file is long; or a read of it failed; or an allocation failed
-abbrev pub IsFileFault : (List ℕ → ReadFault → Type 0) → Option (List ℕ) → Type 0 → ReadFault → Type 0
-IsFileFault IsFaultOf content Failed reads.Memory = Unit {0}
-IsFileFault IsFaultOf content Failed reads.Device = Failed
-IsFileFault IsFaultOf content Failed reads.Big = IsLong content
-IsFileFault IsFaultOf content Failed e = (bytes : List ℕ) × IsWhole content bytes × IsFaultOf bytes e
+-- what keeps from a verdict on the points that a source gives and the faces in a text
+abbrev pub IsCheckFault : Reading → Option (List ℕ) → Option (List ℕ) → Type 0 → List ℕ → Fault → Type 0
+IsCheckFault reading old new Failed faces Usage = ⊥
+IsCheckFault reading old new Failed faces Memory = Unit {0}
+IsCheckFault reading old new Failed faces Device = ⊥
+IsCheckFault reading old new Failed faces Output = ⊥
+IsCheckFault reading old new Failed faces (Points e) = IsPointsFault old new Failed e
+IsCheckFault reading old new Failed faces (Faces e) = IsFaultOfFaces reading.layout faces e
 
--- what keeps from a verdict on the files of points and of faces
-abbrev pub IsCheckFault : Reading → Option (List ℕ) → Option (List ℕ) → Type 0 → Type 0 → Fault → Type 0
-IsCheckFault reading points faces PointsFailed FacesFailed Usage = ⊥
-IsCheckFault reading points faces PointsFailed FacesFailed Memory = Unit {0}
-IsCheckFault reading points faces PointsFailed FacesFailed Device = ⊥
-IsCheckFault reading points faces PointsFailed FacesFailed Output = ⊥
-IsCheckFault reading points faces PointsFailed FacesFailed (Points e) = IsFileFault (λ bytes e. IsFirstFault forms.Qhull bytes e) points PointsFailed e
-IsCheckFault reading points faces PointsFailed FacesFailed (Faces e) = IsFileFault (λ bytes e. IsFaultOfFaces reading.layout bytes e) faces FacesFailed e
+-- the same of a file of points, of which all bytes are known or none
+pub record IsPointFileFault (content : Option (List ℕ)) (Failed : Type 0) (e : ReadFault) : Type 0 where
+  pub text : IsTextFault e → (bytes : List ℕ) × IsWhole content bytes × IsFirstFault forms.Qhull bytes e
+  pub device : e ≡ reads.Device → Failed
+  pub big : e ≡ reads.Big → IfSome content (λ bytes. BYTE_LIMIT < length bytes)
 
 -- what keeps from a verdict on the files that words name, where a call of the files failed or not
 abbrev pub IsJudgeFault : List (List ℕ) → (Option (List ℕ) → Option (List ℕ)) → Type 0 → Fault → Type 0
@@ -38,7 +41,6 @@ IsJudgeFault words contents Failed Usage = asked_by words ≡ None
 IsJudgeFault words contents Failed Memory = Unit {0}
 IsJudgeFault words contents Failed Device = Failed
 IsJudgeFault words contents Failed Output = ⊥
-IsJudgeFault words contents Failed (Points e) = (asked : Asked) × (asked_by words ≡ Some asked)
-    × IsFileFault (λ bytes e. IsFirstFault forms.Qhull bytes e) (contents asked.points) Failed e
+IsJudgeFault words contents Failed (Points e) = (asked : Asked) × (asked_by words ≡ Some asked) × IsPointFileFault (contents asked.points) Failed e
 IsJudgeFault words contents Failed (Faces e) = (asked : Asked) × (asked_by words ≡ Some asked)
-    × IsFileFault (λ bytes e. IsFaultOfFaces asked.reading.layout bytes e) (contents asked.faces) Failed e
+    × ((bytes : List ℕ) × IsWhole (contents asked.faces) bytes × IsFaultOfFaces asked.reading.layout bytes e)

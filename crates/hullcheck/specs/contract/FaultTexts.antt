@@ -23,7 +23,7 @@ read_fault_text read.NotOff = codes "NotOff"
 abbrev pub fault_text : Fault → List ℕ
 fault_text Usage = codes "usage: hullcheck [--workers N] [--indices | --counted] [--clockwise] POINTS [FACES]"
 fault_text Memory = codes "hullcheck: out of memory"
-fault_text Device = codes "hullcheck: a file could not be opened"
+fault_text Device = codes "hullcheck: a file could not be read"
 fault_text Output = codes "hullcheck: the judgement could not be written"
 fault_text (Points fault) = codes "hullcheck: the points: " ++ read_fault_text fault
 fault_text (Faces fault) = codes "hullcheck: the faces: " ++ read_fault_text fault

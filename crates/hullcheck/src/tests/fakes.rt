@@ -42,7 +42,19 @@ impl Source for FakeFile<'_> {
 pub struct FakeFiles<'a> {
     pub named: &'a [(&'a str, Option<&'a str>)],
     pub input: &'a str,
-    pub failures: u64,
+    pub failed: bool,
+}
+
+impl<'a> FakeFiles<'a> {
+    /// Returns the text of a name, if it is the name of a file.
+    fn named(&self, name: &str) -> Option<Option<&'a str>> {
+        for (own, text) in self.named {
+            if *own == name {
+                return Some(*text);
+            }
+        }
+        None
+    }
 }
 
 impl<'a> Files for FakeFiles<'a> {
@@ -50,29 +62,43 @@ impl<'a> Files for FakeFiles<'a> {
 
     ghost contents = { λ _ _. None };
 
-    ghost failures = { λ f. f.failures };
+    ghost failed = { λ f. f.failed };
 
-    fn open(&mut self, name: Option<&str>) -> Result<FakeFile<'a>, ErrorKind> {
-        let Some(name) = name else {
-            return Ok(FakeFile {
-                rest: Some(self.input.as_bytes()),
+    fn open(&mut self, name: &str) -> Result<FakeFile<'a>, ErrorKind> {
+        match self.named(name) {
+            Some(text) => Ok(FakeFile {
+                rest: text.map(|text| text.as_bytes()),
                 failures: 0,
-            });
-        };
-        for (own, text) in self.named {
-            if *own == name {
-                return Ok(FakeFile {
-                    rest: text.map(|text| text.as_bytes()),
-                    failures: 0,
-                });
+            }),
+            None => {
+                self.failed = true;
+                Err(ErrorKind::NotFound)
             }
         }
-        self.failures += 1;
-        Err(ErrorKind::NotFound)
     }
 
     fn close(&mut self, file: FakeFile<'a>) {
-        self.failures += file.failures;
+        if file.failures > 0 {
+            self.failed = true;
+        }
+    }
+
+    fn text(&mut self, alloc: Global, name: Option<&str>) -> Result<Vec<u8>, ErrorKind> {
+        let text = match name {
+            None => Some(self.input),
+            Some(name) => self.named(name).unwrap_or(None),
+        };
+        let Some(text) = text else {
+            self.failed = true;
+            return Err(ErrorKind::NotFound);
+        };
+        match Vec::from_slice(alloc, text.as_bytes()) {
+            Ok(bytes) => Ok(bytes),
+            Err(_) => {
+                self.failed = true;
+                Err(ErrorKind::OutOfMemory)
+            }
+        }
     }
 }
 

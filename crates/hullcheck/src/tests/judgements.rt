@@ -22,8 +22,7 @@ fn told<R: Threads + Sync>(
     reading: Reading,
 ) -> Result<Judgement, Fault> {
     let mut points = MemSource::new(CUBE.as_bytes());
-    let mut faces = MemSource::new(text.as_bytes());
-    check_streams(rt, alloc, &mut points, &mut faces, reading, 1)
+    check_streams(rt, alloc, &mut points, text.as_bytes(), reading, 1)
 }
 
 /// How Qhull's `i` is read.

@@ -52,7 +52,7 @@ const RUNS: [(&[&str], &str, u8, &str, &str); 10] = [
         COUNTED,
         4,
         "",
-        "hullcheck: a file could not be opened\n",
+        "hullcheck: a file could not be read\n",
     ),
     (
         &["hullcheck", "broken", "faces"],
@@ -66,7 +66,7 @@ const RUNS: [(&[&str], &str, u8, &str, &str); 10] = [
         "",
         4,
         "",
-        "hullcheck: the faces: the file could not be read\n",
+        "hullcheck: a file could not be read\n",
     ),
     (
         &["hullcheck", "word", "faces"],
@@ -90,7 +90,7 @@ fn runs(rt: HostRuntime) -> Result<(), Fail> {
         let mut files = FakeFiles {
             named: &FILES,
             input,
-            failures: 0,
+            failed: false,
         };
         let words = words(rt.alloc(), texts)?;
         let (mut output, mut errors) = (FakeLines::kept(rt.alloc()), FakeLines::kept(rt.alloc()));
@@ -114,7 +114,7 @@ fn a_judgement_that_cannot_be_written_is_a_fault(rt: HostRuntime) -> Result<(), 
     let mut files = FakeFiles {
         named: &FILES,
         input: COUNTED,
-        failures: 0,
+        failed: false,
     };
     let words = words(rt.alloc(), &["hullcheck", "cube", "--counted"])?;
     let (mut output, mut errors) = (FakeLines::failing(rt.alloc()), FakeLines::kept(rt.alloc()));
