@@ -1,1 +1,2 @@
+pub mod KnownFiles
 pub mod WordLaws

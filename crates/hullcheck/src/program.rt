@@ -1,11 +1,13 @@
 //! The program between the words of a command line, files, and lines for a person.
-ghost use Rattle.std.specs.Prelude.{◌≡◌, ◌≢◌, ◌⊎◌, ◌^◌, ◌-◌, ◌<◌, IfErr, IfOk, false, true, map, string_bytes};
+ghost use Rattle.std.specs.Prelude.{◌≡◌, ◌≢◌, ◌⊎◌, ◌^◌, ◌-◌, ◌<◌, IfErr, IfOk, IfSome, Some, false, true, map, string_bytes};
+ghost use Rattle.std.specs.Option.{option_map};
 ghost use Rattle.std.specs.declared.io.ErrorKind.TheVariants.{OutOfMemory};
 ghost use Rattle.qh_write.specs.contract.LineDevices.{LineDevice};
 ghost use Rattle.hullcheck.specs.declared.fault.Fault.TheVariants.{Device, Memory, Usage};
 ghost use Rattle.hullcheck.specs.contract.Checking.{IsJudgeFault};
-ghost use Rattle.hullcheck.specs.contract.Judging.{IsToldBy};
+ghost use Rattle.hullcheck.specs.contract.Judging.{IsToldBy, IsWhole};
 ghost use Rattle.hullcheck.specs.contract.Runs.{IsEnd, IsJudged, IsRefusal, IsRun};
+ghost use Rattle.hullcheck.specs.steps.Files.{IsUnread};
 
 use crate::command_line::settings_of;
 use crate::fault::Fault;
@@ -39,6 +41,31 @@ fn unread_file(kind: ErrorKind) -> Fault
     }
 }
 
+/// Opens a file.
+fn open<F: Files>(files: &mut F, name: &str) -> Result<F::File, Fault>
+    ensures same { F.contents files.new ≡ F.contents files.old }
+    ensures bytes { IfOk result (λ f. IfSome (F.contents files.old (Some name.now)) (λ known. F.File.remaining f ≡ Some known)) }
+    ensures begins { IfOk result (λ f. F.File.failure_count f ≡ 0) }
+    ensures fault { IfErr result (IsUnread (F.failed files.new ≡ true)) }
+{
+    match files.open(name) {
+        Ok(file) => Ok(file),
+        Err(kind) => Err(unread_file(kind)),
+    }
+}
+
+/// Returns all bytes of a file, or of the standard input.
+fn text_of<F: Files>(files: &mut F, alloc: Global, name: Option<&str>) -> Result<Vec<u8>, Fault>
+    ensures same { F.contents files.new ≡ F.contents files.old }
+    ensures bytes { IfOk result (λ v. IsWhole (F.contents files.old (option_map (λ w. w.now) name.entry)) v.items) }
+    ensures fault { IfErr result (IsUnread (F.failed files.new ≡ true)) }
+{
+    match files.text(alloc, name) {
+        Ok(text) => Ok(text),
+        Err(kind) => Err(unread_file(kind)),
+    }
+}
+
 /// Judges the faces that words name.
 ///
 /// # Errors
@@ -56,8 +83,8 @@ fn judge_words<R: Threads + Sync, F: Files>(
     ensures fault { IfErr result (IsJudgeFault (map string_bytes words.now) (F.contents files.old) (F.failed files.new ≡ true)) }
 {
     let settings = settings_of(words)?;
-    let mut points = files.open(settings.points.unwrap()).map_err(unread_file)?;
-    let text = files.text(alloc, settings.faces).map_err(unread_file)?;
+    let mut points = open(files, settings.points.unwrap())?;
+    let text = text_of(files, alloc, settings.faces)?;
     let threads = (settings.workers as usize).min(processors).max(1);
     let judged = check_streams(
         rt,
