@@ -39,9 +39,13 @@ judge_fault words contents asked Failed ReadFailed remaining new text Usage e po
 judge_fault words contents asked Failed ReadFailed remaining new text Memory e points faces failed h = tt
 judge_fault words contents asked Failed ReadFailed remaining new text Device e points faces failed h = absurd h
 judge_fault words contents asked Failed ReadFailed remaining new text Output e points faces failed h = absurd h
-judge_fault words contents asked Failed ReadFailed remaining new text (Points fault) e points faces failed h = (asked, e, record {
-  text = λ is. all_of (contents asked.points) remaining new points (h.text is);
-  device = λ is. failed (h.device is);
-  big = λ is. long_of (contents asked.points) remaining new points (h.big is);
-})
+judge_fault words contents asked Failed ReadFailed remaining new text (Points fault) e points faces failed h = (
+  asked,
+  e,
+  record {
+    text = λ is. all_of (contents asked.points) remaining new points (h.text is);
+    device = λ is. failed (h.device is);
+    big = λ is. long_of (contents asked.points) remaining new points (h.big is);
+  },
+)
 judge_fault words contents asked Failed ReadFailed remaining new text (Faces fault) e points faces failed h = (asked, e, (text, faces, h))

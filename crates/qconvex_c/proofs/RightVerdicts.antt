@@ -7,7 +7,7 @@ use Rattle.qh_model.proofs.{DistinctIds.distinct_apart, Members.in_at}
 use Rattle.qh_model.proofs.hulls.Unique.{distinct_ids_are_unique}
 use Rattle.qh_check.specs.contract.Surfaces.{IsHullSurface}
 use Rattle.qh_check.specs.declared.flaw.SurfaceVerdict.TheVariants.{Right, OtherPolygons, NoPiece, Open, Twice}
-use Rattle.qh_check.specs.declared.verdict.FaceFault.TheVariants.{NoPlane, Above, OtherFace}
+use Rattle.qh_check.specs.declared.fault.FaceFault.TheVariants.{NoPlane, Above, OtherFace}
 use Rattle.qh_check.specs.contract.{Judging.IsJudgement, Judging.IsTold, Judging.IsStrangeFace, Naming.AreNamed, Naming.AreNamedFaces, Naming.IsNamed}
 use Rattle.qh_check.specs.declared.judgement.Judgement.{Judgement}
 use Rattle.qh_check.specs.declared.judgement.Judgement.TheVariants.{Told, Stranger}

@@ -6,7 +6,7 @@ use Rattle.qh_model.specs.headline.Sets.{Members}
 use Rattle.qh_model.specs.headline.Vector.{Vector}
 use Rattle.qh_check.specs.contract.Surfaces.{IsHullSurface}
 use Rattle.qh_check.specs.declared.flaw.SurfaceVerdict.TheVariants.{Right, OtherPolygons, NoPiece, Open, Twice}
-use Rattle.qh_check.specs.declared.verdict.FaceFault.TheVariants.{NoPlane, Above, OtherFace}
+use Rattle.qh_check.specs.declared.fault.FaceFault.TheVariants.{NoPlane, Above, OtherFace}
 use Rattle.qh_check.specs.contract.Judging.{IsJudgement}
 use Rattle.qh_check.specs.contract.Naming.{AreNamedFaces}
 use Rattle.qh_check.specs.declared.judgement.Judgement.{Judgement}
