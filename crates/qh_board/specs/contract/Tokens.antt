@@ -29,6 +29,10 @@ module _ {S : Type 0} where
     pub table : t.table ≡ b.table
     pub setup : t.setup ≡ Some b.setup
 
+  -- the last claim of the token's pass found all blocks of the board claimed; the record counts that claim too
+  abbrev pub FoundAllClaimed : Token S → Type 0
+  FoundAllClaimed t = (b : BoardValue S) → IsOf b t → b.setup.blocks < t.pass.claims
+
   -- the node that a task holds
   abbrev pub task_node : Token S → ℕ
   task_node t = node_or t.pass.node
