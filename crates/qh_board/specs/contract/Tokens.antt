@@ -1,11 +1,11 @@
 -- What a contract sees of a board and of the tokens of its passes.
 -- Source: this project's own.
-use Rattle.std.specs.Prelude.{◌≡◌, ℕ, ◌<◌, List, length, slice_index_or, Option, Some, None}
+use Rattle.std.specs.Prelude.{◌≡◌, ℕ, ◌<◌, List, length, slice_index_or, Option, Some}
 use Rattle.atomic_table.specs.Seated.{TableId}
 use Rattle.qh_model.specs.contract.BoardMachine.{InSpan}
 use Rattle.qh_board.specs.declared.view.Setup.{Setup}
 use Rattle.qh_board.specs.declared.view.Record.{Record}
-use Rattle.qh_board.specs.contract.Records.{fresh_record}
+use Rattle.qh_board.specs.contract.Records.{fresh_record, node_or}
 
 -- a board: the table that it is, and what it was told when it was made
 pub record BoardValue (S : Type 0) : Type 0 where
@@ -17,11 +17,6 @@ pub record Token (S : Type 0) : Type 0 where
   pub table : TableId
   pub setup : Option (Setup S)
   pub pass : Record
-
--- 0, or the node
-abbrev pub node_or : Option ℕ → ℕ
-node_or None = 0
-node_or (Some i) = i
 
 module _ {S : Type 0} where
   -- the token is one of the board's
