@@ -12,7 +12,8 @@ use Rattle.qh_board.specs.contract.Records.{with_block, told_over}
 use Rattle.qh_board.specs.{declared.view.Record.Record, declared.view.Setup.Setup, declared.view.View.View, steps.Rule.one_if}
 use Rattle.qh_board.specs.steps.{Rule.times, Rule.SlotOf, Rule.Kept, Rule.Ruled, Shown.mark_of, Views.view_of, Views.HasRecord, Views.IsClaim}
 use Rattle.qh_board.proofs.Steps.{Homes, KeptAfter, SlotsOf, Shows, steps, others_keep, allowed_at, seat_record, seated, nothing, slots_put, settled_put}
-use Rattle.qh_board.proofs.{Steps.word_else, Steps.times_snoc, SlotsHome.all_home, SlotsHome.laid, Totals.one_of}
+use Rattle.qh_board.specs.declared.view.Event.TheVariants.{ClaimGot, ClaimOver}
+use Rattle.qh_board.proofs.{Steps.made_more, Steps.word_else, Steps.times_snoc, SlotsHome.all_home, SlotsHome.laid, Totals.one_of}
 
 module _ {S X : Type 0} (right : S → (ℕ → Type 0) → X → Type 0) (key : Setup S) where
   below_more : (x c : ℕ) → c < key.blocks → one_if (nat_lt x (min (c + 1) key.blocks)) ≡ one_if (nat_lt x (min c key.blocks)) + one_if (c == x)
@@ -60,6 +61,8 @@ module _ {S X : Type 0} (right : S → (ℕ → Type 0) → X → Type 0) (key :
       (claim_shows s R (put m.node i (held w)) m.over (set s.homes i none) (settled_put m.node i (held w) (ap settled fresh)) (length-set s.homes i none)
       (slots_put right key m.node s.homes i (held w) none (let z = R.deep in omega arith) tt R.slots)) (record {
         same = refl;
+        by = refl;
+        made = made_more w r.events ClaimGot;
         mine = record {
           inside = a.inside;
           over = a.over;
@@ -91,6 +94,8 @@ module _ {S X : Type 0} (right : S → (ℕ → Type 0) → X → Type 0) (key :
       steps right key s R e m' refl id r (told_over m.claims r) (set s.words 0 (m.claims + 1)) s.homes at can
       (claim_shows s R m.node (put m.over w true) s.homes (λ j. refl) refl R.slots) (record {
         same = refl;
+        by = refl;
+        made = made_more w r.events ClaimOver;
         mine = record { inside = a.inside; over = put_here m.over w true; mark = a.mark; seen = omega arith; holds = a.holds; alone = a.alone };
         others = others_keep right key m m' w (omega arith)
             (λ v ne. (put_else m.over w true v ne, refl)) (λ v j ne q. q) (λ v j ne q. q);

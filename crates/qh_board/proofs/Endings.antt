@@ -1,7 +1,8 @@
 -- A pass ends: it leaves with no node, or gives up with one.
 use Rattle.qh_model.specs.contract.BoardMachine as machine
 use Rattle.qh_board.specs.declared.view.Mark as ended
-use Rattle.std.proofs.Common.{◌≡◌, ℕ, ◌+◌, ◌%◌, ◌^◌, ◌≤◌, Bool, List, [], ◌∷◌, set, sym, refl, ap, ◌∙◌, arith, Option, Some, None, length-set, get_or-set_same}
+use Rattle.std.proofs.Common.{◌≡◌, ℕ, ◌+◌, ◌%◌, ◌^◌, ◌≤◌, Bool, List, [], ◌∷◌, ◌++◌, set, sym, refl, ap, ◌∙◌, arith, Option, Some, None}
+use Rattle.std.proofs.Common.{length-set, get_or-set_same}
 use Rattle.std.specs.Prelude.{slice_index, ◌==◌}
 use mathlib.Core.{Logic.dite, Option.some, Option.none}
 use native.Mathlib.Decide.{ℕ_discrete}
@@ -9,12 +10,13 @@ use lib.ListN.{get_elem?}
 use Rattle.atomic_table.specs.Table.{State, Me, step, Allows}
 use Rattle.qh_model.specs.contract.BoardMachine.{Machine, Event, Acts, Can, after, put}
 use Rattle.qh_model.proofs.board.Updates.{put_here, put_else}
-use Rattle.qh_board.specs.contract.Records.{ended_as}
+use Rattle.qh_board.specs.contract.Records.{ending_of, ended_as}
 use Rattle.qh_board.specs.declared.view.{Mark.TheVariants.Left, Mark.TheVariants.GaveUp, Record.Record, Setup.Setup, View.View}
-use Rattle.qh_board.specs.steps.{Rule.one_if, Rule.times, Rule.Agrees, Rule.Kept, Rule.Ruled, Shown.mark_of, Shown.mark_word}
+use Rattle.qh_board.specs.steps.Rule.{one_if, times, Agrees, Kept, Ruled}
+use Rattle.qh_board.specs.steps.Shown.{event_by, made, maker, mark_of, mark_word}
 use Rattle.qh_board.specs.steps.Views.{view_of, kids, blocks_of, blocks_in, HasRecord, marked}
 use Rattle.qh_board.proofs.SlotsHome.{all_home, laid, length_laid, load, slots_laid}
-use Rattle.qh_board.proofs.Steps.{KeptAfter, SlotsOf, steps, allowed_at, seat_record, seated, others_keep, nothing, word_else}
+use Rattle.qh_board.proofs.Steps.{KeptAfter, SlotsOf, made_more, steps, allowed_at, seat_record, seated, others_keep, nothing, word_else}
 
 -- what a pass adds to the word of its mark
 abbrev added : ended.Mark → ℕ
@@ -26,14 +28,16 @@ tells_kind GaveUp = ((λ e. absurd (omega arith)), (λ _. refl), omega arith)
 
 module _ {S X : Type 0} (right : S → (ℕ → Type 0) → X → Type 0) (key : Setup S) where
   -- the event by which the pass ends, with the slots that it carries laid home
-  record Ending (kind : ended.Mark) (w : ℕ) (c : List (ℕ × Option X)) (s : State (Option X) (View S)) (m : Machine) : Type 0 where
+  record Ending (kind : ended.Mark) (r : Record) (c : List (ℕ × Option X)) (s : State (Option X) (View S)) (m : Machine) : Type 0 where
     event : Event
+    is : event_by r.number (ending_of kind r.node) ≡ event
+    by : maker event ≡ r.number
     can : Can key.blocks key.passes m event
-    ends : after key.blocks key.passes m event ≡ record m { mark = put m.mark w (mark_of (Some kind)) }
+    ends : after key.blocks key.passes m event ≡ record m { mark = put m.mark r.number (mark_of (Some kind)) }
     slots : SlotsOf right key m.node (laid s.homes c)
 
   end_step : (kind : ended.Mark) (s : State (Option X) (View S)) (R : Kept right key s) (id : ℕ) (c : List (ℕ × Option X)) (r : Record)
-      → get_elem? s.views id ≡ some (view_of key (r ∷ [])) → Ending kind r.number c s R.machine
+      → get_elem? s.views id ≡ some (view_of key (r ∷ [])) → Ending kind r c s R.machine
       → KeptAfter right key s id (ended_as kind r) (set s.words (key.blocks + 1 + r.number) (added kind)) (laid s.homes c)
   end_step kind s R id c r at E = let m = R.machine in let w = r.number in let a = (R.views id (view_of key (r ∷ [])) at).0 in
       let k : ℕ = key.blocks + 1 + w in let x : ℕ = added kind in let mark = mark_of (Some kind) in let inside = a.inside in
@@ -52,6 +56,8 @@ module _ {S X : Type 0} (right : S → (ℕ → Type 0) → X → Type 0) (key :
         slots = E.slots;
       }) (record {
         same = refl;
+        by = E.by;
+        made = made_more w r.events (ending_of kind r.node) ∙ ap (λ (z : Event). made r ++ z ∷ []) E.is;
         mine = record { inside = a.inside; over = a.over; mark = put_here m.mark w mark; seen = a.seen; holds = a.holds; alone = a.alone };
         others = others_keep right key m m' w (omega arith) (λ v ne. (refl, put_else m.mark w mark v ne)) (λ v j ne q. q) (λ v j ne q. q);
         drawn = refl;
@@ -63,7 +69,7 @@ module _ {S X : Type 0} (right : S → (ℕ → Type 0) → X → Type 0) (key :
   end_allowed : (kind : ended.Mark) (k : Setup S) → k ≡ key → (slots id number : ℕ) (node : Option ℕ) (over : Bool) (me : Me (Option X) (View S))
       (c : List (ℕ × Option X)) → me.0.setup ≡ Some key → me.1 ≡ c → HasRecord me.0 number node over None
       → ((s : State (Option X) (View S)) (R : Kept right key s) → Agrees key.passes R.machine (seat_record me.0 number node over)
-      → Acts key.passes R.machine number → Ending kind number c s R.machine)
+      → Acts key.passes R.machine number → Ending kind (seat_record me.0 number node over) c s R.machine)
       → Allows (Ruled right k) slots id me (key.blocks + 1 + number) (λ n. (n + added kind) % 2 ^ 64)
       (marked (step slots (key.blocks + 1 + number) (added kind) 0 none) me)
   end_allowed kind k same_key slots id number node over me c of bare has ending =
@@ -83,6 +89,8 @@ module _ {S X : Type 0} (right : S → (ℕ → Type 0) → X → Type 0) (key :
   leave_allowed k same_key slots id number over me of bare has =
       end_allowed Left k same_key slots id number None over me [] of bare has (λ s R a acts. record {
         event = machine.leave number;
+        is = refl;
+        by = refl;
         can = (acts, nothing right key R.machine (seat_record me.0 number None over) a refl);
         ends = refl;
         slots = R.slots;
@@ -95,6 +103,8 @@ module _ {S X : Type 0} (right : S → (ℕ → Type 0) → X → Type 0) (key :
       let full : me.1 ≡ load right key i None = bare ∙ ap (λ (z : Option (Setup S)). (i, None) ∷ kids {X = X} (blocks_in z) i) of in
       end_allowed GaveUp k same_key slots id number (Some i) over me (load right key i None) of full has (λ s R a acts. record {
         event = machine.give_up number i;
+        is = refl;
+        by = refl;
         can = (acts, a.holds i refl);
         ends = refl;
         slots = slots_laid right key s R i number None (a.holds i refl);

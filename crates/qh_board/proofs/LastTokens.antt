@@ -12,16 +12,11 @@ use Rattle.atomic_table.specs.{Seated.TableId, Table.Final, Table.Seen}
 use Rattle.qh_model.specs.contract.BoardMachine.{InSpan}
 use Rattle.qh_board.specs.contract.{Closings.mark_of_word, Closings.claims_made, Closings.tokens_of, Tokens.Token}
 use Rattle.qh_board.specs.declared.view.{Record.Record, Setup.Setup, View.View}
-use Rattle.qh_board.specs.steps.{Rule.one_if, Rule.weigh, Rule.named, Rule.claims_of, Rule.Ruled, Seats.token_of}
+use Rattle.qh_board.specs.steps.{Rule.one_if, Rule.weigh, Rule.named, Rule.claims_of, Rule.Each, Rule.Ruled, Seats.token_of}
 use Rattle.qh_board.specs.steps.{Views.record_of, Views.head_or, Views.HasEnded}
-use Rattle.qh_board.proofs.LastStates.{Each, Last, closes}
+use Rattle.qh_board.proofs.LastStates.{Last, closes}
 
 -- ---- the records of tokens
--- P of the records of two lists
-pub each_append : (P : Record → Type 0) (a b : List Record) → Each P a → Each P b → Each P (a ++ b)
-each_append P [] b p q = q
-each_append P (r ∷ a) b p q = (p.0, each_append P a b p.1 q)
-
 module _ {S : Type 0} where
   -- what each of the passes did
   abbrev pub records_of : List (Token S) → List Record

@@ -1,6 +1,6 @@
 -- A pass lets go of its node, whose value stays in the slot: it comes first at the parent, or publishes the root.
 use mathlib.Core.Option as maybe
-use Rattle.std.proofs.Common.{◌≡◌, ◌≢◌, inl, inr, ⊎_elim, ℕ, ◌+◌, ◌*◌, ◌%◌, ◌^◌, ◌<◌, Bool, List, [], ◌∷◌, set, sym, refl, ap, ◌∙◌, subst, arith, Option}
+use Rattle.std.proofs.Common.{◌≡◌, ◌≢◌, inl, inr, ⊎_elim, ℕ, ◌+◌, ◌*◌, ◌%◌, ◌^◌, ◌<◌, Bool, List, [], ◌∷◌, ◌++◌, set, sym, refl, ap, ◌∙◌, subst, arith, Option}
 use Rattle.std.{proofs.Common.Some, proofs.Common.None, proofs.Common.length-set, proofs.Common.get_or-set_same, specs.Prelude.slice_index, specs.Prelude.◌==◌}
 use mathlib.Core.{Logic.dite, Option.some, Option.none}
 use native.Mathlib.Decide.{ℕ_discrete}
@@ -9,22 +9,27 @@ use Rattle.atomic_table.specs.Table.{State, Me, step, Allows, rest}
 use Rattle.qh_model.specs.contract.BoardMachine.{Place}
 use Rattle.qh_model.specs.contract.BoardMachine.{untouched, held, parked, published, Event, arrive_first, publish, Can, after, settled, put, parent, InSpan}
 use Rattle.qh_model.proofs.board.{Grown.ranged, Reached.reach_good, Siblings.near, Updates.put_here, Updates.put_else, Updates.at_put}
-use Rattle.qh_board.specs.{contract.Records.come_first, contract.Records.without_node, declared.view.Record.Record}
+use Rattle.qh_board.specs.declared.view.Event as own
+use Rattle.qh_board.specs.declared.view.Event.TheVariants.{ArriveFirst, Publish}
+use Rattle.qh_board.specs.{contract.Records.come_first, contract.Records.without_node, contract.Records.node_or, declared.view.Record.Record}
 use Rattle.qh_board.specs.{declared.view.Setup.Setup, declared.view.View.View, steps.Rule.one_if, steps.Rule.times, steps.Rule.Agrees}
+use Rattle.qh_board.specs.steps.Shown.{event_by, made, maker}
 use Rattle.qh_board.specs.steps.{Rule.SlotOf, Rule.Kept, Rule.Ruled, Shown.mark_of, Views.view_of, Views.kids, Views.blocks_of, Views.HasRecord, Views.put_out}
 use Rattle.qh_board.proofs.ParentWords.{arrivals_up, sibling_is}
 use Rattle.qh_board.proofs.SlotsHome.{all_home, laid, length_laid, load, slots_home, filled}
-use Rattle.qh_board.proofs.Steps.{KeptAfter, SlotsOf, Turns, steps, allowed_at, seat_record, others_keep, word_else}
+use Rattle.qh_board.proofs.Steps.{KeptAfter, SlotsOf, Turns, made_more, steps, allowed_at, seat_record, others_keep, word_else}
 
 module _ {S X : Type 0} (right : S → (ℕ → Type 0) → X → Type 0) (key : Setup S) where
   -- the node becomes p, which is no pass's, and nobody joins
-  lets_go : (s : State (Option X) (View S)) (R : Kept right key s) (id i : ℕ) (x : X) (r : Record) (arrivals : ℕ) (p : Place) (words : List ℕ)
+  lets_go : (s : State (Option X) (View S)) (R : Kept right key s) (id i : ℕ) (x : X) (r : Record) (arrivals : ℕ) (d : own.Event) (e : Event) (p : Place)
+      (words : List ℕ) → event_by r.number d ≡ e → maker e ≡ r.number
       → get_elem? s.views id ≡ some (view_of key (r ∷ [])) → r.node ≡ Some i → ((v : ℕ) → p ≢ held v)
       → ((h : maybe.Option (Option X)) → h ≡ some (Some x) → SlotOf right key i p h)
       → ((y : ℕ) → 0 < y → y < key.blocks → (slice_index s.words y == 2) ≡ (slice_index words y == 2))
       → SlotsOf right key (put R.machine.node i p) (laid s.homes (load right key i (Some x)))
-      × Turns right key R.machine record R.machine { node = put R.machine.node i p } s.words words r record r { node = None; arrivals = arrivals }
-  lets_go s R id i x r arrivals p words at holds_ free lies joins = let m = R.machine in let a = (R.views id (view_of key (r ∷ [])) at).0 in
+      × Turns right key e R.machine record R.machine { node = put R.machine.node i p } s.words words r
+      record r { node = None; arrivals = arrivals; events = r.events ++ d ∷ [] }
+  lets_go s R id i x r arrivals d e p words is by at holds_ free lies joins = let m = R.machine in let a = (R.views id (view_of key (r ∷ [])) at).0 in
       let w = r.number in let mine : m.node i ≡ held w = a.holds i holds_ in (
         (λ j lo hi. let t = slots_home right key s R i w (Some x) mine j lo hi in (
           t.0,
@@ -36,6 +41,8 @@ module _ {S X : Type 0} (right : S → (ℕ → Type 0) → X → Type 0) (key :
         )),
         record {
           same = refl;
+          by = by;
+          made = made_more w r.events d ∙ ap (λ (z : Event). made r ++ z ∷ []) is;
           mine = record { inside = a.inside; over = a.over; mark = a.mark; seen = a.seen; holds = λ j q. absurd (cc); alone = λ j q. absurd (lone a j q) };
           others = others_keep right key m record m { node = put m.node i p } w (omega arith) (λ v ne. (refl, refl))
               (λ v j ne q. put_else m.node i p j (λ z. let f : held v ≡ held w = sym q ∙ (ap m.node z ∙ mine) in ne cc) ∙ q)
@@ -64,7 +71,8 @@ module _ {S X : Type 0} (right : S → (ℕ → Type 0) → X → Type 0) (key :
       let sib = sibling_is right key m g R.some_blocks i w mine lo (slice_index s.words p) (R.arrivals p n_.positive (omega arith)) in
       let can : Can key.blocks key.passes m e = ((a.inside, a.mark ∙ ap mark_of unmarked), mine, (λ z. omega arith), sib.0 zero_) in
       let n : ℕ = slice_index s.words p + 1 in let words : List ℕ = set s.words p n in
-      let gone = lets_go s R id i x r 1 parked words at holds_ (λ v q. cc) (λ h e. (x, e, rx)) (λ y lo' hi. dite (ℕ_discrete y p)
+      let gone = lets_go s R id i x r 1 (ArriveFirst (node_or r.node)) e parked words (ap (arrive_first w) (ap node_or holds_)) refl
+      at holds_ (λ v q. cc) (λ h e. (x, e, rx)) (λ y lo' hi. dite (ℕ_discrete y p)
       (λ q. let now : slice_index words y ≡ 1 = ap (slice_index words) q
       ∙ (get_or-set_same s.words p n 0 (let z = R.wide in omega arith) ∙ ap (λ (k : ℕ). k + 1) zero_) in
       ap (λ (k : ℕ). k == 2) (ap (slice_index s.words) q ∙ zero_) ∙ sym (ap (λ (k : ℕ). k == 2) now))
@@ -89,7 +97,7 @@ module _ {S X : Type 0} (right : S → (ℕ → Type 0) → X → Type 0) (key :
       let a = (R.views id (view_of key (r ∷ [])) at).0 in
       let can : Can key.blocks key.passes m e = ((a.inside, a.mark ∙ ap mark_of unmarked), a.holds 1 holds_) in
       let some_blocks = R.some_blocks in let words : List ℕ = set s.words key.blocks 1 in
-      let gone = lets_go s R id 1 x r r.arrivals published words at holds_ (λ v q. cc) (λ h e. (x, e, rx))
+      let gone = lets_go s R id 1 x r r.arrivals Publish e published words refl refl at holds_ (λ v q. cc) (λ h e. (x, e, rx))
       (λ y lo hi. ap (λ (k : ℕ). k == 2) (sym (word_else s.words key.blocks 1 y (λ q. omega arith)))) in
       let node_else : (j : ℕ) → j ≢ 1 → settled (put m.node 1 published j) ≡ settled (m.node j) = λ j ne. ap settled (put_else m.node 1 published j ne) in
       steps right key s R e (after key.blocks key.passes m e) refl id r (without_node r) words (laid s.homes (load right key 1 (Some x))) at can (record {

@@ -1,7 +1,7 @@
 -- The second arrival at a node, which takes both values.
 use Rattle.qh_model.specs.contract.BoardMachine as machine
 use Rattle.std.proofs.Common.{◌≡◌, ◌≢◌, inl, inr, ⊎_elim, ℕ, ◌+◌, ◌*◌, ◌<◌, ◌≤◌, [], ◌∷◌, length, set, sym, refl, ap, ◌∙◌, subst, arith, eq-eqb, ne_eqb, Option}
-use Rattle.std.proofs.Common.{if◌then◌else◌, Bool, true, false, List, Some, None, length-set, get_or-set_same}
+use Rattle.std.proofs.Common.{◌++◌, if◌then◌else◌, Bool, true, false, List, Some, None, length-set, get_or-set_same}
 use Rattle.std.specs.Prelude.{slice_index, ◌==◌}
 use mathlib.Core.{Logic.dite, Option.some, Option.none}
 use native.Mathlib.Decide.{ℕ_discrete}
@@ -10,10 +10,12 @@ use Rattle.atomic_table.specs.Table.{State}
 use Rattle.qh_model.specs.contract.BoardMachine.{Place, untouched, held, parked, used, Event, arrive_second, Can, after, settled, put, sibling, parent}
 use Rattle.qh_model.proofs.board.{Grown.ranged, Joined.same, Joined.spent, Joined.got, Joined.joined, Joined.cases, Joined.fresh, Joined.at_i}
 use Rattle.qh_model.proofs.board.{Joined.at_p, Reached.reach_good, Siblings.ArePair, Siblings.near, Updates.put_else}
-use Rattle.qh_board.specs.{contract.Records.come_second, declared.view.Record.Record, declared.view.Setup.Setup, declared.view.View.View}
-use Rattle.qh_board.specs.steps.{Rule.one_if, Rule.Kept, Shown.mark_of, Views.view_of}
+use Rattle.qh_board.specs.contract.Records.{come_second, node_or}
+use Rattle.qh_board.specs.declared.view.{Record.Record, Setup.Setup, View.View}
+use Rattle.qh_board.specs.steps.{Rule.one_if, Rule.Kept, Shown.made, Shown.mark_of, Views.view_of}
 use Rattle.qh_board.proofs.{ParentWords.arrivals_up, ParentWords.sibling_is, SlotsHome.laid, SlotsHome.length_laid, SlotsHome.load, SlotsHome.slots_laid}
-use Rattle.qh_board.proofs.Steps.{Homes, KeptAfter, SlotsOf, steps, others_keep, slots_put, settled_put, word_else, times_snoc}
+use Rattle.qh_board.specs.declared.view.Event.TheVariants.{ArriveSecond}
+use Rattle.qh_board.proofs.Steps.{Homes, KeptAfter, SlotsOf, made_more, steps, others_keep, slots_put, settled_put, word_else, times_snoc}
 
 module _ {S X : Type 0} (right : S → (ℕ → Type 0) → X → Type 0) (key : Setup S) where
   pub second_step : (s : State (Option X) (View S)) (R : Kept right key s) (id i : ℕ) (x : X) (r : Record) (homes' : Homes X)
@@ -58,6 +60,8 @@ module _ {S X : Type 0} (right : S → (ℕ → Type 0) → X → Type 0) (key :
         slots = subst (λ (z : (ℕ → Place) × Homes X). SlotsOf right key z.0 z.1) (λ k. ((λ j. joined_is m.node w i n_.both j k), sym is_homes k)) slots3;
       }) (record {
         same = refl;
+        by = refl;
+        made = made_more w r.events (ArriveSecond (node_or r.node)) ∙ ap (λ (k : ℕ). made r ++ arrive_second w k ∷ []) (ap node_or holds_);
         mine = record {
           inside = a.inside;
           over = a.over;

@@ -1,7 +1,8 @@
 -- What a token of a board shows of its seat.
 use Rattle.std.proofs.Common.{◌≡◌, ℕ, Bool, false, ap, sym, ◌∙◌, subst, Option, Some}
 use Rattle.atomic_table.specs.Seated.{TableId}
-use Rattle.qh_board.specs.contract.Tokens.{BoardValue, Token, IsOf, IsRightAt, node_or, task_node}
+use Rattle.qh_board.specs.contract.Records.{node_or}
+use Rattle.qh_board.specs.contract.Tokens.{BoardValue, Token, IsOf, IsRightAt, task_node}
 use Rattle.qh_board.specs.declared.view.{Mark.Mark, Setup.Setup, View.View}
 use Rattle.qh_board.specs.steps.{Seats.token_of, Views.HasRecord, Views.record_of}
 use Rattle.qh_model.specs.contract.BoardMachine.{InSpan}

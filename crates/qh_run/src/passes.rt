@@ -1,5 +1,5 @@
 //! Passes side by side.
-ghost use Rattle.std.specs.Prelude.{◌≡◌, false, length, IfOk, All};
+ghost use Rattle.std.specs.Prelude.{◌≡◌, length, IfOk, All};
 ghost use Rattle.qh_board.specs.contract.Tokens.{IsOf};
 ghost use Rattle.qh_run.specs.steps.Turns.{IsWorked};
 
@@ -20,7 +20,6 @@ pub(crate) fn run_passes<S: Reduction, R: Threads + Sync, G: Gate>(
     gate: &G,
 ) -> Result<Vec<Left<S>>, AllocError>
     requires board { All (IsOf board.now) passes.items }
-    requires going { All (λ p. p.pass.over ≡ false) passes.items }
     requires blocks { board.now.setup.blocks ≡ S.count board.now.setup.spans }
     ensures { IfOk result (λ v. (length v.items ≡ length passes.items) × All (IsWorked board.now) v.items) }
 {
@@ -37,13 +36,11 @@ pub(crate) fn run_passes<S: Reduction, R: Threads + Sync, G: Gate>(
     let (one, two) = join(
         rt,
         || -> Result<Vec<Left<S>>, AllocError>
-            requires { All (IsOf board.now) passes.items × All (λ p. p.pass.over ≡ false) passes.items
-                × (board.now.setup.blocks ≡ S.count board.now.setup.spans) }
+            requires { All (IsOf board.now) passes.items × (board.now.setup.blocks ≡ S.count board.now.setup.spans) }
             ensures { IfOk result (λ v. (length v.items ≡ length passes.items) × All (IsWorked board.entry.now) v.items) }
         { run_passes(rt, alloc, board, passes, gate) },
         || -> Result<Vec<Left<S>>, AllocError>
-            requires { All (IsOf board.now) others.items × All (λ p. p.pass.over ≡ false) others.items
-                × (board.now.setup.blocks ≡ S.count board.now.setup.spans) }
+            requires { All (IsOf board.now) others.items × (board.now.setup.blocks ≡ S.count board.now.setup.spans) }
             ensures { IfOk result (λ v. (length v.items ≡ length others.items) × All (IsWorked board.entry.now) v.items) }
         { run_passes(rt, alloc, board, others, gate) },
     );

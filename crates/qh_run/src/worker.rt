@@ -1,5 +1,5 @@
 //! What one pass does.
-ghost use Rattle.std.specs.Prelude.{◌≡◌, ◌+◌, ◌<◌, ℕ, Some, false, true};
+ghost use Rattle.std.specs.Prelude.{◌≡◌, ◌+◌, ◌<◌, ℕ, Some, true};
 ghost use Rattle.qh_model.specs.contract.Cut.{block_count};
 ghost use Rattle.qh_board.specs.declared.view.Mark.TheVariants as marks;
 ghost use Rattle.qh_board.specs.contract.Tokens.{IsOf, task_node};
@@ -60,7 +60,8 @@ fn take_turn<S: Reduction, G: Gate>(
     }
 }
 
-/// Works a pass to its end, for whatever is reduced. Each claim finds more claims than the one before.
+/// Works a pass to its end, for whatever is reduced. Each claim finds more claims than the one before. A pass that
+/// is over already leaves at once.
 pub(crate) fn run_pass<S: Reduction, G: Gate>(
     alloc: Global,
     board: &Board<S>,
@@ -68,12 +69,14 @@ pub(crate) fn run_pass<S: Reduction, G: Gate>(
     gate: &G,
 ) -> Left<S>
     requires board { IsOf board.now pass }
-    requires going { pass.pass.over ≡ false }
     requires blocks { board.now.setup.blocks ≡ S.count board.now.setup.spans }
     ensures worked { IsWorked board.now result }
     ensures number { result.pass.number ≡ pass.pass.number }
 {
     let mut pass = pass;
+    if pass.is_over() {
+        return board.leave(pass);
+    }
     let mut claimed = Claimed::First;
     'claims: loop {
         match board.claim(pass) {
@@ -88,7 +91,8 @@ pub(crate) fn run_pass<S: Reduction, G: Gate>(
 }
 
 /// Works a pass of a board to its end: claims blocks, delivers their extreme ids, and wherever it came
-/// second takes the extreme ids of what both children have. It leaves once all blocks are claimed.
+/// second takes the extreme ids of what both children have. It leaves once all blocks are claimed, and at
+/// once if it knows that already.
 ///
 /// The board's blocks are those of the job's cut.
 ///
@@ -102,12 +106,11 @@ pub fn work<'a, G: Gate>(
     gate: &G,
 ) -> Left<Job<'a>>
     requires board { IsOf board.now pass }
-    requires going { pass.pass.over ≡ false }
     requires blocks { board.now.setup.blocks ≡ block_count board.now.setup.spans.cut.now }
     ensures board { IsOf board.now result }
     ensures number { result.pass.number ≡ pass.entry.pass.number }
 
-    // A pass that left was answered Over: its last claim found all blocks claimed.
+    // A pass that left was answered Over, here or before: its last claim found all blocks claimed.
     ensures over { result.pass.mark ≡ Some marks.Left → result.pass.over ≡ true }
     ensures all_claimed { result.pass.mark ≡ Some marks.Left → board.now.setup.blocks < result.pass.claims }
 {

@@ -1,11 +1,11 @@
 -- What a contract sees of a board and of the tokens of its passes.
 -- Source: this project's own.
-use Rattle.std.specs.Prelude.{◌≡◌, ℕ, ◌<◌, List, length, slice_index_or, Option, Some, None}
+use Rattle.std.specs.Prelude.{◌≡◌, ℕ, ◌<◌, List, length, slice_index_or, Option, Some}
 use Rattle.atomic_table.specs.Seated.{TableId}
 use Rattle.qh_model.specs.contract.BoardMachine.{InSpan}
 use Rattle.qh_board.specs.declared.view.Setup.{Setup}
 use Rattle.qh_board.specs.declared.view.Record.{Record}
-use Rattle.qh_board.specs.contract.Records.{fresh_record}
+use Rattle.qh_board.specs.contract.Records.{fresh_record, node_or}
 
 -- a board: the table that it is, and what it was told when it was made
 pub record BoardValue (S : Type 0) : Type 0 where
@@ -18,16 +18,15 @@ pub record Token (S : Type 0) : Type 0 where
   pub setup : Option (Setup S)
   pub pass : Record
 
--- 0, or the node
-abbrev pub node_or : Option ℕ → ℕ
-node_or None = 0
-node_or (Some i) = i
-
 module _ {S : Type 0} where
   -- the token is one of the board's
   pub record IsOf (b : BoardValue S) (t : Token S) : Type 0 where
     pub table : t.table ≡ b.table
     pub setup : t.setup ≡ Some b.setup
+
+  -- the last claim of the token's pass found all blocks of the board claimed; the record counts that claim too
+  abbrev pub FoundAllClaimed : Token S → Type 0
+  FoundAllClaimed t = (b : BoardValue S) → IsOf b t → b.setup.blocks < t.pass.claims
 
   -- the node that a task holds
   abbrev pub task_node : Token S → ℕ

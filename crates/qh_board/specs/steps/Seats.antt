@@ -1,5 +1,5 @@
 -- The seats of tokens: what a seat has besides the record of its pass.
-use Rattle.std.specs.Prelude.{◌≡◌, ℕ, ◌+◌, ◌*◌, ◌<◌, ◌≤◌, Bool, [], ◌∷◌, Option, Some, None}
+use Rattle.std.specs.Prelude.{◌≡◌, ℕ, ◌+◌, ◌*◌, ◌<◌, ◌≤◌, Bool, true, [], ◌∷◌, Option, Some, None}
 use Rattle.atomic_table.specs.Table.{Me}
 use Rattle.atomic_table.specs.Seated.{TableId}
 use Rattle.qh_board.specs.declared.view.Setup.{Setup}
@@ -15,19 +15,22 @@ module _ {S : Type 0} where
   token_of table v = record { table = table; setup = v.setup; pass = record_of v }
 
   module _ {X : Type 0} where
-    -- the seat of a pass that holds no node
+    -- the seat of a pass that holds no node; if the pass is over, its last claim found all blocks claimed
     pub record IsFree (number : ℕ) (over : Bool) (me : Me (Option X) (View S)) : Type 0 where
       pub bare : me.1 ≡ []
       pub inside : number < passes_of me.0
       pub is : HasRecord me.0 number None over None
+      pub claimed : over ≡ true → blocks_of me.0 < (record_of me.0).claims
 
-    -- the seat of a pass that holds a node: its slot and those of its children are out, and empty
+    -- the seat of a pass that holds a node: its slot and those of its children are out, and empty;
+    -- if the pass is over, its last claim found all blocks claimed
     pub record IsHolding (number : ℕ) (over : Bool) (node : ℕ) (me : Me (Option X) (View S)) : Type 0 where
       pub bare : me.1 ≡ (node, None) ∷ kids (blocks_of me.0) node
       pub inside : number < passes_of me.0
       pub positive : 0 < node
       pub below : node < 2 * blocks_of me.0
       pub is : HasRecord me.0 number (Some node) over None
+      pub claimed : over ≡ true → blocks_of me.0 < (record_of me.0).claims
 
     -- the seat of a pass that has ended
     pub record IsDone (number : ℕ) (over : Bool) (mark : Mark) (me : Me (Option X) (View S)) : Type 0 where
