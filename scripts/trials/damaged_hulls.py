@@ -29,7 +29,7 @@ from lib import package  # noqa: E402,F401
 from lib.limits import COORDINATE_LIMIT  # noqa: E402
 from lib.paths import PROGRAM, built  # noqa: E402
 from tools.check_hull import Checker, Wrong, check, span  # noqa: E402
-from trials.damages import DAMAGES, with_faces  # noqa: E402
+from lib.damages import DAMAGES, with_faces  # noqa: E402
 from trials.small_sets import small_set  # noqa: E402
 from qconvex.commands.off_files import read_off  # noqa: E402
 from qconvex.commands.point_files import text_of  # noqa: E402

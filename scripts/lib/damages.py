@@ -12,6 +12,12 @@ def with_faces(faces, changed):
     return Faces(faces.points, changed)
 
 
+def off_text(faces):
+    """The OFF text of faces."""
+    rows = [[len(faces.points), len(faces.faces), 0], *faces.points, *([len(face), *face] for face in faces.faces)]
+    return "OFF\n" + "".join(" ".join(map(str, row)) + "\n" for row in rows)
+
+
 def some_face(rng, faces, least=3):
     """Returns the position of a face with at least the given number of corners, or None."""
     places = [place for place, face in enumerate(faces.faces) if len(face) >= least]
