@@ -1,5 +1,5 @@
-/* A library for LD_PRELOAD that refuses growths and threads of the program that it is loaded into. scripts/trials/refuse.py
-   builds it and runs the program with it.
+/* A library for LD_PRELOAD that refuses growths and threads of the program that it is loaded into. refusing.py builds it and
+   runs programs with it.
 
    A growth is a call of malloc or realloc that the program itself makes, not the dynamic loader nor the C library on
    its own account: the address that the call returns to lies in the program. A thread is such a call of

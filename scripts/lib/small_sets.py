@@ -1,9 +1,5 @@
 """Small degenerate sets, seeded: grids, planes, lines, repeats, prisms, antiprisms, cones, corners of the range, slivers."""
-import sys
-from pathlib import Path
-
-sys.path.insert(0, str(Path(__file__).resolve().parents[1]))
-from lib.limits import COORDINATE_LIMIT  # noqa: E402
+from lib.limits import COORDINATE_LIMIT
 
 GREATEST_SET = 14
 
