@@ -23,9 +23,10 @@ class LeftOut(Exception):
 
 def need(program, how="it has to be built first"):
     """Returns a program or a file that a part needs, or leaves the part out."""
-    if not (shutil.which(program) or Path(program).exists()):
+    found = shutil.which(program) or program
+    if not Path(found).exists():
         raise LeftOut(f"{program} is missing: {how}")
-    return program
+    return found
 
 
 def need_rt(given):

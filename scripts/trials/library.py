@@ -113,7 +113,8 @@ def beside_scipy(numpy, spatial, hull):
         theirs = spatial.ConvexHull(hull.points.astype(numpy.float64))
     except (spatial.QhullError, ValueError):
         return "scipy refuses", None
-    if set(hull.vertices.tolist()) != set(theirs.vertices.tolist()) and len(hull.points) == hull.distinct:
+    ours, others = ({tuple(point) for point in hull.points[one.vertices].tolist()} for one in (hull, theirs))
+    if ours != others:
         return "scipy has other vertices", None
     pairs = (hull.volume, theirs.volume), (hull.area, theirs.area)
     same = all(numpy.isclose(*pair, rtol=1e-7) for pair in pairs)
