@@ -11,7 +11,8 @@ from ._limits import COORDINATE_LIMIT, POINT_LIMIT
 
 if TYPE_CHECKING:
     from ._checks import Verdict, check
-    from ._floats import FloatHull, Snapped, snap
+    from ._floats import FloatHull
+    from ._grid import Snapped, snap
     from ._hull import ConvexHull
     from ._hulls import Hulls, hulls
     from ._library import VERSION as __version__
@@ -35,11 +36,11 @@ _NEEDS_LIBRARY = {
     "ConvexHull": ("._hull", "ConvexHull"),
     "FloatHull": ("._floats", "FloatHull"),
     "Hulls": ("._hulls", "Hulls"),
-    "Snapped": ("._floats", "Snapped"),
+    "Snapped": ("._grid", "Snapped"),
     "Verdict": ("._checks", "Verdict"),
     "check": ("._checks", "check"),
     "hulls": ("._hulls", "hulls"),
-    "snap": ("._floats", "snap"),
+    "snap": ("._grid", "snap"),
     "__version__": ("._library", "VERSION"),
 }
 

@@ -2,7 +2,7 @@
 from __future__ import annotations
 
 import ctypes
-from collections.abc import Sequence
+from collections.abc import Iterable, Sequence
 from dataclasses import dataclass
 from itertools import chain
 from typing import Any, Union
@@ -13,8 +13,8 @@ from numpy.typing import NDArray
 from ._hull import WholePoints, whole_points
 from ._library import LIBRARY, error_of
 
-Faces = Union[NDArray[np.integer[Any]], Sequence[Sequence[int]], Sequence[NDArray[np.integer[Any]]]]
-"""Faces that `check` takes: an array with a face in each row, or a list of faces of any number of corners."""
+Faces = Union[NDArray[np.integer[Any]], Iterable[Sequence[int]], Iterable[NDArray[np.integer[Any]]]]
+"""Faces that `check` takes: an array with a face in each row, or a list or generator of faces of any number of corners."""
 
 _DONE = 0
 
@@ -115,6 +115,7 @@ def _flat_faces(faces: Faces, count: int) -> tuple[NDArray[np.intp], NDArray[np.
             raise ValueError(f"an array of faces must have the shape (n, corners), and has {faces.shape}")
         offsets = np.arange(len(faces) + 1, dtype=np.intp) * faces.shape[1]
         return offsets, np.ascontiguousarray(_indices(faces, count).ravel())
+    faces = list(faces)
     try:
         sizes = [len(face) for face in faces]
     except TypeError:
@@ -137,7 +138,7 @@ def check(points: WholePoints, faces: Faces) -> Verdict:
     ----------
     points : array_like of shape (n, 3), of any integer type
         From 1 to `POINT_LIMIT` points, each coordinate from -`COORDINATE_LIMIT` to `COORDINATE_LIMIT`.
-    faces : array of shape (m, corners), or a list of lists or arrays, of any integer type
+    faces : array of shape (m, corners), or a list or generator of lists or arrays, of any integer type
         The indices of the corners of each face, counterclockwise seen from outside. The triangles of scipy run either way; turn
         them first. Of points at one place any may be named.
 

@@ -7,10 +7,12 @@ from typing import TYPE_CHECKING, Any, Sequence, Union
 import numpy as np
 from numpy.typing import NDArray
 
-from ._library import RANGE_REFUSAL, FlatHull, flat_hull, six_volumes
+from ._arrays import floats_of, numbers_of
+from ._library import RANGE_REFUSAL, FlatHull, flat_hull
 from ._limits import COORDINATE_LIMIT
-from ._texts import obj_text, off_text
-from ._triangles import equations_of, fans_of, lengths_of, neighbors_of, normals_of
+from ._sides import Cones, Places, sides_of
+from ._surface import Surface
+from ._texts import obj_text, off_text, ply_text, stl_text
 
 if TYPE_CHECKING:
     from ._floats import FloatHull
@@ -26,10 +28,13 @@ WHOLE_REFUSAL = (
 
 def whole_points(points: WholePoints, copy: bool = False) -> NDArray[np.int32]:
     """Returns the points as an aligned, C-contiguous (n, 3) array of int32; a copy cannot be written."""
-    given: NDArray[Any] = np.asarray(points)
+    given = numbers_of(points)
     if given.ndim != 2 or given.shape[1] != 3:
         raise ValueError(f"points must have the shape (n, 3), and have {given.shape}")
-    if given.dtype.kind == "O" and all(isinstance(number, (int, np.integer)) for number in given.flat):
+    if given.dtype.kind == "O":
+        wrong = {type(number).__name__ for number in given.flat if not isinstance(number, (int, np.integer))}
+        if wrong:
+            raise TypeError(WHOLE_REFUSAL.format(" and ".join(sorted(wrong))))
         if any(abs(int(number)) > COORDINATE_LIMIT for number in given.flat):
             raise ValueError(RANGE_REFUSAL)
         given = given.astype(np.int32)
@@ -45,7 +50,7 @@ def whole_points(points: WholePoints, copy: bool = False) -> NDArray[np.int32]:
     return whole
 
 
-class ConvexHull:
+class ConvexHull(Surface):
     """The convex hull of points in space with whole coordinates, exact.
 
     Points may be repeated, and may lie in one line or one plane. The proved library computes `vertices`, `faces`, `dimension`,
@@ -102,15 +107,6 @@ class ConvexHull:
         made._take(points, hull)
         return made
 
-    def _take(self, points: NDArray[np.int32], hull: FlatHull) -> None:
-        self.points: NDArray[np.int32] = points
-        self.dimension: int = hull.dimension
-        self.distinct: int = hull.distinct
-        self.nedges: int = hull.edges
-        self.vertices: NDArray[np.int32] = hull.extremes
-        self.corners: NDArray[np.int32] = hull.corners
-        self.offsets: NDArray[np.intp] = hull.offsets
-
     @classmethod
     def from_floats(cls, points: Any, bits: int = 30) -> FloatHull:
         """Returns the exact hull of points near the given floats, in their units: see `FloatHull`."""
@@ -124,114 +120,47 @@ class ConvexHull:
             f"{len(self)} faces>"
         )
 
-    def __len__(self) -> int:
-        """The number of faces."""
-        return len(self.offsets) - 1
+    def sides(self, points: Any) -> NDArray[np.int8]:
+        """Returns 1 for each point inside the hull, 0 on its surface and -1 outside, exactly, in an int8 array of shape (n,).
 
-    @property
-    def npoints(self) -> int:
-        """The number of points as given."""
-        return len(self.points)
-
-    @property
-    def ndim(self) -> int:
-        """The number of coordinates of a point: 3."""
-        return 3
-
-    @cached_property
-    def min_bound(self) -> NDArray[np.int32]:
-        """The least coordinate of the points along each axis."""
-        bound: NDArray[np.int32] = self.points.min(axis=0)
-        return bound
-
-    @cached_property
-    def max_bound(self) -> NDArray[np.int32]:
-        """The greatest coordinate of the points along each axis."""
-        bound: NDArray[np.int32] = self.points.max(axis=0)
-        return bound
-
-    @cached_property
-    def faces(self) -> list[NDArray[np.int32]]:
-        """The faces: each an int32 array of indices, counterclockwise seen from outside, the least first.
-
-        A set in a plane has one face. The face of a set in a line has its two ends, and that of one point has the point.
+        The points are whole numbers or floats. A set in a plane, a line or a point has a surface alone.
         """
-        ends = self.offsets.tolist()
-        return [self.corners[start:end] for start, end in zip(ends, ends[1:])]
+        floats = np.empty((0, 3)) if np.shape(points) == (0, 3) else floats_of(points)
+        return sides_of(self, self._places(floats))
+
+    def contains(self, points: Any) -> NDArray[np.bool_]:
+        """Returns whether each point is inside the hull or on its surface, exactly: see `sides`."""
+        return self.sides(points) >= 0
 
     @cached_property
-    def simplices(self) -> NDArray[np.int32]:
-        """Triangles, an int32 array of shape (nsimplices, 3): each face as a fan from its first corner.
+    def _cones(self) -> Cones:
+        return Cones(self.grid_points, self.simplices, self.neighbors)
 
-        All are counterclockwise seen from outside. Below dimension 2 there are no triangles.
-        """
-        return fans_of(self.corners, self.offsets)
-
-    @cached_property
-    def normals(self) -> NDArray[np.int64]:
-        """The outer normal of each triangle, an int64 array of shape (nsimplices, 3), exact. Its length is twice the area."""
-        return normals_of(self.points, self.simplices)
-
-    @cached_property
-    def equations(self) -> NDArray[np.float64]:
-        """[normal, offset] of each triangle, a float64 array of shape (nsimplices, 4), rounded.
-
-        The normals have length 1 and point outside: normal . x + offset <= 0 for the points of the hull.
-        """
-        return equations_of(self.normals, self._doubled_areas, self._first_corners)
-
-    @cached_property
-    def neighbors(self) -> NDArray[np.int32]:
-        """The triangle over the side opposite to each corner, an int32 array of shape (nsimplices, 3).
-
-        It is -1 where no triangle is, as at the border of a set in a plane.
-        """
-        return neighbors_of(self.simplices, len(self.points), closed=self.dimension == 3)
-
-    @cached_property
-    def six_volumes(self) -> int:
-        """Six times the volume, exact; 0 below dimension 3."""
-        if self.dimension < 3:
-            return 0
-        return six_volumes(self.points, self.simplices)
-
-    @cached_property
-    def volume(self) -> float:
-        """The volume, rounded once."""
-        return self.six_volumes / 6
-
-    @cached_property
-    def area(self) -> float:
-        """The area of all faces together, rounded. For a set in a plane it is the area of its one face."""
-        return float(self._doubled_areas.sum()) / 2
-
-    @cached_property
-    def _first_corners(self) -> NDArray[np.int32]:
-        """The first corner of each triangle."""
-        return self.points.take(self.simplices[:, 0], 0)
-
-    @cached_property
-    def _doubled_areas(self) -> NDArray[np.float64]:
-        """Twice the area of each triangle, rounded."""
-        return lengths_of(self.normals)
-
-    @property
-    def nsimplex(self) -> int:
-        """The number of triangles."""
-        return len(self.simplices)
+    def _places(self, floats: NDArray[np.float64]) -> Places:
+        """Floats as places of the grid."""
+        return Places(floats, 0, (0, 0, 0))
 
     def to_off(self) -> str:
         """Returns the hull as an OFF file, as the program's output `off` writes it."""
-        return off_text(self._coordinates()[self.vertices], self._numbered_faces(), self.nedges)
+        return off_text(self._corner_places(), self._numbered_faces(), self.nedges)
 
     def to_obj(self) -> str:
         """Returns the hull as a Wavefront OBJ file, with faces as polygons."""
-        return obj_text(self._coordinates()[self.vertices], self._numbered_faces())
+        return obj_text(self._corner_places(), self._numbered_faces())
+
+    def to_ply(self) -> str:
+        """Returns the hull as a PLY text, with faces as polygons."""
+        return ply_text(self._corner_places(), self._numbered_faces())
+
+    def to_stl(self) -> str:
+        """Returns the triangles of the hull as an STL text, with unit normals that are rounded."""
+        return stl_text(self._coordinates()[self.simplices], self.equations[:, :3])
 
     def plot(self, ax: Any = None, **style: Any) -> Any:
         """Draws the faces on axes of matplotlib, or on new axes if `ax` is None, and returns the axes.
 
-        `style` is passed to `Poly3DCollection`. A set below dimension 2 is drawn as points and a line.
+        All axes have one scale. Faces are shaded, and their edges drawn unless they are many; `style` is passed to
+        `Poly3DCollection`, as in ``plot(facecolor="red", edgecolor="none")``. A set below dimension 2 is points and a line.
         """
         from ._plots import draw
 
@@ -241,11 +170,12 @@ class ConvexHull:
         """Returns a picture that can be turned, for notebooks."""
         from ._view import frame, page
 
-        return frame(page(self.vertices.tolist(), self._coordinates()[self.vertices].tolist(), self._numbered_faces(), repr(self)))
+        return frame(page(self.vertices.tolist(), self._corner_places().tolist(), self._numbered_faces(), repr(self)))
 
-    def _coordinates(self) -> NDArray[Any]:
-        """The points in the units of their caller."""
-        return self.points
+    def _corner_places(self) -> NDArray[Any]:
+        """The places of the vertices."""
+        places: NDArray[Any] = self._coordinates()[self.vertices]
+        return places
 
     def _numbered_faces(self) -> list[list[int]]:
         """Returns the faces, with each corner as its position in `vertices`."""

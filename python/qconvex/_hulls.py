@@ -8,10 +8,12 @@ from typing import Any, NamedTuple, overload
 import numpy as np
 from numpy.typing import ArrayLike, NDArray
 
+from ._arrays import numbers_of
 from ._hull import ConvexHull, WholePoints, whole_points
 from ._library import LIBRARY, FlatHull, error_of
 
 _DONE, _STARTS = 0, 6
+_STARTS_REFUSAL = "starts must rise, and go no further than the points"
 
 # What a set is told: qconvex_answer of the header.
 _ANSWER = np.dtype(
@@ -136,6 +138,8 @@ def hulls(points: WholePoints, starts: ArrayLike, *, copy: bool = True) -> Hulls
         does not hold is out of range. In an array of int32 the set with such a coordinate is refused, and the others are not.
     """
     whole, places = whole_points(points, copy), _whole_starts(starts)
+    if places[-1] > len(whole):
+        raise ValueError(_STARTS_REFUSAL)
     sets, end = len(places) - 1, int(places[-1])
     buffers = _Buffers(
         np.zeros(sets, _ANSWER),
@@ -145,7 +149,7 @@ def hulls(points: WholePoints, starts: ArrayLike, *, copy: bool = True) -> Hulls
     )
     code = _call(whole, places, buffers)
     if code == _STARTS:
-        raise ValueError("starts must rise, and go no further than the points")
+        raise ValueError(_STARTS_REFUSAL)
     assert code == _DONE, code
     for list_of_numbers in buffers:
         list_of_numbers.setflags(write=False)
@@ -154,13 +158,13 @@ def hulls(points: WholePoints, starts: ArrayLike, *, copy: bool = True) -> Hulls
 
 def _whole_starts(starts: ArrayLike) -> NDArray[np.intp]:
     """Returns the starts as the library takes them. The library checks that they rise."""
-    given = np.asarray(starts)
+    given = numbers_of(starts)
     if given.ndim != 1 or not len(given):
         raise ValueError(f"starts must have the shape (sets + 1,), and have {given.shape}")
-    if given.dtype.kind not in "iu":
+    if given.dtype.kind not in "iu" and not all(isinstance(start, (int, np.integer)) for start in given):
         raise TypeError(f"starts must be whole numbers, and are {given.dtype}")
     if given.min() < 0 or given.max() > 1 << 56:
-        raise ValueError("starts must rise, and go no further than the points")
+        raise ValueError(_STARTS_REFUSAL)
     places: NDArray[np.intp] = np.require(given, dtype=np.intp, requirements=["C", "A"])
     return places.copy() if np.shares_memory(places, given) else places
 

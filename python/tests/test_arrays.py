@@ -5,7 +5,7 @@ import numpy as np
 import pytest
 
 import qconvex
-from qconvex import COORDINATE_LIMIT, ConvexHull
+from qconvex import COORDINATE_LIMIT, ConvexHull, check, hulls
 
 CUBE = [[x, y, z] for x in (0, 1) for y in (0, 1) for z in (0, 1)]
 CUBE_OFF = """OFF
@@ -55,8 +55,14 @@ def test_whole_numbers_in_objects_and_lists():
     for far in (COORDINATE_LIMIT + 1, -COORDINATE_LIMIT - 1, 10**30):
         with pytest.raises(ValueError, match="coordinate"):
             ConvexHull(np.array([[far, 0, 0], [0, 0, 0]], object))
-    with pytest.raises(TypeError):
+    with pytest.raises(TypeError, match="are str:"):
         ConvexHull(np.array([["a", 0, 0]], object))
+    mixed = [[np.uint64(x), np.int64(y), z] for x, y, z in CUBE]
+    assert check(mixed, ConvexHull(mixed).faces) and hulls(mixed, [np.uint64(0), np.int64(8)])[0].dimension == 3
+    with pytest.raises(TypeError, match="are float: "):
+        ConvexHull([[0.5, 1, 2]])
+    with pytest.raises(TypeError, match="masked"):
+        ConvexHull(np.ma.masked_greater(np.array(CUBE), 0))
 
 
 def test_what_a_hull_says_of_itself():

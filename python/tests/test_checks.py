@@ -16,6 +16,7 @@ TRIANGLES = [[a, b, c] for a, b, c, d in CUBE_FACES] + [[c, d, a] for a, b, c, d
 def test_a_cube_in_any_form():
     for faces in (CUBE_FACES, TRIANGLES, np.array(CUBE_FACES), np.array(TRIANGLES, np.uint64), ConvexHull(CUBE).faces):
         assert check(CUBE, faces) == Verdict(right=True, reason="all right")
+    assert check(CUBE, (face for face in CUBE_FACES)) and check(CUBE, iter(np.array(TRIANGLES)))
     turned = [face[2:] + face[:2] for face in CUBE_FACES[::-1]]
     assert check(np.array(CUBE, np.int8), np.array(turned, np.int8))
     assert check(CUBE + [CUBE[0]], [[8, 1, 3, 2], *CUBE_FACES[1:]])

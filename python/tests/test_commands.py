@@ -5,10 +5,8 @@ import json
 import os
 import re
 import shutil
-import struct
 import subprocess
 import sys
-import time
 import tomllib
 from pathlib import Path
 
@@ -131,12 +129,27 @@ def test_lrs_finds_the_vertices_again(name, tmp_path):
 
 @pytest.mark.skipif(not shutil.which("polymake"), reason="polymake is missing")
 @pytest.mark.parametrize("name", SHAPES)
-def test_polymake_takes_vertices_and_facets(name):
-    line = out("hullfacets", "--form", "polymake", given=SHAPES[name])
-    asked = ' print $p->N_VERTICES, " ", $p->DIM, " ", $p->VOLUME, " ", $p->LATTICE ? 1 : 0;'
-    told = subprocess.run(["polymake", "my " + line + asked], check=True, capture_output=True, text=True).stdout.split()
+def test_polymake_takes_vertices_and_facets(name, tmp_path):
+    script = tmp_path / "hull.txt"
+    asked = 'print $p->N_VERTICES, " ", $p->DIM, " ", $p->LATTICE ? 1 : 0, " ", $p->F_VECTOR;'
+    script.write_text(out("hullfacets", "--form", "polymake", given=SHAPES[name]))
+    words = ["polymake", f'script("{script}"); {asked}']
+    told = subprocess.run(words, check=True, capture_output=True, text=True, stdin=subprocess.DEVNULL).stdout.split()
+    script.write_text(script.read_text() + asked)
+    words = ["polymake", "--script", str(script)]
+    assert subprocess.run(words, check=True, capture_output=True, text=True, stdin=subprocess.DEVNULL).stdout.split() == told
+    numbers = json.loads(out("hullfacets", "--json", given=SHAPES[name]))["f_vector"]
     dimension = {"cube": "3", "square": "2", "segment": "1", "point": "0"}[name]
-    assert told[:2] == [str(len(vertices_in(SHAPES[name]))), dimension] and told[3] == "1"
+    assert told[:3] == [str(len(vertices_in(SHAPES[name]))), dimension, "1"] and told[3:] == list(map(str, numbers))[: int(dimension)]
+
+
+def test_corners_have_their_indices_in_the_input():
+    told = json.loads(out("hullfacets", "--form", "json", given="8\n" + "".join(f"{7 * place}\n" for place in range(8)) + CUBE_OFF))
+    assert told["f_vector"] == [8, 12, 6] and told["facets"][0]["corners"] == [0, 1, 3, 2] and told["facets"][0]["indices"] == [0, 7, 21, 14]
+    assert [corner["index"] for corner in told["corners"]] == list(range(0, 56, 7))
+    assert "index" not in json.loads(out("hullfacets", "--form", "json", given=CUBE_OFF))["corners"][0]
+    done = run("hullfacets", "--form", "json", given="7\n" + "1\n" * 7 + CUBE_OFF)
+    assert done.returncode == 1 and b"7 indices stand before" in done.stderr
 
 
 def test_what_is_no_hull_is_refused():
@@ -167,119 +180,9 @@ def test_numbers_are_exact_and_an_exponent_without_end_is_refused():
     assert done.returncode == 1 and done.stderr == b"-: the exponent of 1e999999999 is beyond 2000\n"
 
 
-# ---- meshpoints
-
-
-def ply(order, kind="float"):
-    letter = {"float": "f", "double": "d"}[kind]
-    head = f"ply\nformat {order} 1.0\nelement marker 1\nproperty short a\nelement vertex 8\nproperty uchar red\n"
-    head += "".join(f"property {kind} {axis}\n" for axis in "xyz") + "element face 0\nproperty list uchar int vertex_indices\nend_header\n"
-    if order == "ascii":
-        return head.encode() + b"7\n" + b"".join(b"9 %d.0 %d %de0\n" % point for point in CUBE)
-    sign = "<" if order == "binary_little_endian" else ">"
-    rows = b"".join(struct.pack(f"{sign}B3{letter}", 9, *point) for point in CUBE)
-    return head.encode() + struct.pack(f"{sign}h", 7) + rows
-
-
-def stl_triangles():
-    """Two triangles on each side of the cube."""
-    faces = [line.split()[1:] for line in CUBE_OFF.splitlines() if line.startswith("4 ")]
-    return [[CUBE[int(face[k])] for k in corners] for face in faces for corners in ((0, 1, 2), (0, 2, 3))]
-
-
-def stl_binary():
-    triangles = stl_triangles()
-    rows = b"".join(struct.pack("<12fH", 0, 0, 0, *sum(triangle, ()), 0) for triangle in triangles)
-    return b"solid but of bytes".ljust(80) + struct.pack("<I", len(triangles)) + rows
-
-
-def stl_text():
-    loops = ["".join("vertex %d %d %d\n" % corner for corner in triangle) for triangle in stl_triangles()]
-    rows = [f"facet normal 0 0 0\nouter loop\n{loop}endloop\nendfacet\n" for loop in loops]
-    return ("solid cube\n" + "".join(rows) + "endsolid cube\n").encode()
-
-
-MESHES = {
-    "cube.off": CUBE_OFF.encode(),
-    "cube.obj": b"# a cube\n" + b"".join(b"v %d %d %d\nvn 1 0 0\n" % point for point in CUBE),
-    "ascii.ply": ply("ascii"),
-    "little.ply": ply("binary_little_endian"),
-    "big.ply": ply("binary_big_endian", "double"),
-    "bytes.stl": stl_binary(),
-    "text.stl": stl_text(),
-}
-
-
-@pytest.mark.parametrize("name", MESHES)
-def test_vertices_of_each_format(name, tmp_path):
-    path = tmp_path / name
-    path.write_bytes(MESHES[name])
-    lines = out("meshpoints", "--scale", 2, "--centre", "0,0,0", path).splitlines()
-    assert lines[:2] == ["3 scale 2 centre 0 0 0", "8"]
-    assert sorted(tuple(map(int, line.split())) for line in lines[2:]) == [tuple(2 * part for part in point) for point in CUBE]
-
-
-def test_the_error_is_told_and_is_no_less_than_it_was(tmp_path):
-    path = tmp_path / "thirds.obj"
-    path.write_text("v 0.1 0.25 -1e-3\nv 1 2 3\n")
-    done = run("meshpoints", "--scale", 10, "--centre", "0,0,0", path)
-    assert done.stdout.decode().splitlines()[2:] == ["1 2 0", "10 20 30"]  # 2.5 goes to the even number
-    assert done.stderr.decode() == "2 of 6 coordinates were rounded, by at most 0.05\n"
-    third = run("meshpoints", "--scale", "1/3", "--centre", "0,0,0", path).stderr.decode()
-    assert third == "5 of 6 coordinates were rounded, by at most 1\n"
-    assert run("meshpoints", path).stdout.decode().split("\n")[0].startswith("3 scale ")
-
-
-def test_a_hull_comes_back_in_the_units_of_the_mesh(tmp_path):
-    path = tmp_path / "points.txt"
-    path.write_text(out("meshpoints", "--scale", 8, "--centre", "1/2,0,0", TOP / "examples" / "knot.obj"))
-    assert out("meshpoints", "--back", path, given="OFF\n1 1 0\n4 -8 1\n1 0\n") == "OFF\n1 1 0\n1 -1 0.125\n1 0\n"
-
-
-def test_a_scale_and_a_centre_are_numbers(tmp_path):
-    scales = [("--scale", word) for word in ("0", "1/0", "x", "1e999999999")]
-    for words in (*scales, ("--centre", "1,2"), ("--centre", "0,0,1/0")):
-        done = run("meshpoints", *words, TOP / "examples" / "knot.obj")
-        assert done.returncode == 2 and not done.stdout and b"Traceback" not in done.stderr
-    path = tmp_path / "points.txt"
-    for note in ("scale 0 centre 0 0 0", "scale x centre 0 0 0", "scale 1 centre 0 1/0 0"):
-        path.write_text(f"3 {note}\n1\n0 0 0\n")
-        done = run("meshpoints", "--back", path, given="OFF\n1 1 0\n1 1 1\n1 0\n")
-        assert done.returncode == 1 and not done.stdout and b"Traceback" not in done.stderr
-
-
-def test_a_hundred_thousand_vertices_take_a_second_or_so(tmp_path):
-    path = tmp_path / "many.stl"
-    count = 200_000
-    corners = [struct.pack("<3f", k % 317, k % 1009 / 8, k / 100_000) for k in range(100_000)]
-    places = ((k // 2, (k + 7) // 2 % 100_000, (k + 99) % 100_000) for k in range(count))
-    rows = b"".join(bytes(12) + b"".join(corners[place] for place in triangle) + b"\0\0" for triangle in places)
-    path.write_bytes(bytes(80) + struct.pack("<I", count) + rows)
-    start = time.perf_counter()
-    assert out("meshpoints", path).count("\n") == 100_002
-    assert time.perf_counter() - start < 10  # about 1 on a quiet machine
-
-
-NO_MESHES = {
-    "none.xyz": b"",
-    "empty.obj": b"",
-    "words.obj": b"v a b c\n",
-    "far.obj": b"v 1 2 1e999999999\n",
-    "nan.obj": b"v 1 2 nan\n",
-    "two.obj": b"v 1 2\n",
-    "short.ply": ply("binary_little_endian")[:-3],
-    "list.ply": ply("binary_little_endian").replace(b"property short a", b"property list uchar int a"),
-    "head.ply": b"ply\nformat ascii 1.0\n",
-    "nan.stl": bytes(80) + struct.pack("<I12fH", 1, *[float("nan")] * 12, 0),
-}
-
-
-@pytest.mark.parametrize("name", NO_MESHES)
-def test_what_is_no_mesh_is_refused(name, tmp_path):
-    path = tmp_path / name
-    path.write_bytes(NO_MESHES[name])
-    done = run("meshpoints", path)
-    assert done.returncode == 1 and not done.stdout and b"Traceback" not in done.stderr
+def test_coordinates_of_any_length_are_written():
+    lines = out("hullfacets", given="OFF\n4 4 6\n0 0 0\n1e2000 0 0\n0 1e2000 0\n0 0 1e2000\n3 0 2 1\n3 0 1 3\n3 0 3 2\n3 1 2 3\n").splitlines()
+    assert lines[0] == "six times the volume: 1" + "0" * 6000
 
 
 # ---- hullview
@@ -314,3 +217,53 @@ def test_a_fault_is_shown_where_it_stands(tmp_path):
     path.write_text("3\n1\n1 2 3 # a point\n")
     assert out("hullexplain", path).startswith("No fault: 1 points.")
     assert os.access(BIN / "hullexplain", os.X_OK)
+
+
+KINDS = {
+    "gzip": b"\x1f\x8b\x08\0\0\0", "a zip": b"PK\x03\x04ab", "numpy": b"\x93NUMPY\x01\0", "PLY": b"ply\nformat ascii 1.0\n",
+    "OFF": CUBE_OFF.encode(), "STL mesh:": b"solid a\n facet normal 0 0 1\n", "OBJ": b"# by Blender\nmtllib a.mtl\no Cube\nv 1 2 3\n",
+    "JSON": b'{"points": [[1, 2, 3]]}', "STL mesh in binary": bytes(84), "UTF-16": "3\n1\n0 0 0".encode("utf-16"), "is binary": b"3\n\0\0\0",
+    "XML": b"<?xml version='1.0'?>",
+}
+
+
+@pytest.mark.parametrize("kind", KINDS)
+def test_a_file_of_another_kind_is_known(kind, tmp_path):
+    path = tmp_path / "file"
+    path.write_bytes(KINDS[kind])
+    done = run("hullexplain", path)
+    assert done.returncode == 1 and done.stdout.decode().startswith("qconvex: ") and kind in done.stdout.decode()
+
+
+def test_a_point_file_is_of_no_other_kind():
+    from qconvex.commands.file_kinds import kind_of
+
+    for path in [*(TOP / "examples").glob("*.txt"), *(TOP / "examples" / "faults").iterdir()]:
+        assert kind_of(path.read_bytes()) is None
+
+
+LINES = {
+    "oops": "OUT is one of", "off --workers 0": "from 1 to 64", "--block=1048577": "from 1 to 1048576", "--from obj": "FORM is", "--from": "wants a value",
+    "--workers 1 off --workers 2": "--workers stands twice", "--work 4": "no option", "-V": "no option", "o": "nearest here is off", "--workers 1_0": "from 1",
+}
+
+
+@pytest.mark.parametrize("line", LINES)
+def test_a_command_line_is_explained(line):
+    done = run("hullexplain", "qconvex", *line.split())
+    said = done.stdout.decode().splitlines()
+    assert done.returncode == 1 and said[0] == "qconvex: 12: Usage" and LINES[line] in said[-1]
+    assert said[2] == f"    qconvex {line}" and set(said[3]) == {" ", "^"}
+
+
+def test_a_right_command_line_and_a_file_behind_it():
+    for line in ("", "off", "--workers=4 rank --block 3 Fx Fx", "--help oops", "--from off"):
+        assert out("hullexplain", "qconvex", *line.split()).startswith("No fault")
+    path = TOP / "examples" / "unit-cube.txt"
+    assert f"qconvex off < {path}" in run("hullexplain", "/usr/bin/qconvex-exact", path).stdout.decode()
+    assert run("hullexplain", path, "oops").returncode == 2 and out("hullexplain", path, "--comments").startswith("No fault")
+
+
+def test_a_point_file_has_no_facets():
+    done = run("hullfacets", TOP / "examples" / "unit-cube.txt")
+    assert done.returncode == 1 and b"this is a point file" in done.stderr

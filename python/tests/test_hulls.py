@@ -58,7 +58,7 @@ def test_starts():
     assert len(hulls(CUBE, [3])) == 0
     assert hulls(CUBE, [4, 8])[0].dimension == 2
     assert hulls(CUBE, np.array([0, 8], np.uint8))[0].dimension == 3
-    for wrong in ([0, 9], [4, 3], [-1, 4], [[0, 8]], [], [0, 1 << 60]):
+    for wrong in ([0, 9], [4, 3], [-1, 4], [[0, 8]], [], [0, 1 << 60], [0, 1 << 50], [0, 1 << 70]):
         with pytest.raises(ValueError):
             hulls(CUBE, wrong)
     with pytest.raises(TypeError):

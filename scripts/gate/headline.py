@@ -10,11 +10,13 @@ script also checks that
 - every other definition that a clause of a public function or trait uses stands in `specs/contract`;
 - docs/DEFINITIONS.md names each definition of these two folders, and no other;
 - docs/LAWS.md names each law and each clause of a law, and no other;
-- docs/CHECKING.md has the number of lines for `check_streams`, `judge_words` and `run` of hullcheck;
-- README.md has the number of lines, and the number of lines in which the traits `Source` and `Sink` say what a device does.
+- README.md has the number of lines, and the number of lines in which the traits `Source` and `Sink` say what a device does;
+- docs/PROVED.md has the number of lines for `run` of the program and for the calls of the board, docs/CHECKING.md that for
+  `run` of hullcheck.
 
 It prints each file with its number of definitions and lines (--list: with each definition), the types and constants of the
-program that they use, and the number of lines; then each fault. The status is 1 if there is a fault.
+program that they use, and four numbers of lines: of `answer` and `serve`, the program, the checker and the board; then each
+fault. The status is 1 if there is a fault.
 """
 import argparse
 import re
@@ -30,11 +32,13 @@ MOST_LINES = 450
 # The traits of the devices, whose clauses the contract of `serve` takes for granted.
 DEVICES = ((CRATES / "qh_read/src/source.rt", "Source"), (CRATES / "qh_write/src/sink.rt", "Sink"))
 HEADLINE = {(CRATES / "qh_serve/src/answers.rt", "answer"), (CRATES / "qh_serve/src/serving.rt", "serve")}
-CHECKER = {(CRATES / "hullcheck/src/judging.rt", "check_streams"), (CRATES / "hullcheck/src/program.rt", "judge_words"),
-           (CRATES / "hullcheck/src/program.rt", "run")}
+PROGRAM = {(CRATES / "qconvex/src/program.rt", "run")}
+CHECKER = {(CRATES / "hullcheck/src/program.rt", "run")}
+BOARD = {(CRATES / "qh_board/src" / file, call)
+         for file, call in (("opening.rt", "new"), ("calls.rt", "claim"), ("calls.rt", "deliver"), ("calls.rt", "leave"),
+                            ("calls.rt", "give_up"), ("closing.rt", "close"))}
 SETTINGS = CRATES / "qh_serve/src/settings.rt"
-LAWS = (CRATES / "qh_model/src/laws", CRATES / "qh_laws/src", CRATES / "qh_tree_laws/src", CRATES / "qh_seam_laws/src",
-        CRATES / "qh_convex_laws/src", CRATES / "qh_lattice/src", CRATES / "qh_surface_laws/src", CRATES / "qh_cover_laws/src")
+LAWS = (CRATES / "qh_model/src/laws", CRATES / "qh_laws/src", CRATES / "qh_lattice/src", CRATES / "qh_surface_laws/src")
 NAMED = re.compile(r"`([^`\s]+)`")
 ROW = re.compile(r"^\| \[\w+\]\(([^)]*\.antt)\) \| ([^|]*) \|", re.M)
 
@@ -47,9 +51,9 @@ def headline(project):
     return project.reached(set().union(*(clause.cites for clause in clauses)))
 
 
-def checker(project):
-    """All definitions that the contracts of the program `hullcheck` use."""
-    clauses = [clause for clause in project.clauses if (clause.path, clause.function) in CHECKER]
+def used(project, functions):
+    """Returns all definitions that the contracts of functions use."""
+    clauses = [clause for clause in project.clauses if (clause.path, clause.function) in functions]
     return project.reached(set().union(*(clause.cites for clause in clauses)))
 
 
@@ -150,20 +154,25 @@ def device_lines():
     return count
 
 
+def words_of(page):
+    """Returns the words of a page, with one blank between any two."""
+    return " ".join(page.read_text().split())
+
+
 def number_faults(lines):
     """Yields each number of lines that is too large, or differs from the number in README."""
-    if "%d lines more" % device_lines() not in Path("README.md").read_text():
+    if "%d lines more" % device_lines() not in words_of(Path("README.md")):
         yield "README.md does not say: %d lines more" % device_lines()
     if lines > MOST_LINES:
         yield "%d lines are more than %d" % (lines, MOST_LINES)
-    if "%d lines of definitions" % lines not in Path("README.md").read_text():
+    if "%d lines of definitions" % lines not in words_of(Path("README.md")):
         yield "README.md does not say: %d lines of definitions" % lines
 
 
-def checker_faults(lines):
-    """Yields a fault if docs/CHECKING.md has another number of lines."""
-    if "%d lines of definitions" % lines not in Path("docs/CHECKING.md").read_text():
-        yield "docs/CHECKING.md does not say: %d lines of definitions" % lines
+def page_faults(page, what, lines):
+    """Yields a fault if a page has another number of lines for something."""
+    if "%d lines of definitions" % lines not in words_of(Path("docs", page)):
+        yield "docs/%s does not say of %s: %d lines of definitions" % (page, what, lines)
 
 
 def main():
@@ -174,12 +183,14 @@ def main():
     believed = headline(project)
     lines = lines_of(believed)
     print_files(believed, every)
-    print("%d definitions, %d lines" % (len(believed), lines))
+    print("%d definitions, %d lines of `answer` and `serve`" % (len(believed), lines))
     print("%d lines of the traits of devices" % device_lines())
-    checker_lines = lines_of(checker(project))
-    print("%d lines of hullcheck" % checker_lines)
     faults = [*folder_faults(project, believed, contract(project)), *definitions_faults(project), *laws_faults(),
-              *number_faults(lines), *checker_faults(checker_lines)]
+              *number_faults(lines)]
+    for what, page, functions in (("the program", "PROVED.md", PROGRAM), ("the checker", "CHECKING.md", CHECKER), ("the board", "PROVED.md", BOARD)):
+        count = lines_of(used(project, functions))
+        print("%d lines of %s" % (count, what))
+        faults += page_faults(page, what, count)
     for fault in faults:
         print("FAULT:", fault)
     sys.exit(1 if faults else 0)

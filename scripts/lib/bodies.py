@@ -57,8 +57,8 @@ fn supporting_triples(set: IdSet) -> usize {
 # The line that hulls all ids where the tree has no root, and what stands for it.
 WITHOUT_ROOT = ("without-root", RUN, [("None => gate.finish(alloc, pts, ids),", "None => Err(Memory),")])
 
-# The crates whose tests call `answer`, and a body of it that is always out of memory.
-ROWS, GATED = "crates/qh_tests_serve", "crates/qh_tests_workers"
+# The crate whose tests call `answer`, and a body of it that is always out of memory.
+ROWS = "crates/qh_tests_serve"
 ALWAYS_MEMORY = [
     ("answer", "crates/qh_serve/src/answers.rt", [("""{
     let points = points_in(rt, alloc, input, settings)?;
@@ -71,7 +71,7 @@ ALWAYS_MEMORY = [
         ("const TOO_MANY: usize = 268435457;", "const TOO_MANY: usize = 1000;"),
     ]),
     # Of the calls that a gate watches, `answer` alone is looked at.
-    ("answer alone", f"{GATED}/src/tests/gated.rt", [
+    ("answer alone", f"{ROWS}/src/tests/workers/gated.rt", [
         ("pub(super) const WATCHED: [Watched; 3] = [Watched::RunHull, Watched::Answer, Watched::Serve];",
          "pub(super) const WATCHED: [Watched; 1] = [Watched::Answer];"),
     ]),

@@ -21,7 +21,7 @@ from lib.hull_oracle import hull_text  # noqa: E402
 
 
 FOLDER = Path("crates/qconvex")
-TEST = Path("crates/qh_tests_workers/src/tests/stored_points.rt")
+TEST = Path("crates/qh_tests_serve/src/tests/workers/stored_points.rt")
 ARGS = ["--block", "3", "--workers", "7", "rank", "s", "Fx", "off", "offt"]
 OUTPUTS = ["rank", "s", "Fx", "off", "offt"]
 SEED = 20261123

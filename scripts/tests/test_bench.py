@@ -24,7 +24,7 @@ import phases  # noqa: E402
 import points  # noqa: E402
 
 # Crates of laws, which have no code that runs.
-LAWS = {"qh_laws", "qh_seam_laws", "qh_convex_laws", "qh_tree_laws"}
+LAWS = {"qh_laws"}
 PEER_OF_ONE_SET = "#!/bin/sh\nhead -n 1 > /dev/null\necho 5 4\n"
 
 

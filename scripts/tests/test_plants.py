@@ -4,7 +4,7 @@ import unittest
 from pathlib import Path
 
 sys.path.insert(0, str(Path(__file__).resolve().parents[1]))
-from lib.bodies import ALL_TRIPLES, ALWAYS_MEMORY, GATED, ROWS, TURNED, WITHOUT_ROOT, WORKERS  # noqa: E402
+from lib.bodies import ALL_TRIPLES, ALWAYS_MEMORY, ROWS, TURNED, WITHOUT_ROOT, WORKERS  # noqa: E402
 from lib.paths import TOP  # noqa: E402
 from trials import workers  # noqa: E402
 
@@ -17,7 +17,7 @@ class Plants(unittest.TestCase):
                     self.assertEqual((TOP / file).read_text(encoding="utf-8").count(old), 1)
 
     def test_each_comparison_that_is_turned_round_stands_somewhere(self):
-        rows = "".join(path.read_text(encoding="utf-8") for crate in (ROWS, GATED) for path in (TOP / crate / "src/tests").rglob("*.rt"))
+        rows = "".join(path.read_text(encoding="utf-8") for path in (TOP / ROWS / "src/tests").rglob("*.rt"))
         for old, _ in TURNED:
             with self.subTest(old=old):
                 self.assertRegex(rows, old)

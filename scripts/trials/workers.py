@@ -6,7 +6,7 @@
 The tests run unproved, by `rt try --test`, and each part takes minutes whatever the seconds.
 
 bodies      each of lib/bodies.py gives the right hull, but by workers that do not run at once, are too few, give up too soon or are told
-            something wrong, or by a filter of all triples that takes too long. A test of qh_tests_workers that watches the workers or the time
+            something wrong, or by a filter of all triples that takes too long. A test of qh_tests_serve that watches the workers or the time
             must fail for each, and none for the right bodies
 memory      a body of `answer` that is always out of memory. A test ends at its first row that fails, so each comparison of what `answer` gave
             with what it should give is turned round, and all tests must pass. Rows that expect it to be out of memory stay as they are
@@ -27,7 +27,7 @@ from pathlib import Path
 
 sys.path.insert(0, str(Path(__file__).resolve().parents[1]))
 from lib import trials  # noqa: E402
-from lib.bodies import ALL_TRIPLES, ALWAYS_MEMORY, GATED, ROWS, TURNED, WITHOUT_ROOT, WORKERS  # noqa: E402
+from lib.bodies import ALL_TRIPLES, ALWAYS_MEMORY, ROWS, TURNED, WITHOUT_ROOT, WORKERS  # noqa: E402
 from lib.copies import copy_crates, replace_once  # noqa: E402
 from lib.hull_oracle import file_of  # noqa: E402
 from lib.paths import TOP  # noqa: E402
@@ -36,7 +36,7 @@ from lib.small_sets import small_set  # noqa: E402
 # The tests of workers that watch them, and the row of 20,000 points, which tells the time: each with its most seconds.
 WATCHING, WATCHED_SECONDS = {"gated", "told_blocks"}, 1200
 TIMED, TIMED_SECONDS = {"paraboloid"}, 600
-BOARD_RUNS = "crates/qh_tests_board/src/tests/board/runs.rt"
+BOARD_RUNS = "crates/qh_tests_run/src/tests/board/runs.rt"
 BOARDS = 10_000
 PRIVATE_TESTS = TOP / "scripts/trials/private_tests"
 SECONDS = 600
@@ -89,11 +89,12 @@ def bodies(given, _rng):
     """Wrong bodies, and the right ones."""
     for modules, seconds, planted in ((WATCHING, WATCHED_SECONDS, WORKERS), (TIMED, TIMED_SECONDS, [ALL_TRIPLES])):
         with copy_of_crates(given) as top:
-            keep_modules(top / GATED / "src/tests.rt", modules)
-            yield "right", fault("the right bodies", tests_of(top / GATED, seconds))
+            keep_modules(top / ROWS / "src/tests.rt", {"outcomes", "workers"})
+            keep_modules(top / ROWS / "src/tests/workers.rt", modules)
+            yield "right", fault("the right bodies", tests_of(top / ROWS, seconds))
             for name, file, edits in planted:
                 before = replace_once(top / file, edits)
-                yield "wrong", fault(name, tests_of(top / GATED, seconds), FAIL)
+                yield "wrong", fault(name, tests_of(top / ROWS, seconds), FAIL)
                 (top / file).write_text(before, encoding="utf-8")
 
 
@@ -110,13 +111,12 @@ def memory(given, _rng):
     with copy_of_crates(given) as top:
         for _, file, edits in ALWAYS_MEMORY:
             replace_once(top / file, edits)
-        for crate in (ROWS, GATED):
-            for path in sorted((top / crate / "src/tests").rglob("*.rt")):
-                turn_round(path)
-            said = tests_of(top / crate)
-            ends = re.findall(r"^test (\S+) \.\.\. (\w+)$", said, re.MULTILINE)
-            for name, end in ends or [(f"{crate}, which did not run", "")]:
-                yield "tests", None if end == "ok" else f"a row of {name} holds where `answer` is always out of memory"
+        for path in sorted((top / ROWS / "src/tests").rglob("*.rt")):
+            turn_round(path)
+        said = tests_of(top / ROWS)
+        ends = re.findall(r"^test (\S+) \.\.\. (\w+)$", said, re.MULTILINE)
+        for name, end in ends or [(f"{ROWS}, which did not run", "")]:
+            yield "tests", None if end == "ok" else f"a row of {name} holds where `answer` is always out of memory"
 
 
 def boards(given, _rng):
@@ -124,7 +124,7 @@ def boards(given, _rng):
     with copy_of_crates(given) as top:
         text, found = re.subn(r"(?m)^const RUNS: u32 = .*;", f"const RUNS: u32 = {BOARDS};", (top / BOARD_RUNS).read_text(encoding="utf-8"))
         (top / BOARD_RUNS).write_text(text, encoding="utf-8")
-        said = tests_of(top / "crates/qh_tests_board", SECONDS, "--", "board::runs::")
+        said = tests_of(top / "crates/qh_tests_run", SECONDS, "--", "board::runs::")
         yield f"runs of {BOARDS} boards", fault("many boards", said) if found == 1 else f"{BOARD_RUNS} states RUNS {found} times"
 
 

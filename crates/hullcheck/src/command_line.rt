@@ -6,8 +6,8 @@ ghost use Rattle.hullcheck.specs.contract.CommandLine.{asked_by, asked_by_defaul
 ghost use Rattle.hullcheck.specs.steps.Words.{with_next};
 
 use crate::fault::Fault;
-use qh_faces::{Layout, Reading, Turn};
 use qh_model::WORKER_LIMIT;
+use qh_read::faces::{Layout, Reading, Turn};
 
 /// The settings of a command line.
 #[derive(Clone, Copy, Drop)]

@@ -1,6 +1,7 @@
 //! The faults that keep the program from a verdict.
-ghost use Rattle.std.specs.Prelude.{◌≡◌};
+ghost use Rattle.std.specs.Prelude.{◌≡◌, Some};
 ghost use Rattle.hullcheck.specs.contract.Statuses.{fault_status, read_fault_status};
+ghost use Rattle.hullcheck.specs.contract.FaultTexts.{fault_text, read_fault_text};
 ghost use Rattle.hullcheck.specs.declared.fault.Fault.TheVariants.{Memory};
 
 use qh_model::{Memory, ReadFault};
@@ -14,8 +15,10 @@ pub enum Fault {
     Usage,
     /// An allocation failed.
     Memory,
-    /// A file could not be opened or read, or the standard output could not be written.
+    /// A file could not be opened.
     Device,
+    /// The judgement could not be written.
+    Output,
     /// The points could not be read.
     Points(ReadFault),
     /// The faces could not be read.
@@ -41,7 +44,7 @@ impl Fault {
         match self {
             Fault::Usage => 2,
             Fault::Memory => 3,
-            Fault::Device => 4,
+            Fault::Device | Fault::Output => 4,
             Fault::Points(fault) | Fault::Faces(fault) => read_status(fault),
         }
     }
@@ -71,7 +74,33 @@ impl<T: Drop> From<AllocFailed<T>> for Fault {
     }
 }
 
+/// A fault of a file, as its line says it.
+#[derive(Drop)]
+struct Words(ReadFault);
+
+impl fmt::Display for Words {
+    ghost output = { λ w. Some (read_fault_text w.0) };
+
+    fn fmt<W: fmt::Write>(&self, f: &mut fmt::Formatter<W>) -> fmt::Result {
+        match self.0 {
+            ReadFault::NoHeader => write!(f, "NoHeader"),
+            ReadFault::BadNumber(line) => write!(f, "BadNumber at line {line}"),
+            ReadFault::NotThree => write!(f, "NotThree"),
+            ReadFault::Count => write!(f, "Count"),
+            ReadFault::Range(line) => write!(f, "Range at line {line}"),
+            ReadFault::Long(line) => write!(f, "Long at line {line}"),
+            ReadFault::Short => write!(f, "Short"),
+            ReadFault::Memory => write!(f, "out of memory"),
+            ReadFault::Device => write!(f, "the file could not be read"),
+            ReadFault::Big => write!(f, "Big"),
+            ReadFault::NotOff => write!(f, "NotOff"),
+        }
+    }
+}
+
 impl fmt::Display for Fault {
+    ghost output = { λ f. Some (fault_text f) };
+
     fn fmt<W: fmt::Write>(&self, f: &mut fmt::Formatter<W>) -> fmt::Result {
         match self {
             Fault::Usage => write!(
@@ -79,9 +108,10 @@ impl fmt::Display for Fault {
                 "usage: hullcheck [--workers N] [--indices | --counted] [--clockwise] POINTS [FACES]"
             ),
             Fault::Memory => write!(f, "hullcheck: out of memory"),
-            Fault::Device => write!(f, "hullcheck: a file could not be read"),
-            Fault::Points(fault) => write!(f, "hullcheck: the points: {fault:?}"),
-            Fault::Faces(fault) => write!(f, "hullcheck: the faces: {fault:?}"),
+            Fault::Device => write!(f, "hullcheck: a file could not be opened"),
+            Fault::Output => write!(f, "hullcheck: the judgement could not be written"),
+            Fault::Points(fault) => write!(f, "hullcheck: the points: {}", Words(*fault)),
+            Fault::Faces(fault) => write!(f, "hullcheck: the faces: {}", Words(*fault)),
         }
     }
 }

@@ -1,3 +1,4 @@
 -- What the contracts of public functions cite.
 pub mod CommandLine
 pub mod Outcomes
+pub mod Runs

@@ -1,23 +1,18 @@
-//! The program over the standard streams.
-ghost use Rattle.std.specs.Prelude.{◌≡◌, ◌≢◌, ◌⊎◌, ◌-◌, ◌^◌, ◌<◌, IfErr, OnOk};
-ghost use Rattle.std.specs.Process.{exit_status};
+//! The program between the words of a command line, a source of points and a sink of texts.
+ghost use Rattle.std.specs.Prelude.{◌≡◌, ◌≢◌, ◌-◌, ◌^◌, ◌<◌, map, string_bytes};
 ghost use Rattle.std.specs.declared.io.ErrorKind.TheVariants.{OutOfMemory};
-ghost use Rattle.qh_serve.specs.contract.FaultLines.{status_of};
-ghost use Rattle.qh_serve.specs.declared.fault.Fault.{Fault};
-ghost use Rattle.qh_serve.specs.headline.Serving.{Devices};
-ghost use Rattle.qconvex.specs.contract.Outcomes.{IsOutcome};
+ghost use Rattle.qconvex.specs.contract.Outcomes.{IsOutcome, devices};
+ghost use Rattle.qh_write.specs.contract.LineDevices.{LineDevice};
+ghost use Rattle.qconvex.specs.contract.Runs.{IsAsked, IsRun, SaysFault, outcome_status};
 ghost use Rattle.qconvex.specs.declared.command_line.ArgFault.TheVariants.{Usage, Memory};
 
 use crate::command_line::{ArgFault, settings_of};
-use qh_read::{ReadFault, Source, StdSource};
+use qh_read::{ReadFault, Source};
 use qh_serve::{Fault, Settings, Threaded, serve};
-use qh_write::{Sink, StdSink, send};
+use qh_write::{Lines, Sink, send};
 use std::alloc::Global;
 use std::io::ErrorKind;
-use std::process::ExitCode;
-use std::rt::Env;
 use std::thread::Threads;
-use std::{env, io};
 
 /// Returns why words that could not be read give no settings: out of memory, or a word is not
 /// UTF-8.
@@ -31,18 +26,18 @@ fn unread(kind: ErrorKind) -> ArgFault
     }
 }
 
-/// Returns the words of the command line, the program's name first.
-fn words<R: Env + AllocGlobal>(rt: &R) -> Result<Vec<String>, ArgFault> {
-    let args = match env::args(rt) {
-        Ok(args) => args,
-        Err(error) => return Err(unread(error.kind())),
-    };
-    args.collect(rt.alloc()).map_err(|_| ArgFault::Memory)
-}
-
-/// Returns the settings that the command line asks for.
-fn asked<R: Env + AllocGlobal>(rt: &R) -> Result<Settings, ArgFault> {
-    settings_of(rt.alloc(), words(rt)?)
+/// Returns the settings that words ask for on this number of processors, where the words could be read.
+fn asked(
+    alloc: Global,
+    words: Result<Vec<String>, ErrorKind>,
+    processors: usize,
+) -> Result<Settings, ArgFault>
+    ensures { IsAsked (λ v. map string_bytes v.items) words result }
+{
+    match words {
+        Ok(words) => Ok(settings_of(alloc, words)?.on_processors(processors)),
+        Err(kind) => Err(unread(kind)),
+    }
 }
 
 /// Serves the devices if a command line has settings, sends the help text if it asks for that, and else returns why it
@@ -56,20 +51,20 @@ pub fn respond<R: Threads + Sync, S: Source, K: Sink>(
 ) -> Result<(), Fault>
     requires source { S.failure_count source.old < 2 ^ 64 - 1 }
     requires sink { K.count sink.old < 2 ^ 64 - 1 }
-    ensures { let old : Devices = record { to_come = S.remaining source.old; went = K.went sink.old; source_failures = S.failure_count source.old; sink_failures = K.count sink.old; flushed = K.is_flushed sink.old } in
-        let new : Devices = record { to_come = S.remaining source.new; went = K.went sink.new; source_failures = S.failure_count source.new; sink_failures = K.count sink.new; flushed = K.is_flushed sink.new } in
+    ensures { let old = devices (S.remaining source.old) (K.went sink.old) (S.failure_count source.old) (K.count sink.old) (K.is_flushed sink.old) in
+        let new = devices (S.remaining source.new) (K.went sink.new) (S.failure_count source.new) (K.count sink.new) (K.is_flushed sink.new) in
         IsOutcome asked old new result }
 {
     match asked {
         Ok(settings) => {
-            let workers = settings.workers();
+            let threads = settings.threads();
             serve(
                 rt,
                 alloc,
                 source,
                 sink,
                 &settings,
-                &Threaded { rt, workers },
+                &Threaded { rt, threads },
             )
         }
         Err(ArgFault::Help(text)) => match send(sink, text.as_bytes()) {
@@ -81,35 +76,46 @@ pub fn respond<R: Threads + Sync, S: Source, K: Sink>(
     }
 }
 
-/// Returns the exit status of an outcome: 0, or that of the fault.
-fn exit_code(outcome: Result<(), Fault>) -> ExitCode
-    ensures done { OnOk outcome (exit_status result ≡ 0) }
-    ensures fault { IfErr outcome (λ f. exit_status result ≡ status_of f) }
+/// Writes the line of a fault, and returns the exit status of the outcome.
+fn end<L: Lines>(errors: &mut L, outcome: Result<(), Fault>) -> u8
+    requires { L.count errors.old < 2 ^ 64 - 1 }
+    ensures status { result ≡ outcome_status outcome }
+    ensures line { let old : LineDevice = record { went = L.went errors.old; failures = L.count errors.old } in
+        let new : LineDevice = record { went = L.went errors.new; failures = L.count errors.new } in
+        SaysFault outcome old new }
 {
     match outcome {
-        Ok(()) => ExitCode::SUCCESS,
-        Err(fault) => ExitCode::from(fault.status()),
+        Ok(()) => 0,
+        Err(fault) => {
+            let _ = errors.line(fault);
+            fault.status()
+        }
     }
 }
 
-/// Writes the line of a fault on standard error, and returns the exit status of the outcome.
-fn end<R: Eprint>(rt: &R, outcome: Result<(), Fault>) -> ExitCode
-    ensures done { OnOk outcome (exit_status result ≡ 0) }
-    ensures fault { IfErr outcome (λ f. exit_status result ≡ status_of f) }
+/// Judges the words of a command line, serves the source and the sink or writes the help text, and returns the exit
+/// status: 0, or that of the fault whose line went to the errors.
+///
+/// The words come with the program's name first, or with why the system couldn't give them. The number of processors
+/// limits the threads, and changes nothing else.
+pub fn run<R: Threads + Sync, S: Source, K: Sink, L: Lines>(
+    rt: &R,
+    alloc: Global,
+    words: Result<Vec<String>, ErrorKind>,
+    processors: usize,
+    source: &mut S,
+    sink: &mut K,
+    errors: &mut L,
+) -> u8
+    requires source { S.failure_count source.old < 2 ^ 64 - 1 }
+    requires sink { K.count sink.old < 2 ^ 64 - 1 }
+    requires errors { L.count errors.old < 2 ^ 64 - 1 }
+    ensures { let old = devices (S.remaining source.old) (K.went sink.old) (S.failure_count source.old) (K.count sink.old) (K.is_flushed sink.old) in
+        let new = devices (S.remaining source.new) (K.went sink.new) (S.failure_count source.new) (K.count sink.new) (K.is_flushed sink.new) in
+        let before : LineDevice = record { went = L.went errors.old; failures = L.count errors.old } in
+        let after : LineDevice = record { went = L.went errors.new; failures = L.count errors.new } in
+        IsRun (λ v. map string_bytes v.items) words old new before after result }
 {
-    if let Err(fault) = outcome {
-        let _ = eprintln!(rt; "{fault}");
-    }
-    exit_code(outcome)
-}
-
-/// Judges the command line, serves the standard streams or writes the help text, and says with which status
-/// the program ends: 0, or that of a fault.
-pub fn run<R: Env + Input + Print + Eprint + AllocGlobal + Threads + Sync>(rt: &R) -> ExitCode
-    ensures { (exit_status result ≡ 0) ⊎ ((f : Fault) × (exit_status result ≡ status_of f)) }
-{
-    let mut source = StdSource::new(rt.reader());
-    let mut sink = StdSink::new(io::writer(rt));
-    let outcome = respond(rt, rt.alloc(), asked(rt), &mut source, &mut sink);
-    end(rt, outcome)
+    let outcome = respond(rt, alloc, asked(alloc, words, processors), source, sink);
+    end(errors, outcome)
 }

@@ -16,3 +16,12 @@ fn corner_of_a_cube(rt: HostRuntime) -> Result<(), Fail> {
     assert_eq!(rt; (code, volume.low, volume.high), (DONE, 1u64, 0u64));
     Ok(())
 }
+
+/// C knows a field by its place alone. `Debug` writes the fields in the order of their places.
+#[test]
+fn wide_as_in_the_header(rt: HostRuntime) -> Result<(), Fail> {
+    let text = format!(in rt.alloc(); "{:?}", Wide { high: 2, low: 1 })?;
+    assert_eq!(rt; text.as_str(), "Wide { low: 1, high: 2 }");
+    assert_eq!(rt; size_of::<Wide>(), 16usize);
+    Ok(())
+}

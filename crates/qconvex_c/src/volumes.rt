@@ -1,5 +1,5 @@
 //! Six times the volume inside triangles.
-ghost use Rattle.std.specs.Prelude.{◌≡◌, ◌≢◌, ◌≤◌, ◌<◌, ◌↔◌, ◌+◌, ◌*◌, ◌^◌, pos, length, IsTrue, IfSome, IfNone};
+ghost use Rattle.std.specs.Prelude.{◌≡◌, ◌≢◌, ◌⊎◌, ◌<◌, ◌↔◌, ◌+◌, ◌*◌, ◌^◌, pos, length, IsTrue, IfSome, IfNone};
 ghost use Rattle.std.specs.Int.{w128, cast_unsigned};
 ghost use Rattle.std.specs.List.{All};
 ghost use Rattle.qh_model.specs.contract.IdSets.{AreIndices};
@@ -89,7 +89,7 @@ pub extern "C" fn qconvex_six_volumes(points: &[Given], triangles: &[u32], volum
         ↔ ((0 < length points.now) × ¬ (All IsPlace points.now × AreIndices points.now triangles.now)) }
     ensures room { result ≡ QCONVEX_ROOM
         → ¬ (PartialSumsFit (place points.now) (place points.now 0) (pos 0) triangles.now) }
-    ensures codes { result ≤ QCONVEX_ROOM }
+    ensures codes { (result ≡ QCONVEX_DONE) ⊎ (result ≡ QCONVEX_NO_POINT) ⊎ (result ≡ QCONVEX_RANGE) ⊎ (result ≡ QCONVEX_ROOM) }
     ensures kept { result ≢ QCONVEX_DONE → volume.new ≡ volume.old }
 {
     if points.is_empty() {

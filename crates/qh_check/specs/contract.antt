@@ -4,3 +4,4 @@ pub mod Judging
 pub mod Naming
 pub mod Pieces
 pub mod Surfaces
+pub mod Texts

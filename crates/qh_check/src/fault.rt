@@ -1,4 +1,7 @@
 //! What is wrong with one polygon.
+ghost use Rattle.std.specs.Prelude.{Some};
+ghost use Rattle.qh_check.specs.contract.Texts.{face_fault_text};
+
 use qh_model::Id;
 use std::fmt;
 
@@ -16,6 +19,8 @@ pub enum FaceFault {
 }
 
 impl fmt::Display for FaceFault {
+    ghost output = { λ x. Some (face_fault_text x) };
+
     fn fmt<W: fmt::Write>(&self, f: &mut fmt::Formatter<W>) -> fmt::Result {
         match self {
             FaceFault::NoPlane => write!(f, "its first three corners are no points in a plane"),

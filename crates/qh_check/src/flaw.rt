@@ -1,4 +1,7 @@
 //! The verdict on a surface.
+ghost use Rattle.std.specs.Prelude.{Some};
+ghost use Rattle.qh_check.specs.contract.Texts.{verdict_text};
+
 use crate::fault::FaceFault;
 use qh_model::Id;
 use std::fmt;
@@ -20,6 +23,8 @@ pub enum SurfaceVerdict {
 }
 
 impl fmt::Display for SurfaceVerdict {
+    ghost output = { λ x. Some (verdict_text x) };
+
     fn fmt<W: fmt::Write>(&self, f: &mut fmt::Formatter<W>) -> fmt::Result {
         match self {
             SurfaceVerdict::Right => write!(f, "all right"),

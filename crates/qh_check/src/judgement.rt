@@ -1,4 +1,7 @@
 //! The judgement on faces.
+ghost use Rattle.std.specs.Prelude.{Some};
+ghost use Rattle.qh_check.specs.contract.Texts.{judgement_text};
+
 use crate::flaw::SurfaceVerdict;
 use std::fmt;
 
@@ -12,11 +15,16 @@ pub enum Judgement {
 }
 
 impl fmt::Display for Judgement {
+    ghost output = { λ x. Some (judgement_text x) };
+
     fn fmt<W: fmt::Write>(&self, f: &mut fmt::Formatter<W>) -> fmt::Result {
         match self {
             Judgement::Told(verdict) => write!(f, "{verdict}"),
             Judgement::Stranger(position) => {
-                write!(f, "face {position}: a corner of it is none of the points")
+                write!(
+                    f,
+                    "face {position}: one of its corners is not a point of the set"
+                )
             }
         }
     }

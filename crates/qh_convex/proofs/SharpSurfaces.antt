@@ -6,8 +6,8 @@ use Rattle.qh_model.specs.headline.{Vector.Vector, Predicates.vol, Sets.In, Sets
 use Rattle.qh_model.specs.contract.{ClosedSurface.Triple, ClosedSurface.IsClosed, ClosedSurface.is_edge, IdSets.HasDistinctPoints}
 use Rattle.qh_model.specs.laws.ClosedSurfaceLaws.{IsCornerOf}
 use Rattle.qh_model.proofs.{Members.In-get_or, algebra.Signs.less_differ, lists.Images.in_map, lists.Images.of_map}
-use Rattle.qh_convex_laws.specs.contract.LocallyConvex.{is_met, IsRound, IsSharpAround, IsLocallyConvex, IsUnder, HasAllUnder}
-use Rattle.qh_convex_laws.proofs.{Convex.local_supports, TriangleFaces.sharp_is_face, Highest.vol-turn}
+use Rattle.qh_laws.specs.contract.LocallyConvex.{is_met, IsRound, IsSharpAround, IsLocallyConvex, IsUnder, HasAllUnder}
+use Rattle.qh_laws.proofs.{Convex.local_supports, TriangleFaces.sharp_is_face, Highest.vol-turn}
 use Rattle.qh_convex.specs.contract.SharpSurface.{IsTriangleFace, IsSharpSurface}
 use Rattle.qh_convex.specs.steps.{Hidden.IsUnderOne, Hidden.IsUnderStep, Sharp.AreSharp, StepKeys.step_in, Triangles.corners}
 use Rattle.qh_convex.proofs.{SharpTriangles.ends_differ, SharpTriangles.sharp_around, StepCounts.edges_are, StepCounts.steps_are, StepCounts.closes}

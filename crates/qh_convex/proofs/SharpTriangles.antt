@@ -5,8 +5,8 @@ use Rattle.std.specs.{Prelude.pos, Prelude.◌<ℤ◌, List.flat_map}
 use Rattle.qh_model.specs.{headline.Vector.Vector, headline.Predicates.vol, headline.Sets.In, contract.ClosedSurface.Triple}
 use Rattle.qh_model.proofs.{Members.In-get_or, lists.Images.in_map, lists.Joined.in_flat_map}
 use Rattle.qh_model.proofs.algebra.{Signs.less_le, VectorIdentities.vol-flip, VectorIdentities.vol-third_last}
-use Rattle.qh_convex_laws.specs.contract.LocallyConvex.{IsRound, HasLowNeighbour, IsSharpAround}
-use Rattle.qh_convex_laws.proofs.Highest.{rise_round}
+use Rattle.qh_laws.specs.contract.LocallyConvex.{IsRound, HasLowNeighbour, IsSharpAround}
+use Rattle.qh_laws.proofs.Highest.{rise_round}
 use Rattle.qh_convex.specs.steps.Rays.{IsInside}
 use Rattle.qh_convex.specs.steps.StepKeys.{step_in, turns, back, AreSteps, AreSharpPairs, IsSharpPair}
 use Rattle.qh_convex.proofs.StepLists.{at_position, of_turns, of_ups, in_ups, of_downs, in_downs}

@@ -5,7 +5,7 @@ use Rattle.std.specs.{Prelude.filter, List.flat_map}
 use Rattle.qh_model.specs.{headline.Sets.In, contract.ClosedSurface.Triple}
 use Rattle.qh_model.proofs.Members.{All-In, All-of, in_permutation}
 use Rattle.qh_model.proofs.lists.{Filters.in_filter, Filters.of_filter, Images.in_map, Images.of_map, Joined.of_flat_map}
-use Rattle.qh_convex_laws.specs.contract.LocallyConvex.{IsRound}
+use Rattle.qh_laws.specs.contract.LocallyConvex.{IsRound}
 use Rattle.qh_convex.specs.steps.{StepKeys.step_in, StepKeys.turns, StepKeys.goes_up, StepKeys.goes_down, StepKeys.back, StepKeys.AreSteps, Triangles.IsBelow}
 
 -- an element of an image stands at a position

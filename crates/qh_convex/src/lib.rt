@@ -1,7 +1,7 @@
 //! Checks whether triangles are the hull of points by a look at each edge, and one ray.
 //!
 //! A closed surface of triangles is the hull of its corners where the neighbour over each edge lies strictly below,
-//! some place lies strictly below all triangles, and a ray from there meets the surface once. `qh_convex_laws` has
+//! some place lies strictly below all triangles, and a ray from there meets the surface once. `qh_laws::convexity` has
 //! the proof, and this crate looks: `triangles` takes the polygons, `rays` casts the ray, `corners` compares the
 //! corners with the ids, `steps` sorts the steps round the triangles, `pairs` looks at the two along each edge, and
 //! `hidden` finds for each id that is no corner a triangle over it, along a `curve`. No hull is made.

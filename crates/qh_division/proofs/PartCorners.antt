@@ -6,8 +6,8 @@ use Rattle.qh_model.specs.headline.{Vector.Vector, Predicates.place, Sets.In, Se
 use Rattle.qh_model.specs.contract.StoredSurface.{surface_of}
 use Rattle.qh_model.proofs.{Members.All-In, lists.Joined.in_flat_map, lists.Joined.of_flat_map}
 use Rattle.qh_surface.specs.contract.NamedMeshes.{named}
-use Rattle.qh_seam_laws.specs.contract.Parts.{AreKept}
-use Rattle.qh_seam_laws.proofs.Parts.{extremes_are_kept}
+use Rattle.qh_laws.specs.contract.Parts.{AreKept}
+use Rattle.qh_laws.proofs.Parts.{extremes_are_kept}
 use Rattle.qh_division.specs.declared.parts.Part.{Part}
 use Rattle.qh_division.specs.contract.Parts.{ids_in, own_in, IsPartOf}
 

@@ -5,7 +5,7 @@ ghost use Rattle.std.specs.List.Sorted.{IsStrictlyIncreasing};
 ghost use Rattle.qh_model.specs.headline.Predicates.{place};
 ghost use Rattle.qh_model.specs.headline.Sets.{In};
 ghost use Rattle.qh_model.specs.headline.Vector.{Vector};
-ghost use Rattle.qh_seam_laws.specs.contract.Parts.{AreKept};
+ghost use Rattle.qh_laws.specs.contract.Parts.{AreKept};
 ghost use Rattle.qh_division.specs.contract.Parts.{ids_in, own_in, KeepsCorners, IsPartOf};
 
 use crate::parts::{Part, are_in};

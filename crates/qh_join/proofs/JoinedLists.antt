@@ -2,7 +2,7 @@
 use Rattle.std.proofs.Common.{◌≡◌, ℕ, ◌⊎◌, inl, List, [], ◌∷◌, length, refl}
 use Rattle.qh_model.specs.headline.{Vector.Vector, Sets.In, Sets.Members}
 use Rattle.qh_model.specs.contract.{ClosedPolygons.AreClosed, ClosedPolygons.IsFace}
-use Rattle.qh_seam_laws.specs.contract.Parts.{IsPartFace, AreJoined}
+use Rattle.qh_laws.specs.contract.Parts.{IsPartFace, AreJoined}
 
 -- polygons, one at least, that close up are joined
 pub are_joined : (at : ℕ → Vector) (ids kept : List ℕ) (qs : List (List ℕ)) → (length qs ≡ 0 → ⊥)

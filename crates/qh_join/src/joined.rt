@@ -82,7 +82,7 @@ fn with_bridges(
 /// Returns the hull of a set from faces, if there is one and no two are the same.
 ///
 /// The caller promises that the faces close up, and that each is the polygon of a facet that stays in a part and has a
-/// clear plane, or a face of the kept ids. So they are all faces of the set (`qh_seam_laws::joined_faces_are_hull`).
+/// clear plane, or a face of the kept ids. So they are all faces of the set (`qh_laws::seam::joined_faces_are_hull`).
 fn body_of_joined(alloc: Global, faces: UnsortedFaces) -> Result<Option<Body>, Memory>
     ensures { IfOk result (λ found. IfSome found (IsBodyOfFaces faces)) }
 {

@@ -7,7 +7,7 @@ use Rattle.qh_model.specs.headline.{Predicates.cross, Predicates.vol, Predicates
 use Rattle.qh_model.proofs.algebra.{Signs.less_le, Signs.not_less}
 use Rattle.qh_model.proofs.algebra.Order.{mul-pos, mul-nonneg, mul-pos_neg, cancel-pos, cancel-zero, zero_product, product_zero, zero_or_not}
 use Rattle.qh_model.proofs.algebra.Integers.{mul_sub, mul_swap, mul_comm, one_mul}
-use Rattle.qh_convex_laws.proofs.{ScaledPoints.weigh, Scales.combination_moved}
+use Rattle.qh_laws.proofs.{ScaledPoints.weigh, Scales.combination_moved}
 use Rattle.qh_model.proofs.algebra.Ring.{Expr, ring, Expr.var, Expr.add, Expr.sub as less, Expr.mul}
 use Rattle.qh_model.proofs.algebra.VectorIdentities.{vec, put, dotE, combine3, vector_path, left-dot, dot_comm, dot-origin}
 use Rattle.qh_model.proofs.closed_surfaces.Beyond.{scaled}

@@ -1,2 +1,7 @@
 -- The laws: what follows from the definitions.
+pub mod ConvexLaws
 pub mod ExistenceLaws
+pub mod PartLaws
+pub mod PointLaws
+pub mod ScaleLaws
+pub mod TreeLaws

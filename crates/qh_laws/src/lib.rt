@@ -1,15 +1,14 @@
-//! The law that every list of points that is not empty has a hull and a text.
+//! The laws: theorems over the definitions of `qh_model`, without code. A proof cites the contract of a law by its name.
 //!
-//! The proof finds the polygons by the lemmas of `qh_plane`, so the law stands above that crate and
-//! apart from the laws of `qh_model`. Together with `one_hull` there, each list has exactly one hull
-//! and one text.
+//! - `existence`: every list of points has a hull and a text.
+//! - `tree`: parts of a list may be joined in any tree.
+//! - `seam`: hulls of parts are joined at a seam.
+//! - `convexity`: a closed surface that is convex at each edge is the hull; a scale of all coordinates keeps the hull.
+//!
+//! `proofs/` has worked examples of the definitions, too: what each holds of, and what it must not hold of.
 #![tactic(auto)]
 
-ghost use Rattle.qh_laws.specs.laws.ExistenceLaws.{EveryListHasAHull, EveryListHasAText};
-
-/// Every list of points that is not empty has a hull, and a text for each list of outputs.
-/// So the definitions never contradict each other, and a text is known to exist before a hull is taken.
-pub fn every_list_has_a_text()
-    ensures hull { EveryListHasAHull }
-    ensures text { EveryListHasAText }
-{}
+pub mod convexity;
+pub mod existence;
+pub mod seam;
+pub mod tree;

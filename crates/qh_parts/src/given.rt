@@ -6,7 +6,7 @@ ghost use Rattle.qh_parts.specs.steps.Given.{IsContribution, IsGiven};
 
 use qh_bodies::UnsortedFaces;
 use qh_division::{Divided, Guess};
-use qh_gap::{Border, border_of};
+use qh_guess::gap::{Border, border_of};
 use qh_guess::{Outline, marks_of, outline_of};
 use qh_model::{Id, Memory, Polygon};
 use qh_seam::staying_faces;

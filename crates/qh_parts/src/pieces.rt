@@ -3,8 +3,8 @@ ghost use Rattle.std.specs.Prelude.{All, ◌<◌, IfOk, IfSome, IsTrue, length};
 ghost use Rattle.qh_model.specs.contract.IdSets.{AreIndices};
 ghost use Rattle.qh_division.specs.contract.Parts.{IsPartOf};
 
-use qh_curve::{along_curve, shared_ids};
 use qh_division::Part;
+use qh_guess::curve::{along_curve, shared_ids};
 use qh_model::{Id, Memory, Point};
 use qh_threads::map_indices;
 use std::alloc::Global;

@@ -1,3 +1,3 @@
-pub mod headline
 pub mod contract
+pub mod headline
 pub mod steps

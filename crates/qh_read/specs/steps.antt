@@ -1,7 +1,9 @@
 -- What private functions speak of: nothing to believe.
 pub mod Arriving
 pub mod Building
+pub mod Corners
 pub mod Cursors
+pub mod Lists
 pub mod Numbers
 pub mod Reader
 pub mod Scanning

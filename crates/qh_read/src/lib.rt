@@ -4,13 +4,14 @@
 //! [`read_points`] and [`read_off`] answer the points of a byte string, or the first fault that it has,
 //! [`read_from`] and [`read_off_from`] those of the bytes that a [`Source`] gives, and [`read_form_threads`] does
 //! that by several threads. All stand on [`Reader`], which takes the bytes in pieces and keeps none of them.
-//! [`Numerals`] gives the words of a text one by one as numbers, of which the faces of an OFF file are made.
+//! [`Numerals`] gives the words of a text one by one as numbers, of which [`faces`] makes the faces that a file has.
 #![tactic(auto)]
 
 mod batch;
 mod builder;
 mod coordinate;
 mod cursor;
+pub mod faces;
 pub mod fakes;
 mod fault;
 mod filling;

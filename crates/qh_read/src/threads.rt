@@ -21,8 +21,8 @@ use std::thread::{Threads, join_mut};
 /// How many bytes are read serially before the first batch. A file of no more bytes starts no thread.
 const START_LENGTH: u32 = 655_360;
 
-/// The number of bytes of a batch: few enough for the caches, and enough to pay for the threads that start.
-const BATCH_LENGTH: usize = 524288;
+/// The number of bytes of a batch: enough to pay for the threads that start, and few enough that its memory is used again.
+const BATCH_LENGTH: usize = 2_097_152;
 
 /// The most segments of a batch. More do not pay, since the calling thread takes as long for its own part.
 const SEGMENT_LIMIT: usize = 3;

@@ -11,8 +11,8 @@ use Rattle.qh_mesh.specs.contract.Replacement.{IsLive}
 use Rattle.qh_surface.specs.declared.named_mesh.NamedMesh.{NamedMesh}
 use Rattle.qh_surface.specs.contract.{NamedMeshes.named, Walks.mark_at}
 use Rattle.qh_surface.proofs.NamedFacets.{named_live}
-use Rattle.qh_seam_laws.specs.contract.{Between.IsBetweenFour}
-use Rattle.qh_seam_laws.proofs.Between.{between_four_is_below}
+use Rattle.qh_laws.specs.contract.{Between.IsBetweenFour}
+use Rattle.qh_laws.proofs.Between.{between_four_is_below}
 use Rattle.qh_division.specs.declared.parts.Part.{Part}
 use Rattle.qh_seam.specs.declared.triangles.Four.{Four}
 use Rattle.qh_division.specs.contract.Parts.{IsPartOf}

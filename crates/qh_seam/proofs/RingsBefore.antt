@@ -5,7 +5,7 @@ use Rattle.qh_model.specs.contract.StoredSurface.{surface_of}
 use Rattle.qh_surface.specs.declared.named_mesh.NamedMesh.{NamedMesh}
 use Rattle.qh_surface.specs.contract.NamedMeshes.{named}
 use Rattle.qh_surface.proofs.NamedFacets.{names}
-use Rattle.qh_seam_laws.specs.contract.Seam.{IsRing}
+use Rattle.qh_laws.specs.contract.Seam.{IsRing}
 
 -- a facet of the ring over ids is one over positions
 pub ring_before : (s : NamedMesh) (stay : ℕ → Bool) (f : ℕ) → IsRing (surface_of (named s)) stay f → IsRing (surface_of s.mesh) stay f

@@ -9,8 +9,8 @@ use Rattle.qh_model.proofs.surfaces.Stored.{live_is_marked}
 use Rattle.qh_mesh.specs.contract.Replacement.{IsLive}
 use Rattle.qh_surface.specs.contract.{NamedMeshes.named}
 use Rattle.qh_block.specs.steps.Faces.{IsFacetPolygon}
-use Rattle.qh_seam_laws.specs.contract.Parts.{IsPartFace}
-use Rattle.qh_seam_laws.proofs.Parts.{strict_is_clear}
+use Rattle.qh_laws.specs.contract.Parts.{IsPartFace}
+use Rattle.qh_laws.proofs.Parts.{strict_is_clear}
 use Rattle.qh_division.specs.declared.parts.Part.{Part}
 use Rattle.qh_division.specs.contract.Parts.{ids_in, own_in, KeepsCorners, IsPartOf}
 use Rattle.qh_seam.specs.contract.Staying.{IsStayingPart}

@@ -5,7 +5,7 @@
 //! (`witnesses`): a facet that is removed and below it, or a facet such that it lies between that and the
 //! middle of four points that belong to every part (`triangles`). And the facets that stay beside one that
 //! is removed have all others strictly below them (`rings`). Then no facet that stays sees a corner of the
-//! others (`qh_seam_laws::ring_hides_rest`), though few are tested, and their polygons are faces of the set.
+//! others (`qh_laws::seam::ring_hides_rest`), though few are tested, and their polygons are faces of the set.
 //! `qh_join` makes the hull of these and others.
 #![tactic(auto)]
 

@@ -8,7 +8,7 @@ ghost use Rattle.qh_mesh.specs.contract.Replacement.{IsLive};
 ghost use Rattle.qh_places.specs.contract.Places.{ArePlaces};
 ghost use Rattle.qh_surface.specs.contract.NamedMeshes.{named};
 ghost use Rattle.qh_surface.specs.contract.Walks.{mark_at};
-ghost use Rattle.qh_seam_laws.specs.contract.Seam.{IsRing};
+ghost use Rattle.qh_laws.specs.contract.Seam.{IsRing};
 ghost use Rattle.qh_seam.specs.steps.RingKeys.{facet_in};
 ghost use Rattle.qh_seam.specs.steps.Witnesses.{AreUnder, HasPlane};
 

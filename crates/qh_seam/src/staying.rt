@@ -5,7 +5,7 @@ ghost use Rattle.qh_model.specs.headline.Predicates.{place};
 ghost use Rattle.qh_model.specs.headline.Sets.{In, Members};
 ghost use Rattle.qh_model.specs.contract.IdSets.{HasDistinctPoints};
 ghost use Rattle.qh_surface.specs.contract.Walks.{mark_at};
-ghost use Rattle.qh_seam_laws.specs.contract.Parts.{IsPartFace};
+ghost use Rattle.qh_laws.specs.contract.Parts.{IsPartFace};
 ghost use Rattle.qh_division.specs.declared.parts.Part.{Part};
 ghost use Rattle.qh_division.specs.contract.Parts.{ids_in, KeepsCorners, IsPartOf};
 ghost use Rattle.qh_seam.specs.contract.Staying.{IsStayingPart, CloseUp};

@@ -103,7 +103,7 @@ fn hull_text_of<R: Threads + Sync, G: Gate>(
 {
     let cut = even_cut(alloc, ids.len() as u32, settings.block())?;
     let hull = hull_of(rt, alloc, pts, ids, &cut, settings, gate)?;
-    text_in_threads(rt, alloc, &hull, pts, settings.outs(), settings.workers())
+    text_in_threads(rt, alloc, &hull, pts, settings.outs(), settings.threads())
 }
 
 /// Returns the texts of the outputs that the settings ask for, of at least one point and at most
@@ -126,7 +126,7 @@ pub(crate) fn text_of<R: Threads + Sync, G: Gate>(
     requires few { length pts.now ≤ POINT_LIMIT }
     ensures { IfOk result (λ t. IsText pts.now settings.now.outs (bytes_in t)) }
 {
-    let ids = distinct_in_threads(rt, alloc, pts, settings.workers())?;
+    let ids = distinct_in_threads(rt, alloc, pts, settings.threads())?;
     if are_all_ranks(settings.outs()) {
         let text = rank_text(alloc, pts, &ids, settings.outs())?;
         return Ok(Pieces::of(alloc, text));
@@ -134,8 +134,7 @@ pub(crate) fn text_of<R: Threads + Sync, G: Gate>(
     hull_text_of(rt, alloc, pts, &ids, settings, gate)
 }
 
-/// Returns the points in the input, or its first fault, read by one thread for each worker that makes the
-/// hull.
+/// Returns the points in the input, or its first fault, read by the threads of the settings.
 fn points_in<R: Threads + Sync>(
     rt: &R,
     alloc: Global,
@@ -150,7 +149,7 @@ fn points_in<R: Threads + Sync>(
     if input.len() > BYTE_LIMIT as usize {
         return Err(ReadFault::Big);
     }
-    let threads = settings.workers() as usize;
+    let threads = settings.threads() as usize;
     let mut source = MemSource::new(input);
     read_form_threads(rt, alloc, threads, settings.form(), &mut source)
 }
@@ -158,8 +157,7 @@ fn points_in<R: Threads + Sync>(
 /// Returns the texts that the settings ask for, of the points in the input: the one text that the points alone
 /// define.
 ///
-/// One thread reads for each worker that makes the hull. The gate is told of the workers' blocks, and takes
-/// the hull at the end of their run. Outputs that are all the rank need no hull: the gate is not called then.
+/// The threads of the settings read. The gate is told of the workers' blocks, and takes the hull at the end of their run. Outputs that are all the rank need no hull: the gate is not called then.
 ///
 /// The fault is the first of the input, or out of memory. `Big` goes before all other faults, out of
 /// memory too. `answer` never answers that a device failed, that the text could not be sent or that a

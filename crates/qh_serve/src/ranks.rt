@@ -1,7 +1,7 @@
 //! The text of outputs that are all the rank.
 //!
 //! It tells three numbers and needs no hull. That the points have a hull with these numbers is the law
-//! `qh_laws::every_list_has_a_text`.
+//! `qh_laws::existence::every_list_has_a_text`.
 ghost use Rattle.std.specs.Prelude.{◌≡◌, ◌↔◌, ◌≤◌, ◌<◌, All, IfOk, IsTrue, length};
 ghost use Rattle.qh_model.specs.declared.limits.TheConstants.{POINT_LIMIT};
 ghost use Rattle.qh_model.specs.declared.out.Out.TheVariants.{Rank};

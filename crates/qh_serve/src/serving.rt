@@ -15,7 +15,7 @@ use std::thread::Threads;
 
 /// Reads points from the source to its end and sends the texts that the settings ask for.
 ///
-/// One thread reads for each worker that makes the hull. Nothing is sent before the whole text is made. The answer
+/// The threads of the settings read. Nothing is sent before the whole text is made. The answer
 /// tells what the devices did: the table of `IsServed` and `IsServeFault` has a line for each. After a
 /// failure neither device is called again. The gate is told of the workers' blocks, and takes the hull at the
 /// end of their run. Outputs that are all the rank need no hull: the gate is not called then.
@@ -37,7 +37,7 @@ pub fn serve<R: Threads + Sync, S: Source, K: Sink, G: Gate>(
     ensures big_first { result ≡ Err (Fault.Read ReadFault.Memory)
         → Gives (S.remaining source.old) (S.remaining source.new) (λ bytes. length bytes ≤ BYTE_LIMIT) }
 {
-    let threads = settings.workers() as usize;
+    let threads = settings.threads() as usize;
     let points = read_form_threads(rt, alloc, threads, settings.form(), source)?;
     let text = text_of(rt, alloc, &points, settings, gate)?;
     send_pieces(sink, &text)?;

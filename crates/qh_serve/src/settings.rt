@@ -12,10 +12,12 @@ pub const BLOCK_SIZE_LIMIT: u32 = POINT_LIMIT;
 
 /// How the input is to be read, how the hull is to be made, and which outputs are to be written.
 ///
-/// A contract sees settings as their number of workers, block size, list of outputs and form of the input.
+/// A contract sees settings as their number of workers, block size, list of outputs and form of the input. The number of
+/// threads changes no answer.
 #[derive(Debug, Drop)]
 pub struct Settings {
     workers: u32,
+    threads: u32,
     block: u32,
     outs: Vec<Out>,
     form: Form,
@@ -23,13 +25,13 @@ pub struct Settings {
 
 impl Model for Settings {
     ghost use Rattle.qh_serve.specs.headline.SettingsValue.{SettingsValue};
-    ghost use Rattle.qh_serve.specs.contract.Ranges.{IsInRange};
+    ghost use Rattle.qh_serve.specs.contract.Ranges.{IsInRange, IsWorkers};
 
     ghost Value = { SettingsValue };
 
     ghost view = { λ s. record { workers = s.workers; block = s.block; outs = s.outs.items; form = s.form } };
 
-    ghost invariant = { λ s. IsInRange s.workers s.block };
+    ghost invariant = { λ s. IsInRange s.workers s.block × IsWorkers s.threads };
 }
 
 /// Why settings were refused.
@@ -75,10 +77,27 @@ impl Settings {
         };
         Ok(Settings {
             workers,
+            threads: workers,
             block,
             outs,
             form,
         })
+    }
+
+    /// Returns the same settings for a system with this number of processors: no phase but that of the workers starts
+    /// more threads.
+    pub fn on_processors(self, processors: usize) -> Settings
+        ensures { result ≡ self }
+    {
+        let threads = (self.workers as usize).min(processors).max(1) as u32;
+        Settings { threads, ..self }
+    }
+
+    /// Returns the number of threads that share a phase other than that of the workers, from 1 to `WORKER_LIMIT`.
+    pub fn threads(&self) -> u32
+        ensures { IsWorkers result }
+    {
+        self.threads
     }
 
     /// Returns the number of workers that make the hull, from 1 to `WORKER_LIMIT`.

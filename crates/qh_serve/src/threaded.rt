@@ -5,12 +5,12 @@ use qh_run::Gate;
 use std::alloc::Global;
 use std::thread::Threads;
 
-/// A gate that lets all blocks pass, and takes the hull by `qh_parts::hull_in_parts`: by at most `workers` threads
-/// of a runtime.
+/// A gate that lets all blocks pass, and takes the hull by `qh_parts::hull_in_parts`: by at most `threads`
+/// threads of a runtime.
 #[derive(Clone, Copy, Debug, Drop)]
 pub struct Threaded<'a, R> {
     pub rt: &'a R,
-    pub workers: u32,
+    pub threads: u32,
 }
 
 impl<R: Threads + Sync> Gate for Threaded<'_, R> {
@@ -19,6 +19,6 @@ impl<R: Threads + Sync> Gate for Threaded<'_, R> {
     fn delivered(&self, _pass: u32, _block: u32) {}
 
     fn finish(&self, alloc: Global, pts: &[Point], ids: &[Id]) -> Result<Body, Memory> {
-        hull_in_parts(self.rt, alloc, pts, ids, self.workers)
+        hull_in_parts(self.rt, alloc, pts, ids, self.threads)
     }
 }

@@ -5,7 +5,7 @@ use Rattle.std.specs.Prelude.{filter, pos}
 use Rattle.qh_model.specs.headline.{Predicates.cross, Vector.Vector, Vector.dot}
 use Rattle.qh_model.proofs.algebra.VectorIdentities.{vector_path, left-dot, dot-origin}
 use Rattle.qh_model.proofs.closed_surfaces.Sums.{sum_z}
-use Rattle.qh_convex_laws.proofs.PolygonFaces.{dot-plus}
+use Rattle.qh_laws.proofs.PolygonFaces.{dot-plus}
 use Rattle.qh_surface_laws.specs.contract.Measures.{lies_in, area_along, doubled_area, doubled_areas}
 use Rattle.qh_surface_laws.specs.laws.MeasureLaws.{AreasAddUp}
 use Rattle.qh_surface_laws.proofs.{FaceWays.goes_round_once, PlanePieces.pieces_of, PlanePieces.OverFace}

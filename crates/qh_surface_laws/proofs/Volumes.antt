@@ -7,7 +7,7 @@ use Rattle.qh_model.specs.headline.Predicates.{cross, vol, left}
 use Rattle.qh_model.proofs.{closed_surfaces.Sums.sum_z, extremes.Directions.square-positive, lists.Filters.of_filter, lists.Lexicographic.rising-ordered}
 use Rattle.qh_model.proofs.algebra.Integers.{mul_add, add_mul}
 use Rattle.qh_model.proofs.polygons.{PlaneTurns.level_volume, Steps.ordered_once, Unique.one_polygon}
-use Rattle.qh_convex_laws.proofs.ScaledPoints.{cancel-both}
+use Rattle.qh_laws.proofs.ScaledPoints.{cancel-both}
 use Rattle.qh_check.specs.contract.Surfaces.{IsFaceSurface}
 use Rattle.qh_surface_laws.specs.contract.Measures.{lies_in, volume_along, cone_volume, cone_volumes}
 use Rattle.qh_surface_laws.specs.laws.MeasureLaws.{VolumesAddUp}

@@ -1,7 +1,10 @@
-//! The laws of surfaces in pieces: the polygons of a right hull are a surface, and each surface measures as much as the hull.
+//! The laws of surfaces in pieces: the polygons of a right hull are a surface, each surface measures as much as the hull, and
+//! covers each of its faces once ([`cover`]).
 //!
 //! They stand above `qh_check`, whose definition of a surface they speak of. No program rests on them.
 #![tactic(auto)]
+
+pub mod cover;
 
 ghost use Rattle.qh_surface_laws.specs.laws.SurfaceLaws.{BodyIsSurface, FansAreSurface};
 ghost use Rattle.qh_surface_laws.specs.laws.MeasureLaws.{AreasAddUp, VolumesAddUp};

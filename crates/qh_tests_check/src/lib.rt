@@ -1,4 +1,5 @@
-//! Tests of the public calls of qh_convex, qh_check and qh_check: the verdicts on faces and on surfaces in pieces.
+//! Tests of the public calls of the checker, qh_convex and qh_check, and of hulls by parts, qh_division to qh_parts: verdicts
+//! on faces, what is guessed and kept of a cube in two parts, and hulls of few ids by parts.
 //!
 //! They stand apart so that the proofs of the libraries are checked without them: where a crate has tests of its
 //! own, all of it is proved once more with them.

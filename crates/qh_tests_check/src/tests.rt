@@ -1,7 +1,5 @@
-//! Worked rows: a cube and a square, with what is wrong with claims of their faces.
-mod judgements;
-mod sharp_surfaces;
-mod surfaces;
+//! The tests.
 
-/// The ids of eight points.
-const EIGHT: [u32; 8] = [0, 1, 2, 3, 4, 5, 6, 7];
+mod check;
+mod parts;
+mod seams;

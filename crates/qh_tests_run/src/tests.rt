@@ -1,4 +1,5 @@
-//! The tests of each library.
+//! The tests.
 
+mod board;
 mod hull;
 mod run;

@@ -1,3 +1,5 @@
 //! The tests.
 
+mod outcomes;
 mod serve;
+mod workers;

@@ -1,3 +1,4 @@
 -- What else the contracts of public functions cite.
 pub mod Devices
+pub mod LineDevices
 pub mod Pieces

@@ -2,10 +2,11 @@
 //!
 //! [`text`] makes the text of a list of outputs, [`text_in_threads`] by several threads; [`send`] hands it to
 //! a [`Sink`]. The devices are [`MemSink`], which keeps the bytes, and [`StdSink`], which wraps a writer of
-//! std.
+//! std. [`Lines`] are for a person, on standard output or error.
 #![tactic(auto)]
 
 pub mod fakes;
+mod lines;
 mod mem_sink;
 mod pieces;
 mod sending;
@@ -13,6 +14,7 @@ mod sink;
 mod std_sink;
 mod texts;
 
+pub use lines::{ErrorLines, Lines, OutLines};
 pub use mem_sink::MemSink;
 pub use pieces::Pieces;
 pub use qh_model::Out;

@@ -83,7 +83,7 @@ def lrs_text(points: Sequence[Vector], faces: Sequence[Sequence[int]]) -> List[s
 
 
 def polymake_text(points: Sequence[Vector], faces: Sequence[Sequence[int]]) -> List[str]:
-    """A line for polymake that makes the polytope $p of its vertices and its facets."""
+    """A script of polymake that makes the polytope $p of its vertices and its facets; its own script() reads it, too."""
     hull = halfspaces_of(points, faces)
     parts: dict[str, Sequence[Row]] = {
         "VERTICES": [(1, *point) for point in points],
@@ -92,7 +92,7 @@ def polymake_text(points: Sequence[Vector], faces: Sequence[Sequence[int]]) -> L
         "AFFINE_HULL": hull.equations,
     }
     told = ", ".join(f"{name}=>[{','.join(str(list(row)) for row in rows)}]" for name, rows in parts.items())
-    return [f"$p = new Polytope<Rational>({told});"]
+    return ['use application "polytope";', f"declare $p = new Polytope<Rational>({told});"]
 
 
 FORMS = {"normaliz": normaliz_text, "polymake": polymake_text, "lrs": lrs_text}

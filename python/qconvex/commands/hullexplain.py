@@ -2,6 +2,7 @@
 
     hullexplain FILE                   FILE may be - for standard input
     hullexplain --comments FILE        shows every comment, not only the first ten
+    hullexplain qconvex WORD..         explains a command line of the program
 
 It reads the file as the program does, and says besides which words were taken as comments: a word that begins with no
 digit, sign or point begins a comment that goes to the end of its line. The status is 1 if the file is refused.
@@ -12,6 +13,7 @@ docs/FAULTS.md has each fault with a file that has it.
 from __future__ import annotations
 
 import argparse
+import os
 import re
 import signal
 import sys
@@ -19,7 +21,9 @@ from collections import Counter
 from typing import List
 
 from .._limits import BYTE_LIMIT, COORDINATE_LIMIT, POINT_LIMIT
+from .command_lines import explanation_of, mistake_in
 from .contents import bytes_of
+from .file_kinds import kind_of
 from .point_files import Fault, Reading, Word, message, read, value_of
 
 BYTE_ORDER_MARK = b"\xef\xbb\xbf"
@@ -99,8 +103,9 @@ def file_advice(data: bytes, reading: Reading) -> List[str]:
     if data.startswith(BYTE_ORDER_MARK):
         return ["The file begins with a byte order mark, which makes its first line a comment: drop the first 3 bytes,",
                 "as by tail -c +4."]
-    if data[:2] in (b"\xff\xfe", b"\xfe\xff") or b"\0" in data[:64]:
-        return ["The file has bytes of 0 or is UTF-16 text: write it as plain text, as by iconv -f UTF-16 -t ASCII."]
+    kind = kind_of(data)
+    if kind:
+        return [kind]
     before = [comment for comment in reading.comments if reading.words and comment.text[0] > 127]
     if before:
         return ["A comment begins with a letter that is no ASCII: look for a minus or a blank of another alphabet."]
@@ -170,6 +175,8 @@ def advice(data: bytes, reading: Reading, fault: Fault) -> List[str]:
         return [f"The file has {len(data)} bytes; at most {BYTE_LIMIT} are read. hullmany takes larger ones."]
     if name in ("NoHeader", "NotThree", "Count"):
         return file_advice(data, reading) or header_advice(reading, fault)
+    if kind_of(data):
+        return file_advice(data, reading)
     about_word = word_advice(reading, fault, fault.word) if fault.word else []
     return file_advice(data, reading) + about_word + rows_advice(reading, fault)
 
@@ -189,17 +196,34 @@ def whole(reading: Reading, everything: bool) -> List[str]:
     return [f"No fault: {reading.count} points.", *comments(reading, everything)]
 
 
+def explain_words(words: List[str]) -> int:
+    """Explains a command line; returns 1 if the program refuses it."""
+    mistake = mistake_in(words[1:])
+    print("\n".join(explanation_of(words, mistake) if mistake else ["No fault: the program takes this command line."]))
+    return 1 if mistake else 0
+
+
+def explain_file(path: str, everything: bool) -> int:
+    """Explains a file; returns 1 if the program refuses it."""
+    data = bytes_of(path)
+    reading = read(data)
+    print("\n".join(explanation(data, reading, reading.fault, everything) if reading.fault else whole(reading, everything)))
+    return 1 if reading.fault else 0
+
+
 def main() -> None:
     parser = argparse.ArgumentParser(prog="hullexplain", description=__doc__, formatter_class=argparse.RawDescriptionHelpFormatter)
     parser.add_argument("--comments", action="store_true", help="show every comment")
-    parser.add_argument("file", metavar="FILE", help="a point file, or - for standard input")
+    parser.add_argument("file", metavar="FILE", help="a point file, or - for standard input; or qconvex")
+    parser.add_argument("words", nargs=argparse.REMAINDER, metavar="WORD", help="the words of a command line of qconvex")
     options = parser.parse_args()
     signal.signal(signal.SIGPIPE, signal.SIG_DFL)
-    data = bytes_of(options.file)
-    reading = read(data)
-    lines = explanation(data, reading, reading.fault, options.comments) if reading.fault else whole(reading, options.comments)
-    print("\n".join(lines))
-    sys.exit(1 if reading.fault else 0)
+    named = os.path.basename(options.file) in ("qconvex", "qconvex-exact")
+    if named and (options.words or not os.path.isfile(options.file)):
+        sys.exit(explain_words([options.file, *options.words]))
+    if set(options.words) - {"--comments"}:
+        parser.error("one FILE is wanted")
+    sys.exit(explain_file(options.file, options.comments or bool(options.words)))
 
 
 if __name__ == "__main__":

@@ -1,18 +1,19 @@
 """Reads the faces of a hull and gives the exact normals, offsets, neighbours and incidences, and six times the volume.
 
     hullfacets [FILE]                      FILE is the OFF text of `off`; standard input where none is named
-    hullfacets --form json [FILE]          the same as one JSON object
+    hullfacets --form json [FILE]          the same as one JSON object, with the numbers of vertices, edges and faces
     hullfacets --form normaliz [FILE]      the inequalities, and the equations of a flat set, as an input file of Normaliz,
-    hullfacets --form polymake [FILE]      as a line for polymake that makes the polytope $p of vertices and facets,
+    hullfacets --form polymake [FILE]      as a script of polymake that makes the polytope $p of vertices and facets,
     hullfacets --form lrs [FILE]           or as an H-representation for lrs
 
-All numbers are whole. The points of the hull are the points p with `normal . p <= offset` for every facet; normal and
+FILE may also be the text of `Fx off`: then JSON names the corners by their indices in the input as well. All numbers are whole. The points of the hull are the points p with `normal . p <= offset` for every facet; normal and
 offset have no common divisor. The neighbours of a facet stand in the order of its sides: the first lies beyond the
 side from its first corner to its second. Of each corner the facets are listed in their order round it, counterclockwise
 from outside. A flat hull has one facet without neighbours, and the volume 0; a line or a point has none. The forms for
 other programs describe those, too: by the equations of their plane, line or place, and what bounds them in it.
 
     qconvex off < examples/unit-cube.txt | hullfacets
+    qconvex Fx off < examples/unit-cube.txt | hullfacets --form json
 """
 from __future__ import annotations
 
@@ -23,8 +24,9 @@ import sys
 from math import gcd
 from typing import Any, Dict, Iterable, Iterator, List, Optional, Sequence, Tuple
 
+from . import contents
 from .halfspaces import FORMS
-from .off_files import Faces, read_off_file
+from .off_files import COUNT, Faces, Malformed, read_off
 from .vectors import Vector, cross, dot, minus, polygon_normal
 
 # The facet at each side, by the corners of the side.
@@ -86,7 +88,17 @@ def described(points: Sequence[Vector], faces: Sequence[List[int]]) -> Dict[str,
         {"point": list(point), "facets": places}
         for point, places in zip(points, incidences(points, solid, owner))
     ]
-    return {"six_volumes": six_volumes(points, faces), "facets": facets, "corners": corners}
+    numbers = [len(points), sum(map(len, solid)) // 2, len(solid)] if len(solid) > 1 else [len(points)] * (2 if solid else 1)
+    return {"six_volumes": six_volumes(points, faces), "f_vector": numbers, "facets": facets, "corners": corners}
+
+
+def with_indices(told: Dict[str, Any], indices: Sequence[int]) -> Dict[str, Any]:
+    """The same with the indices that corners have in the input."""
+    for facet in told["facets"]:
+        facet["indices"] = [indices[corner] for corner in facet["corners"]]
+    for corner, index in zip(told["corners"], indices):
+        corner["index"] = index
+    return told
 
 
 def joined(numbers: Iterable[int]) -> str:
@@ -113,12 +125,28 @@ def whole_points(hull: Faces) -> Optional[List[Vector]]:
     return [(int(x), int(y), int(z)) for x, y, z in hull.points]
 
 
-def in_form(points: Sequence[Vector], faces: Sequence[List[int]], form: str) -> Iterable[str]:
+def in_form(points: Sequence[Vector], faces: Sequence[List[int]], indices: Sequence[int], form: str) -> Iterable[str]:
     """The lines of a form."""
     if form in FORMS:
         return FORMS[form](points, faces)
     told = described(points, faces)
-    return [json.dumps(told)] if form == "json" else lines_of(told)
+    return [json.dumps(with_indices(told, indices) if indices else told)] if form == "json" else lines_of(told)
+
+
+def read(path: str) -> Tuple[Faces, List[int]]:
+    """The hull in a file, and the indices that stand before it where it is the text of `Fx off`; a wrong file ends the process."""
+    text = contents.text_of(path)
+    head, mark, _ = text.partition("OFF")
+    words = head.split() if mark else []
+    try:
+        if not words or not all(map(COUNT.fullmatch, words)):
+            return read_off(text), []
+        hull = read_off(text[len(head) :])
+        if not len(words) - 1 == int(words[0]) == len(hull.points):
+            raise Malformed(f"{len(words) - 1} indices stand before the OFF text, which has {len(hull.points)} points")
+        return hull, list(map(int, words[1:]))
+    except Malformed as wrong:
+        sys.exit(f"{path}: {wrong}")
 
 
 def main() -> None:
@@ -129,12 +157,14 @@ def main() -> None:
     parser.add_argument("file", nargs="?", default="-", metavar="FILE", help="the text of `off` (default: standard input)")
     options = parser.parse_args()
     signal.signal(signal.SIGPIPE, signal.SIG_DFL)
-    hull = read_off_file(options.file)
+    if hasattr(sys, "set_int_max_str_digits"):
+        sys.set_int_max_str_digits(0)  # products of coordinates have more digits than newer versions write by themselves
+    hull, indices = read(options.file)
     points = whole_points(hull)
     if not hull.faces or points is None:
         sys.exit("hullfacets: a hull has faces, and whole coordinates")
     try:
-        lines = list(in_form(points, hull.faces, options.form))
+        lines = list(in_form(points, hull.faces, indices, options.form))
     except (KeyError, ZeroDivisionError):  # a side of one face alone, or a face whose corners lie in one line
         sys.exit("hullfacets: the faces are no closed surface; scripts/tools/check_hull.py says what is wrong")
     sys.stdout.writelines(f"{line}\n" for line in lines)

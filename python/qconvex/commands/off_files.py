@@ -11,9 +11,15 @@ from . import contents
 # A whole number where it is whole.
 Number = Union[int, Fraction]
 
+# The words of a line, with its number from 1 on.
+Row = Tuple[int, List[str]]
+
 # The greatest absolute value of an exponent: those of doubles stay below 325. An exact number has about that many digits.
 MOST_EXPONENT = 2000
 EXPONENT = re.compile(r"[eE]([-+]?\d[\d_]*)$")
+# What may stand before OFF: texture, colours and normals behind the three coordinates.
+KEYWORD = re.compile(r"(ST)?C?N?OFF", re.IGNORECASE)
+COUNT = re.compile("[0-9]+")
 
 
 class Faces(NamedTuple):
@@ -38,40 +44,63 @@ def number(word: str) -> Number:
     return value.numerator if value.denominator == 1 else value
 
 
-def rows_of(text: str) -> List[List[str]]:
+def lines_of(text: str) -> List[str]:
+    """The lines of a text, whichever of the three line ends it has."""
+    return text.replace("\r\n", "\n").replace("\r", "\n").split("\n")
+
+
+def rows_of(text: str) -> List[Row]:
     """The rows of words, without comments, empty lines and the keyword."""
-    rows = [line.split("#")[0].split() for line in text.split("\n")]
-    rows = [row for row in rows if row]
-    if rows and rows[0][0].upper().endswith("OFF"):
-        keyword = rows.pop(0)
-        rows = [keyword[1:], *rows] if len(keyword) > 1 else rows
-    elif rows and rows[0] == ["3"]:
-        rows.pop(0)
-    return rows
+    split = ((place, line.split("#")[0].split()) for place, line in enumerate(lines_of(text), 1))
+    rows = [row for row in split if row[1]]
+    if not rows:
+        return rows
+    line, (keyword, *rest) = rows[0]
+    if keyword.upper().endswith("OFF"):
+        if not KEYWORD.fullmatch(keyword) or rest[:1] == ["BINARY"]:
+            raise Malformed(f"line {line}: of OFF texts, those with three coordinates are read")
+        return [(line, rest), *rows[1:]] if rest else rows[1:]
+    return rows[1:] if rows[0][1] == ["3"] else rows
 
 
-def face_of(row: List[str], count: int) -> List[int]:
+def parts_of(rows: List[Row]) -> Tuple[List[Row], List[Row]]:
+    """The rows of the points and of the faces, after the row of their counts, which has to count them right."""
+    line, counts = rows[0] if rows else (1, [])
+    if len(counts) == 1 and COUNT.fullmatch(counts[0]):
+        raise Malformed("this is a point file, without faces: qconvex off < FILE writes the hull with its faces")
+    if len(counts) < 2 or not all(map(COUNT.fullmatch, counts[:2])):
+        raise Malformed(f"line {line}: no OFF text: the numbers of points and faces are missing")
+    points, faces = map(int, counts[:2])
+    if len(rows) != 1 + points + faces:
+        raise Malformed(f"line {line}: {points} points and {faces} faces are announced, and {len(rows) - 1} rows follow")
+    width = len(rows[1][1]) if points else 3
+    for line, row in rows[1 : points + 1]:
+        if len(row) != width or width < 3:
+            raise Malformed(f"line {line}: a point has {len(row)} numbers" + f", the first one has {width}" * (width > 2))
+    return rows[1 : points + 1], rows[points + 1 :]
+
+
+def face_of(row: Row, count: int) -> List[int]:
     """The places that a face names."""
-    size = int(row[0])
-    places = [int(word) for word in row[1 : size + 1]]
+    line, words = row
+    try:
+        size = int(words[0])
+        places = [int(word) for word in words[1 : size + 1]]
+    except ValueError:
+        size, places = 0, []
     if size < 1 or len(places) < size or not all(0 <= place < count for place in places):
-        raise Malformed(f"no face of {count} points: {' '.join(row)}")
+        raise Malformed(f"line {line}: no face of {count} points: {' '.join(words)}")
     return places
 
 
 def read_off(text: str) -> Faces:
     """The points and the faces of a text, one row each."""
-    rows = rows_of(text)
+    points, faces = parts_of(rows_of(text))
     try:
-        points, faces = int(rows[0][0]), int(rows[0][1])
-        if len(rows) < 1 + points + faces:
-            raise Malformed(f"{points} points and {faces} faces are announced, and {len(rows) - 1} rows follow")
-        found = [tuple(map(number, row[:3])) for row in rows[1 : points + 1]]
-        if any(len(point) != 3 for point in found):
-            raise Malformed("a point has fewer than three coordinates")
-        return Faces(found, [face_of(row, points) for row in rows[points + 1 : points + faces + 1]])
-    except (IndexError, ValueError, ZeroDivisionError) as wrong:
+        found = [tuple(map(number, words[:3])) for _, words in points]
+    except (ValueError, ZeroDivisionError) as wrong:
         raise Malformed(f"no OFF text: {wrong}") from wrong
+    return Faces(found, [face_of(row, len(points)) for row in faces])
 
 
 def read_off_file(path: str) -> Faces:

@@ -5,9 +5,9 @@ use Rattle.std.specs.Option.{option_and_then, option_map}
 use Rattle.std.specs.Str.{all_ascii_digits, bytes_eq}
 use Rattle.std.specs.Str.Parse.{digits_value, without_leading_plus}
 use Rattle.qh_model.specs.declared.limits.TheConstants.{WORKER_LIMIT}
-use Rattle.qh_faces.specs.declared.reading.Layout.TheVariants.{Off, Counted, Lines}
-use Rattle.qh_faces.specs.declared.reading.Reading.{Reading}
-use Rattle.qh_faces.specs.declared.reading.Turn.TheVariants.{Counterclockwise, Clockwise}
+use Rattle.qh_read.specs.declared.faces.reading.Layout.TheVariants.{Off, Counted, Lines}
+use Rattle.qh_read.specs.declared.faces.reading.Reading.{Reading}
+use Rattle.qh_read.specs.declared.faces.reading.Turn.TheVariants.{Counterclockwise, Clockwise}
 use Rattle.hullcheck.specs.declared.command_line.Settings.{Settings}
 
 -- what is asked: the number of workers, how the faces are read, and the names of the two files

@@ -1,11 +1,11 @@
 -- What is told of the faces in a file. This project's own.
-use Rattle.std.specs.Prelude.{ℕ, ◌≡◌, List, Some}
+use Rattle.std.specs.Prelude.{ℕ, ◌≡◌, List, Option, Some, IfSome}
 use Rattle.qh_model.specs.headline.PointFile.{Reads}
 use Rattle.qh_model.specs.headline.Vector.{Vector}
-use Rattle.qh_faces.specs.declared.reading.Layout.{Layout}
-use Rattle.qh_faces.specs.declared.reading.Layout.TheVariants.{Off, Counted, Lines}
-use Rattle.qh_faces.specs.declared.reading.Reading.{Reading}
-use Rattle.qh_faces.specs.contract.FaceFiles.{ReadsFaces}
+use Rattle.qh_read.specs.declared.faces.reading.Layout.{Layout}
+use Rattle.qh_read.specs.declared.faces.reading.Layout.TheVariants.{Off, Counted, Lines}
+use Rattle.qh_read.specs.declared.faces.reading.Reading.{Reading}
+use Rattle.qh_read.specs.contract.FaceFiles.{ReadsFaces}
 use Rattle.qh_check.specs.declared.judgement.Judgement.{Judgement}
 use Rattle.qh_check.specs.contract.Judging.{IsJudgement}
 use Rattle.hullcheck.specs.contract.CommandLine.{Asked, asked_by}
@@ -26,10 +26,18 @@ pub record IsTold (reading : Reading) (points faces : List ℕ) (j : Judgement) 
   pub faces_read : ReadsFaces reading faces vertices polygons
   pub judged : IsJudgement pts (named_points reading.layout pts vertices) polygons j
 
--- the words are a command line, and it is told of the bytes of two files, read as the words ask
-abbrev pub IsToldBy : List (List ℕ) → Judgement → Type 0
-IsToldBy words j = (asked : Asked) × (asked_by words ≡ Some asked) × (points : List ℕ) × (faces : List ℕ) × IsTold asked.reading points faces j
+-- all bytes of a file, where the system tells them
+abbrev pub IsWhole : Option (List ℕ) → List ℕ → Type 0
+IsWhole content bytes = IfSome content (λ known. known ≡ bytes)
 
--- it is told by some command line
-abbrev pub IsToldOfSome : Judgement → Type 0
-IsToldOfSome j = (words : List (List ℕ)) × IsToldBy words j
+-- this is told of the bytes of two files
+pub record IsToldOf (reading : Reading) (points faces : Option (List ℕ)) (j : Judgement) : Type 0 where
+  pub point_bytes : List ℕ
+  pub face_bytes : List ℕ
+  pub points_are : IsWhole points point_bytes
+  pub faces_are : IsWhole faces face_bytes
+  pub told : IsTold reading point_bytes face_bytes j
+
+-- the words are a command line, and it is told of the bytes of the files that they name, read as the words ask
+abbrev pub IsToldBy : List (List ℕ) → (Option (List ℕ) → Option (List ℕ)) → Judgement → Type 0
+IsToldBy words contents j = (asked : Asked) × (asked_by words ≡ Some asked) × IsToldOf asked.reading (contents asked.points) (contents asked.faces) j

@@ -1,13 +1,12 @@
 -- The exit statuses of the program. This project's own.
-use Rattle.std.specs.Prelude.{ℕ, ◌≡◌, ◌⊎◌}
+use Rattle.std.specs.Prelude.{ℕ}
 use Rattle.qh_model.specs.declared.read_fault.ReadFault.{ReadFault}
 use Rattle.qh_model.specs.declared.read_fault.ReadFault.TheVariants as read
 use Rattle.qh_check.specs.declared.flaw.SurfaceVerdict.TheVariants.{Right, OtherPolygons, NoPiece, Open, Twice}
 use Rattle.hullcheck.specs.declared.fault.Fault.{Fault}
-use Rattle.hullcheck.specs.declared.fault.Fault.TheVariants.{Usage, Memory, Device, Points, Faces}
+use Rattle.hullcheck.specs.declared.fault.Fault.TheVariants.{Usage, Memory, Device, Output, Points, Faces}
 use Rattle.qh_check.specs.declared.judgement.Judgement.{Judgement}
 use Rattle.qh_check.specs.declared.judgement.Judgement.TheVariants.{Told, Stranger}
-use Rattle.hullcheck.specs.contract.Judging.{IsToldOfSome}
 
 -- the faces are the hull
 abbrev pub all_right : ℕ
@@ -61,9 +60,6 @@ abbrev pub fault_status : Fault → ℕ
 fault_status Usage = no_command
 fault_status Memory = no_memory
 fault_status Device = no_device
+fault_status Output = no_device
 fault_status (Points f) = read_fault_status f
 fault_status (Faces f) = read_fault_status f
-
--- the status with which a run ends: that of what was told of points and faces that were read, or that of a fault
-abbrev pub IsRunStatus : ℕ → Type 0
-IsRunStatus status = ((j : Judgement) × IsToldOfSome j × (status ≡ judgement_status j)) ⊎ ((f : Fault) × (status ≡ fault_status f))

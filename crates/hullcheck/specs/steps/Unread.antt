@@ -1,12 +1,23 @@
--- Why words or a file could not be read.
-use Rattle.std.specs.Prelude.{◌≡◌, ◌⊎◌}
+-- Why a file could not be opened or read.
+use Rattle.std.specs.Prelude.{ℕ, List, Option}
+use Rattle.qh_model.specs.declared.read_fault.ReadFault.{ReadFault}
+use Rattle.qh_model.specs.declared.read_fault.ReadFault.TheVariants as reads
 use Rattle.hullcheck.specs.declared.fault.Fault.{Fault}
-use Rattle.hullcheck.specs.declared.fault.Fault.TheVariants.{Device, Memory, Usage}
+use Rattle.hullcheck.specs.declared.fault.Fault.TheVariants.{Usage, Memory, Device, Output, Points, Faces}
+use Rattle.hullcheck.specs.contract.Checking.{IsLong}
 
--- words that could not be read: out of memory, or one is not UTF-8
-abbrev pub IsWordsFault : Fault → Type 0
-IsWordsFault f = (f ≡ Memory) ⊎ (f ≡ Usage)
+-- a file that could not be opened: out of memory, or the call failed
+abbrev pub IsOpenFault : Type 0 → Fault → Type 0
+IsOpenFault Failed Usage = ⊥
+IsOpenFault Failed Memory = Unit {0}
+IsOpenFault Failed Device = Failed
+IsOpenFault Failed Output = ⊥
+IsOpenFault Failed (Points e) = ⊥
+IsOpenFault Failed (Faces e) = ⊥
 
--- a file or a stream that could not be opened or read: out of memory, or the device failed
-abbrev pub IsFileFault : Fault → Type 0
-IsFileFault f = (f ≡ Memory) ⊎ (f ≡ Device)
+-- a text that was not read to its end: out of memory, or a read failed, or it is long
+abbrev pub StopsText : Option (List ℕ) → Type 0 → ReadFault → Type 0
+StopsText content Failed reads.Memory = Unit {0}
+StopsText content Failed reads.Device = Failed
+StopsText content Failed reads.Big = IsLong content
+StopsText content Failed e = ⊥

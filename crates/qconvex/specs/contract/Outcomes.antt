@@ -1,6 +1,6 @@
 -- What the program does for a command line, between a source and a sink.
 -- Source: this project's own.
-use Rattle.std.specs.Prelude.{ℕ, ◌≡◌, ◌+◌, List, Result, Ok, Err, MatchResult, string_bytes, true}
+use Rattle.std.specs.Prelude.{ℕ, ◌≡◌, ◌+◌, Bool, List, Option, Result, Ok, Err, MatchResult, string_bytes, true}
 use Rattle.std.specs.Io.KnownBytes.{Appends}
 use Rattle.qh_model.specs.declared.read_fault.ReadFault.TheVariants as reads
 use Rattle.qh_write.specs.headline.Sinks.{AppendsBeginning}
@@ -10,6 +10,11 @@ use Rattle.qh_serve.specs.headline.Serving.{Devices, IsQuiet, IsServed, IsServeF
 use Rattle.qh_serve.specs.headline.SettingsValue.{SettingsValue}
 use Rattle.qconvex.specs.declared.command_line.ArgFault.{ArgFault}
 use Rattle.qconvex.specs.declared.command_line.ArgFault.TheVariants.{Help, Usage, Memory}
+
+-- the devices, by what each of them tells
+abbrev pub devices : Option (List ℕ) → Option (List ℕ) → ℕ → ℕ → Bool → Devices
+devices to_come went source_failures sink_failures flushed =
+    record { to_come = to_come; went = went; source_failures = source_failures; sink_failures = sink_failures; flushed = flushed }
 
 -- the text went out, none of it held back; neither device failed, and the source was not read
 pub record IsHelped (text : List ℕ) (old new : Devices) : Type 0 where

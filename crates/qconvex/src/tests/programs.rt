@@ -1,7 +1,7 @@
 //! The program over streams that stand in for the standard ones.
 use super::stand_in::{StandIn, Stream};
 use crate::help::HELP;
-use crate::program::run;
+use crate::system::start;
 use std::process::ExitCode;
 use std::test::Fail;
 use std::thread::Threads;
@@ -110,7 +110,7 @@ fn outcome<'a, R: AllocGlobal + Threads + Sync>(
         output,
         error,
     };
-    let code = run(&stand_in);
+    let code = start(&stand_in);
     (code, stand_in.output.is_whole(), stand_in.error.is_whole())
 }
 

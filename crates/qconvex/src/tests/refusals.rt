@@ -1,6 +1,6 @@
 //! The program where one allocation fails. `scripts/trials/refusals.py` refuses each growth in turn.
 use super::stand_in::{StandIn, Stream};
-use crate::program::run;
+use crate::system::start;
 use std::process::ExitCode;
 use std::test::Fail;
 
@@ -22,7 +22,7 @@ fn tells_that_it_is_out_of_memory(rt: HostRuntime) -> Result<(), Fail> {
         output: Stream::new(OCTAHEDRON_OFF.as_bytes(), 999),
         error: Stream::new(b"qconvex: 8: Memory\n", 99),
     };
-    let code = run(&stand_in);
+    let code = start(&stand_in);
     if code == ExitCode::SUCCESS {
         assert!(rt; stand_in.output.is_whole() && stand_in.error.is_untouched());
     } else {

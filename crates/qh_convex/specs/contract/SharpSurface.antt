@@ -8,7 +8,7 @@ use Rattle.qh_model.specs.headline.SupportingPlane.{IsSupportingTriple}
 use Rattle.qh_model.specs.headline.Polygons.{IsFacePolygon}
 use Rattle.qh_model.specs.contract.ClosedSurface.{Triple}
 use Rattle.qh_model.specs.contract.ClosedPolygons.{AreClosed, step_count}
-use Rattle.qh_convex_laws.specs.contract.LocallyConvex.{IsRound}
+use Rattle.qh_laws.specs.contract.LocallyConvex.{IsRound}
 
 -- the polygon is a face of the set, a triangle, from any of its corners on
 pub record IsTriangleFace (at : ℕ → Vector) (A : ℕ → Type 0) (q : List ℕ) : Type 0 where

@@ -4,7 +4,7 @@ use Rattle.qh_model.specs.headline.Vector.{Vector}
 use Rattle.qh_model.specs.headline.Predicates.{vol}
 use Rattle.qh_model.specs.headline.Sets.{In}
 use Rattle.qh_model.specs.contract.ClosedSurface.{Triple}
-use Rattle.qh_convex_laws.specs.contract.LocallyConvex.{is_met, IsMissed}
+use Rattle.qh_laws.specs.contract.LocallyConvex.{is_met, IsMissed}
 use Rattle.qh_convex.specs.declared.rays.Passage.{Passage}
 use Rattle.qh_convex.specs.declared.rays.Passage.TheVariants.{Met, Missed, Unclear}
 

@@ -3,7 +3,7 @@
 use Rattle.std.specs.Prelude.{ℕ, ◌++◌, List}
 use Rattle.qh_model.specs.headline.{Vector.Vector, Dimension.IsDimension, Hull.BodyValue, Hull.IsBody, Predicates.place, Sets.In, Sets.Members}
 use Rattle.qh_model.specs.contract.{ClosedPolygons.AreClosed, IdSets.HasDistinctPoints}
-use Rattle.qh_seam_laws.specs.contract.Parts.{AreKept, IsPartFace}
+use Rattle.qh_laws.specs.contract.Parts.{AreKept, IsPartFace}
 use Rattle.qh_places.specs.declared.places.Places.{Places}
 use Rattle.qh_join.specs.contract.Kept.{AreHeld}
 

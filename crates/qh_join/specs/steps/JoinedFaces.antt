@@ -3,7 +3,7 @@
 use Rattle.std.specs.Prelude.{ℕ, ◌⊎◌, List}
 use Rattle.qh_model.specs.headline.{Vector.Vector, Dimension.IsDimension, Hull.BodyValue, Hull.IsBody, Sets.In, Sets.Members}
 use Rattle.qh_model.specs.contract.{ClosedPolygons.AreClosed, ClosedPolygons.IsFace, IdSets.HasDistinctPoints}
-use Rattle.qh_seam_laws.specs.contract.Parts.{AreKept, IsPartFace}
+use Rattle.qh_laws.specs.contract.Parts.{AreKept, IsPartFace}
 
 -- the hull of each solid set of which parts contribute a face, or what is kept has it, and so for all of them, which close up
 abbrev pub IsBodyOfFaces : List (List ℕ) → BodyValue → Type 0

@@ -4,7 +4,7 @@ use Rattle.std.specs.Prelude.{ℕ, List}
 use Rattle.std.specs.List.{flat_map}
 use Rattle.qh_model.specs.headline.{Vector.Vector, Predicates.place, Sets.In, Sets.Members}
 use Rattle.qh_model.specs.contract.IdSets.{HasDistinctPoints}
-use Rattle.qh_seam_laws.specs.contract.Parts.{IsPartFace}
+use Rattle.qh_laws.specs.contract.Parts.{IsPartFace}
 use Rattle.qh_division.specs.declared.parts.Part.{Part}
 use Rattle.qh_parts.specs.declared.given.Contribution.{Contribution}
 use Rattle.qh_parts.specs.declared.given.Given.{Given}

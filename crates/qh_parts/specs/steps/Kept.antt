@@ -3,7 +3,7 @@
 use Rattle.std.specs.Prelude.{ℕ, List}
 use Rattle.std.specs.List.{All, flat_map}
 use Rattle.qh_model.specs.headline.{Vector.Vector, Predicates.place, Sets.In}
-use Rattle.qh_seam_laws.specs.contract.Parts.{AreKept}
+use Rattle.qh_laws.specs.contract.Parts.{AreKept}
 use Rattle.qh_division.specs.declared.parts.Part.{Part}
 use Rattle.qh_division.specs.contract.Parts.{ids_in, IsPartOf, KeepsCorners}
 

@@ -9,7 +9,7 @@ use Rattle.qh_model.specs.contract.ClosedPolygons.{AreClosed}
 use Rattle.qh_model.specs.contract.IdSets.{HasDistinctPoints}
 use Rattle.qh_model.specs.contract.StoredSurface.{surface_of}
 use Rattle.qh_surface.specs.contract.NamedMeshes.{named}
-use Rattle.qh_seam_laws.specs.contract.Seam.{IsSeam, IsStrictRing}
+use Rattle.qh_laws.specs.contract.Seam.{IsSeam, IsStrictRing}
 use Rattle.qh_division.specs.declared.parts.Part.{Part}
 use Rattle.qh_division.specs.contract.Parts.{ids_in, KeepsCorners}
 

@@ -6,7 +6,7 @@ use Rattle.qh_model.specs.headline.Predicates.{place}
 use Rattle.qh_model.specs.headline.Sets.{Members}
 use Rattle.qh_model.specs.contract.StoredSurface.{surface_of}
 use Rattle.qh_surface.specs.contract.NamedMeshes.{named}
-use Rattle.qh_seam_laws.specs.contract.Seam.{IsSeam}
+use Rattle.qh_laws.specs.contract.Seam.{IsSeam}
 use Rattle.qh_division.specs.declared.parts.Part.{Part}
 use Rattle.qh_seam.specs.steps.Witnesses.{IsRingOver}
 

@@ -5,7 +5,7 @@ use Rattle.qh_model.specs.headline.Vector.{Vector}
 use Rattle.qh_model.specs.headline.Sets.{In}
 use Rattle.qh_model.specs.contract.Surface.{Surface}
 use Rattle.qh_pred.specs.contract.Planes.{PlaneValue, height}
-use Rattle.qh_seam_laws.specs.contract.Seam.{height_over, SeesGone, IsRing}
+use Rattle.qh_laws.specs.contract.Seam.{height_over, SeesGone, IsRing}
 use Rattle.qh_seam.specs.declared.triangles.Four.{Four}
 use Rattle.qh_seam.specs.steps.Triangles.{IsInCone}
 

@@ -12,7 +12,7 @@ mod refusals;
 mod rows;
 mod solids;
 
-use qh_outcomes::{Asked, Call, Told};
+use crate::tests::outcomes::{Asked, Call, Told};
 use qh_run::NoGate;
 use std::process::Abort;
 use std::test::Fail;

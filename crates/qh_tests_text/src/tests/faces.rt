@@ -1,7 +1,7 @@
 //! Worked rows: texts, and the faces that they have.
-use qh_faces::{Layout, Reading, Turn, read_faces};
 use qh_fixtures::faces::are_round;
 use qh_model::ReadFault;
+use qh_read::faces::{Layout, Reading, Turn, read_faces};
 use std::alloc::Global;
 
 /// Returns a file of this layout, whose faces go as in OFF files.

@@ -3,7 +3,7 @@ use Rattle.std.proofs.Common.{◌≡◌, length, arith}
 use Rattle.std.proofs.lemmas.List.Sorted.{IsPermutation-sym}
 use Rattle.qh_model.proofs.Members.{in_permutation}
 use Rattle.qh_steps.proofs.StepCounts.{closed_permuted}
-use Rattle.qh_seam_laws.proofs.Joined.{closed_faces}
+use Rattle.qh_laws.proofs.Joined.{closed_faces}
 use Rattle.qh_join.proofs.JoinedLists.{are_joined}
 use Rattle.qh_join.proofs.joined.body_of_joined.Goals as goal
 

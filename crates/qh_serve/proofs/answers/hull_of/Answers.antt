@@ -8,11 +8,11 @@ pub reduced-requires-clause-indices : goal.reduced-requires-clause-indices
 reduced-requires-clause-indices g c = ids_within c.args.pts.now c.args.ids.now c.requires.distinct
 
 pub hull_as_given-requires-clause-few : goal.hull_as_given-requires-clause-few
-hull_as_given-requires-clause-few g c =
+hull_as_given-requires-clause-few g c κs lives =
     let r = rw c.in-Some.is at c.in_ok-images.ensures in rw (c.deref.ensures.value, r.mapped.each.count) c.requires.few
 
 pub hull_as_given-requires-clause-distinct : goal.hull_as_given-requires-clause-distinct
-hull_as_given-requires-clause-distinct g c =
+hull_as_given-requires-clause-distinct g c κs lives =
     let r = rw c.in-Some.is at c.in_ok-images.ensures in
     rw c.deref.ensures.value (image_distinct c.args.pts.now c.in-Some.images.items r.mapped c.args.ids.now c.requires.distinct)
 

@@ -2,8 +2,8 @@
 //! beginning of the text.
 ghost use Rattle.std.specs.Prelude.{◌<◌};
 
+use crate::tests::outcomes::OFF;
 use qh_fixtures::files::{CUBE, CUBE_OFF, ONE_POINT, TETRAHEDRON, TETRAHEDRON_OFF};
-use qh_outcomes::OFF;
 use qh_read::fakes::FailSource;
 use qh_read::{MemSource, ReadFault, Source};
 use qh_run::NoGate;

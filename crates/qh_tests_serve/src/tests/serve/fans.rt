@@ -1,9 +1,9 @@
 //! The worked rows of `offt`.
 use super::assert_rows;
+use crate::tests::outcomes::{Asked, OFFT, SUMMARY};
 use qh_fixtures::files::{
     CUBE, OCTAHEDRON, OCTAHEDRON_OFF, ONE_POINT, SQUARE, TETRAHEDRON, TETRAHEDRON_OFF,
 };
-use qh_outcomes::{Asked, OFFT, SUMMARY};
 use qh_write::Out;
 use std::test::Fail;
 

@@ -1,6 +1,6 @@
 //! Files with faults, and the lines that tell of them.
 use super::assert_faults;
-use qh_outcomes::{OFF, RANK, Told, refusal};
+use crate::tests::outcomes::{OFF, RANK, Told, refusal};
 use qh_read::ReadFault;
 use qh_serve::Fault;
 use std::process::Abort;

@@ -1,7 +1,7 @@
 //! Inputs that are cut short, words without end, and bytes that are no text.
 use super::assert_gives;
+use crate::tests::outcomes::{OFF, RANK};
 use qh_fixtures::files::{CUBE, CUBE_OFF};
-use qh_outcomes::{OFF, RANK};
 use std::test::Fail;
 
 #[test]

@@ -1,7 +1,7 @@
 //! Inputs of the greatest length that is read, and of one byte more.
 use super::assert_answered;
+use crate::tests::outcomes::RANK;
 use qh_fixtures::files::ONE_POINT;
-use qh_outcomes::RANK;
 use std::alloc::{AllocError, Global};
 use std::test::Fail;
 

@@ -2,7 +2,7 @@
 //! and with the same faces at coordinates up to 2^30. Their numbers of corners and facets are those that programs of
 //! exact arithmetic find.
 use super::assert_answered;
-use qh_outcomes::{Asked, SUMMARY, push_point};
+use crate::tests::outcomes::{Asked, SUMMARY, push_point};
 use std::alloc::{AllocError, Global};
 use std::process::Abort;
 use std::test::Fail;

@@ -1,9 +1,9 @@
 //! OFF files as input: what is written comes back, and the rows of comments, faces and faults.
 use super::solids::{LATTICE_OFF, LIMIT_CUBE_OFF, WIDE_CUBE_OFF};
 use super::{assert_faults, assert_gives};
+use crate::tests::outcomes::{Asked, FX, OFF, RANK};
 use qh_fixtures::files::{CUBE_OFF, OCTAHEDRON_OFF, SQUARE_OFF, TETRAHEDRON_OFF};
 use qh_model::Form;
-use qh_outcomes::{Asked, FX, OFF, RANK};
 use std::test::Fail;
 
 /// Texts of `off`, which `off` of their own points gives again.

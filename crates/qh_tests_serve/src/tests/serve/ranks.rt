@@ -1,7 +1,7 @@
 //! The rank of point files.
 use super::assert_texts;
+use crate::tests::outcomes::RANK;
 use qh_fixtures::files::{COMMENTED_TETRAHEDRON, ONE_POINT, SQUARE};
-use qh_outcomes::RANK;
 use std::test::Fail;
 
 /// Inputs and what `rank` answers.

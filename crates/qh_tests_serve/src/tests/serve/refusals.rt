@@ -1,7 +1,7 @@
 //! Calls of which one growth is refused: the text is right, or memory was wanted and the same call gives
 //! it. `scripts/trials/refusals.py` refuses each growth in turn.
+use crate::tests::outcomes::{Asked, OFF};
 use qh_fixtures::files::{CUBE, CUBE_OFF, OCTAHEDRON, OCTAHEDRON_OFF, SQUARE, SQUARE_OFF};
-use qh_outcomes::{Asked, OFF};
 use qh_read::{MemSource, ReadFault};
 use qh_run::NoGate;
 use qh_serve::{Fault, Settings, SettingsError, answer, serve};

@@ -1,7 +1,7 @@
 //! Point files with the texts that they give.
 use super::assert_rows;
+use crate::tests::outcomes::{Asked, OFF, RANK, SUMMARY};
 use qh_fixtures::files::{ONE_POINT, SQUARE, SQUARE_OFF};
-use qh_outcomes::{Asked, OFF, RANK, SUMMARY};
 use qh_write::Out;
 use std::test::Fail;
 

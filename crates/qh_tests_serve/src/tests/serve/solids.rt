@@ -1,9 +1,9 @@
 //! The worked rows of sets that are not flat.
 use super::{assert_answered, assert_rows};
+use crate::tests::outcomes::{Asked, FX, OFF, SUMMARY};
 use qh_fixtures::files::{
     COMMENTED_TETRAHEDRON, CUBE, CUBE_OFF, OCTAHEDRON, OCTAHEDRON_OFF, TETRAHEDRON, TETRAHEDRON_OFF,
 };
-use qh_outcomes::{Asked, FX, OFF, SUMMARY};
 use qh_write::Out;
 use std::test::Fail;
 

@@ -2,7 +2,7 @@
 use Rattle.std.proofs.Common.{◌≡◌, ◌∙◌, ◌+◌, ap, inl, inr, subst, sym, true, false, ◌⊎◌}
 use Rattle.std.proofs.lemmas.List.Sums.{count_by_more_yes, count_by_more_no}
 use Rattle.qh_model.specs.headline.Predicates.{place}
-use Rattle.qh_convex_laws.specs.contract.LocallyConvex.{is_met, IsMissed}
+use Rattle.qh_laws.specs.contract.LocallyConvex.{is_met, IsMissed}
 use Rattle.qh_convex.specs.steps.Rays.{IsInside, IsPassage}
 use Rattle.qh_convex.proofs.{Prefixes.each_more, rays.Ray.meets_once.Goals.in-Met, rays.Ray.meets_once.Goals.in-Missed}
 use Rattle.qh_convex.proofs.rays.Ray.meets_once.Goals as goal

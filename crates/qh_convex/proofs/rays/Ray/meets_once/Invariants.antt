@@ -2,7 +2,7 @@
 use Rattle.std.proofs.Common.{◌≡◌, ◌⊎◌, take, true}
 use Rattle.std.specs.Prelude.{count_by}
 use Rattle.qh_model.specs.{headline.Predicates.place, headline.Sets.In, contract.ClosedSurface.Triple}
-use Rattle.qh_convex_laws.specs.contract.LocallyConvex.{is_met, IsMissed}
+use Rattle.qh_laws.specs.contract.LocallyConvex.{is_met, IsMissed}
 use Rattle.qh_convex.specs.steps.Rays.{IsInside}
 use Rattle.qh_convex.proofs.rays.Ray.meets_once.Given as goal
 

@@ -2,7 +2,7 @@
 use Rattle.std.proofs.Common.{map}
 use Rattle.qh_model.specs.contract.StoredSurface.{surface_of}
 use Rattle.qh_surface.specs.contract.Walks.{mark_at}
-use Rattle.qh_seam_laws.specs.contract.Seam.{IsRing}
+use Rattle.qh_laws.specs.contract.Seam.{IsRing}
 use Rattle.qh_seam.specs.steps.RingKeys.{facet_in}
 use Rattle.qh_seam.proofs.RingFacets.{AreRing}
 use Rattle.qh_seam.proofs.marked.Marked.ring_keys.Given as goal

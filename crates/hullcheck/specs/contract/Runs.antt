@@ -1,0 +1,41 @@
+-- What one run of the program does with the words, the files and the devices that it gets. This project's own.
+use Rattle.std.specs.Prelude.{ℕ, ◌≡◌, ◌≢◌, List, Option, Result, Ok, Err, MatchResult}
+use Rattle.std.specs.declared.io.ErrorKind.{ErrorKind}
+use Rattle.std.specs.declared.io.ErrorKind.TheVariants.{OutOfMemory}
+use Rattle.qh_check.specs.contract.Texts.{judgement_text}
+use Rattle.qh_check.specs.declared.judgement.Judgement.{Judgement}
+use Rattle.qh_write.specs.declared.sink.SinkFault.{SinkFault}
+use Rattle.qh_write.specs.contract.LineDevices.{IsCounted, LineDevice, SaysLine, SendsLine}
+use Rattle.hullcheck.specs.declared.fault.Fault.{Fault}
+use Rattle.hullcheck.specs.declared.fault.Fault.TheVariants.{Memory, Output, Usage}
+use Rattle.hullcheck.specs.contract.Checking.{IsJudgeFault}
+use Rattle.hullcheck.specs.contract.FaultTexts.{fault_text}
+use Rattle.hullcheck.specs.contract.Judging.{IsToldBy}
+use Rattle.hullcheck.specs.contract.Statuses.{fault_status, judgement_status}
+
+-- there are no words: out of memory, or one is not UTF-8
+abbrev pub IsUnread : ErrorKind → Result Judgement Fault → Type 0
+IsUnread kind judged = (kind ≡ OutOfMemory → judged ≡ Err Memory) × (kind ≢ OutOfMemory → judged ≡ Err Usage)
+
+-- the judgement on the files that the words name, or what keeps from one, if there are words
+abbrev pub IsJudged : {W : Type 0} → (W → List (List ℕ)) → Result W ErrorKind → (Option (List ℕ) → Option (List ℕ)) → Type 0
+    → Result Judgement Fault → Type 0
+IsJudged texts words contents Failed judged = MatchResult words
+    (λ w. MatchResult judged (IsToldBy (texts w) contents) (IsJudgeFault (texts w) contents Failed)) (λ kind. IsUnread kind judged)
+
+-- the run ends with the line and the status of a fault
+abbrev pub IsRefusal : Fault → LineDevice → LineDevice → ℕ → Type 0
+IsRefusal fault old new status = SaysLine (fault_text fault) old new × (status ≡ fault_status fault)
+
+-- the run ends with the line and the status of the judgement, or with those of a fault
+abbrev pub IsEnd : Result Judgement Fault → LineDevice → LineDevice → LineDevice → LineDevice → ℕ → Type 0
+IsEnd (Ok judgement) old new before after status = (said : Result (Unit {0}) SinkFault)
+    × SendsLine old.went new.went (judgement_text judgement) said × IsCounted said old.failures new.failures
+    × MatchResult said (λ _. (status ≡ judgement_status judgement) × (after ≡ before)) (λ _. IsRefusal Output before after status)
+IsEnd (Err fault) old new before after status = (new ≡ old) × IsRefusal fault before after status
+
+-- what is judged, and how the run ends with it: what goes to the output and to the errors, and the status
+pub record IsRun (IsJudgedSo : Result Judgement Fault → Type 0) (old new before after : LineDevice) (status : ℕ) : Type 0 where
+  pub judged : Result Judgement Fault
+  pub so : IsJudgedSo judged
+  pub ends : IsEnd judged old new before after status

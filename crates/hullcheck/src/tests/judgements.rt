@@ -1,0 +1,131 @@
+//! The judgement on faces, and the settings of command lines.
+use crate::command_line::settings_of;
+use crate::fault::Fault;
+use crate::judging::check_streams;
+use qh_check::{Judgement, SurfaceVerdict};
+use qh_model::ReadFault;
+use qh_read::MemSource;
+use qh_read::faces::{Layout, Reading, Turn};
+use std::alloc::{AllocError, Global};
+use std::test::Fail;
+use std::thread::Threads;
+
+/// The corners of a cube, and two of them once more.
+pub const CUBE: &str =
+    "3 10\n0 0 0\n0 0 1\n0 1 0\n0 1 1\n1 0 0\n1 0 1\n1 1 0\n1 1 1\n0 0 0\n1 1 1\n";
+
+/// Returns the judgement on a text of faces of the cube.
+fn told<R: Threads + Sync>(
+    rt: &R,
+    alloc: Global,
+    text: &str,
+    reading: Reading,
+) -> Result<Judgement, Fault> {
+    let mut points = MemSource::new(CUBE.as_bytes());
+    let mut faces = MemSource::new(text.as_bytes());
+    check_streams(rt, alloc, &mut points, &mut faces, reading, 1)
+}
+
+/// How Qhull's `i` is read.
+const INDICES: Reading = Reading {
+    layout: Layout::Lines,
+    turn: Turn::Clockwise,
+};
+
+/// How an OFF file is read.
+const OFF: Reading = Reading {
+    layout: Layout::Off,
+    turn: Turn::Counterclockwise,
+};
+
+/// The faces of the cube as Qhull writes them, two corners under their second index.
+pub const BY_INDICES: &str = "6\n4 6 2 8 \n1 5 4 0 \n5 9 6 4 \n3 1 0 2 \n7 3 2 6 \n3 7 5 1 \n";
+
+/// The same with the number of corners before these, in the order of OFF files.
+pub const COUNTED: &str = "6\n4 8 2 6 4\n4 0 4 5 1\n4 4 6 9 5\n4 2 0 1 3\n4 6 2 3 7\n4 1 5 7 3\n";
+
+/// An OFF file of a tetrahedron of corners of the cube, with a comment.
+const TETRAHEDRON: &str =
+    "OFF # four corners\n4 4 6\n1 1 1\n0 0 0\n1 0 0\n0 1 0\n3 0 1 2\n3 0 3 1\n3 0 2 3\n3 1 3 2\n";
+
+#[test]
+fn faces_by_indices_are_right(rt: HostRuntime) -> Result<(), Fail> {
+    let told = told(&rt, rt.alloc(), BY_INDICES, INDICES);
+    assert!(rt; matches!(told, Ok(Judgement::Told(SurfaceVerdict::Right))));
+    Ok(())
+}
+
+#[test]
+fn counted_faces_are_right(rt: HostRuntime) -> Result<(), Fail> {
+    let reading = Reading {
+        layout: Layout::Counted,
+        turn: Turn::Counterclockwise,
+    };
+    let told = told(&rt, rt.alloc(), COUNTED, reading);
+    assert!(rt; matches!(told, Ok(Judgement::Told(SurfaceVerdict::Right))));
+    Ok(())
+}
+
+#[test]
+fn the_hull_of_some_of_the_points_is_wrong(rt: HostRuntime) -> Result<(), Fail> {
+    let told = told(&rt, rt.alloc(), TETRAHEDRON, OFF);
+    assert!(rt; matches!(told, Ok(Judgement::Told(SurfaceVerdict::NoPiece(_, _)))));
+    Ok(())
+}
+
+#[test]
+fn an_index_of_no_point_is_a_stranger(rt: HostRuntime) -> Result<(), Fail> {
+    let told = told(&rt, rt.alloc(), "2\n0 1 2\n0 1 10\n", INDICES);
+    assert!(rt; matches!(told, Ok(Judgement::Stranger(1))));
+    Ok(())
+}
+
+#[test]
+fn a_vertex_that_is_no_point_is_a_stranger(rt: HostRuntime) -> Result<(), Fail> {
+    let told = told(
+        &rt,
+        rt.alloc(),
+        "OFF\n3 1 3\n0 0 0\n2 0 0\n0 1 0\n3 0 1 2\n",
+        OFF,
+    );
+    assert!(rt; matches!(told, Ok(Judgement::Stranger(0))));
+    Ok(())
+}
+
+#[test]
+fn a_text_that_ends_early_is_short(rt: HostRuntime) -> Result<(), Fail> {
+    let told = told(&rt, rt.alloc(), "3\n0 1 2\n", INDICES);
+    assert!(rt; matches!(told, Err(Fault::Faces(ReadFault::Short))));
+    Ok(())
+}
+
+/// Returns words, the program's name first.
+pub fn words(alloc: Global, texts: &[&str]) -> Result<Vec<String>, AllocError> {
+    let mut words = Vec::new(alloc);
+    for text in texts {
+        words.push(String::from_str(alloc, text)?)?;
+    }
+    Ok(words)
+}
+
+#[test]
+fn options_stand_before_or_behind_files(rt: HostRuntime) -> Result<(), Fail> {
+    let words = words(
+        rt.alloc(),
+        &["hullcheck", "a", "--workers", "64", "b", "--indices"],
+    )?;
+    let settings = settings_of(&words);
+    let Ok(settings) = settings else {
+        return Err(Fail::new("no settings"));
+    };
+    assert!(rt; settings.workers == 64 && settings.reading.layout == Layout::Lines);
+    assert!(rt; settings.points == Some("a") && settings.faces == Some("b"));
+    Ok(())
+}
+
+#[test]
+fn workers_out_of_range_are_no_command_line(rt: HostRuntime) -> Result<(), Fail> {
+    let words = words(rt.alloc(), &["hullcheck", "a", "--workers", "65"])?;
+    assert!(rt; matches!(settings_of(&words), Err(Fault::Usage)));
+    Ok(())
+}

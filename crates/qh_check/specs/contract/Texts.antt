@@ -1,0 +1,28 @@
+-- What a judgement says for a person, in one line. This project's own.
+use Rattle.std.specs.Prelude.{ℕ, List, ◌++◌, codes, decimal}
+use Rattle.qh_check.specs.declared.fault.FaceFault.{FaceFault}
+use Rattle.qh_check.specs.declared.fault.FaceFault.TheVariants.{NoPlane, Above, OtherFace}
+use Rattle.qh_check.specs.declared.flaw.SurfaceVerdict.{SurfaceVerdict}
+use Rattle.qh_check.specs.declared.flaw.SurfaceVerdict.TheVariants.{Right, OtherPolygons, NoPiece, Open, Twice}
+use Rattle.qh_check.specs.declared.judgement.Judgement.{Judgement}
+use Rattle.qh_check.specs.declared.judgement.Judgement.TheVariants.{Told, Stranger}
+
+-- what is wrong with a face
+abbrev pub face_fault_text : FaceFault → List ℕ
+face_fault_text NoPlane = codes "its first three corners are no points in a plane"
+face_fault_text (Above id) = codes "point " ++ (decimal id ++ codes " is above its plane")
+face_fault_text OtherFace = codes "the polygon of its plane is another"
+
+-- the verdict on a surface
+abbrev pub verdict_text : SurfaceVerdict → List ℕ
+verdict_text Right = codes "all right"
+verdict_text OtherPolygons = codes "the polygons are others"
+verdict_text (NoPiece n fault) = codes "face " ++ (decimal n ++ (codes ": " ++ face_fault_text fault))
+verdict_text (Open u v) = codes "the side from point " ++ (decimal u ++ (codes " to point " ++ (decimal v ++ codes " is open")))
+verdict_text (Twice u v) =
+    codes "the side from point " ++ (decimal u ++ (codes " to point " ++ (decimal v ++ codes " belongs to more than two faces")))
+
+-- the judgement
+abbrev pub judgement_text : Judgement → List ℕ
+judgement_text (Told verdict) = verdict_text verdict
+judgement_text (Stranger n) = codes "face " ++ (decimal n ++ codes ": one of its corners is not a point of the set")

@@ -1,5 +1,0 @@
-use Rattle.qh_convex_laws.proofs.Convex.{local_is_convex, under_triangle_is_below, local_supports}
-use Rattle.qh_convex_laws.proofs.locally_convex_is_convex.Goals as goal
-
-pub returns : goal.returns
-returns c = record { corners = local_is_convex; below = under_triangle_is_below; support = local_supports }

@@ -1,5 +1,0 @@
-use Rattle.qh_convex_laws.proofs.sharp_polygon_is_face.Goals as goal
-use Rattle.qh_convex_laws.proofs.{PolygonFaces.sharp_polygon_is_face, TriangleFaces.sharp_is_face}
-
-pub returns : goal.returns
-returns c = record { triangle = sharp_is_face; polygon = sharp_polygon_is_face }

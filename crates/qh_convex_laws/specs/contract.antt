@@ -1,3 +1,0 @@
--- What a check of closed surfaces cites.
-pub mod LocallyConvex
-pub mod Scaled

@@ -1,2 +1,0 @@
--- What the laws of covering cite.
-pub mod Covering

@@ -1,8 +1,0 @@
-pub mod Tables
-pub mod Reading
-pub mod RoundTrip
-pub mod OffReading
-pub mod Points
-pub mod Polygons
-pub mod Fans
-pub mod Texts

@@ -1,4 +1,0 @@
--- What public clauses cite.
-pub mod FaceFaults
-pub mod FaceFiles
-pub mod FaceWords

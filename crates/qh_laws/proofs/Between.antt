@@ -1,0 +1,115 @@
+-- What lies between a facet and an inner place is above no facet, and what is above no facet is a convex combination.
+use Rattle.std.proofs.Common.{◌≡◌, ℕ, arith, refl, sym, ◌∙◌, inl, inr, ⊎_elim}
+use Rattle.std.proofs.lemmas.Int.{ints}
+use Rattle.std.specs.Prelude.{ℤ, pos, ◌+ℤ◌, ◌-ℤ◌, ◌*ℤ◌, ◌≤ℤ◌, ◌<ℤ◌}
+use Rattle.qh_model.specs.contract.{FinishedSurface.weighted_at, FinishedSurface.middle_at, Surface.start, Surface.end, Surface.IsCorner, Surface.rise}
+use Rattle.qh_model.specs.contract.Weighted.{Weighted, weighted, weighted_dot, plane_of}
+use Rattle.qh_model.specs.{headline.Sets.In, headline.Sets.Members, headline.Vector.dot, laws.Separator.Separator}
+use Rattle.qh_model.proofs.algebra.Order.{mul-pos, mul-nonneg_nonpos, neg-positive, neg-nonneg, negative_le}
+use Rattle.qh_model.proofs.algebra.Signs.{at_most_zero, not_less, less_differ, equal_nonpos, equal_negative, equal_positive, no_sum}
+use Rattle.qh_model.proofs.extremes.{ExtremeIds.listed_itself, ExtremeIds.alternative_in, Faces.face_combination}
+use Rattle.qh_model.proofs.surfaces.{CoveredPlanes.nothing_outside, Determinants.dot-together, Determinants.above-together, Facets.plane-is}
+use Rattle.qh_model.proofs.surfaces.{Finished.unseen_above, Located.Located, Located.shares, Located.mix, Simplex.middle_is_below, SurfaceLaws.rise_is_vol}
+use Rattle.qh_laws.specs.contract.Seam.{height_over}
+use Rattle.qh_laws.specs.laws.PointLaws.{LevelIsInPolygon, WithinIsBelow, BetweenIsBelow, MiddleIsInner, BetweenFourIsBelow, BelowIsCombination}
+use Rattle.qh_laws.proofs.{Heights.rise_is_height, Heights.blind_rise, Heights.seen_rise}
+
+-- the law
+pub within_is_below : WithinIsBelow
+within_is_below at ids m z o unseen f live p w g i = at_most_zero _ outside
+  where
+    home : ℕ → Weighted
+    home = weighted_at at
+
+    plane : Weighted
+    plane = plane_of (home (m.i g)) (home (m.j g)) (home (m.k g))
+
+    value : (q : Weighted) → weighted_dot plane q ≡ rise m home g q
+    value q = plane-is (home (m.i g)) (home (m.j g)) (home (m.k g)) q
+
+    over : Located m home o (weighted p)
+    over = record { f = f; live = live; within = w.sides }
+
+    corner : (l : ℕ) → IsCorner m f l → weighted_dot plane (home l) ≤ℤ pos 0
+    corner l c = equal_nonpos _ _ (sym (value (home l))) (unseen_above at ids m z g i l (z.corners f live l c))
+
+    outside : pos 0 <ℤ height_over at m g p → ⊥
+    outside above =
+        no_sum _ _ _ _ _ (mix over plane) (mul-pos _ _ (neg-positive _ w.inner) (equal_positive _ _ (sym (value (weighted p))) (seen_rise at m g p above)))
+        (mul-nonneg_nonpos _ _ (shares over).0 (corner (m.i f) (inl refl))) (mul-nonneg_nonpos _ _ (shares over).1 (corner (m.j f) (inr (inl refl))))
+        (mul-nonneg_nonpos _ _ (shares over).2 (corner (m.k f) (inr (inr refl))))
+        (mul-nonneg_nonpos _ _ (neg-nonneg _ (blind_rise at m f p w.below)) (equal_nonpos _ _ (sym (value o)) (unseen g i)))
+
+-- the law
+pub between_is_below : BetweenIsBelow
+between_is_below at ids m z c h f live p b =
+    within_is_below at ids m z (weighted (at c)) (λ g i. unseen_above at ids m z g i c h) f live p (record {
+      inner = equal_negative _ _ (sym (rise_is_height at m f (at c))) b.inner;
+      below = b.below;
+      sides = λ s. equal_nonpos _ _ (sym (rise_is_vol (at (start m f s)) (at (end m f s)) p (at c))) (b.sides s);
+    })
+
+-- the law
+pub middle_is_inner : MiddleIsInner
+middle_is_inner at ids m z s t u v hs ht hu hv h f i =
+    middle_is_below (home (m.i f)) (home (m.j f)) (home (m.k f)) (home s) (home t) (home u) (home v) (middle_at at z.s z.t z.u z.v)
+    (equal_negative _ _ (sym (rise_is_vol (at s) (at t) (at u) (at v))) h) (unseen_above at ids m z f i s hs) (unseen_above at ids m z f i t ht)
+    (unseen_above at ids m z f i u hu) (unseen_above at ids m z f i v hv) (λ e. less_differ _ (pos 0) (z.sound.inner f i) e)
+  where
+    home : ℕ → Weighted
+    home = weighted_at at
+
+-- the law
+pub between_four_is_below : BetweenFourIsBelow
+between_four_is_below at ids m z s t u v hs ht hu hv h f live p b =
+    within_is_below at ids m z (middle_at at s t u v) (λ g i. negative_le _ (inner g i)) f live p (record {
+      inner = inner f live;
+      below = b.below;
+      sides = λ e. let a = at (start m f e) in let c = at (end m f e) in equal_nonpos _ _
+          (sym (above-together _ _ _ (weighted (at s)) (weighted (at t)) (weighted (at u)) (weighted (at v))
+          ∙ sums (rise_is_vol a c p (at s)) (rise_is_vol a c p (at t)) (rise_is_vol a c p (at u)) (rise_is_vol a c p (at v)))) (b.sides e);
+    })
+  where
+    inner : (g : ℕ) → In g m.live → rise m (weighted_at at) g (middle_at at s t u v) <ℤ pos 0
+    inner = middle_is_inner at ids m z s t u v hs ht hu hv h
+
+    sums : {x y z w x' y' z' w' : ℤ} → x ≡ x' → y ≡ y' → z ≡ z' → w ≡ w' → x +ℤ y +ℤ z +ℤ w ≡ x' +ℤ y' +ℤ z' +ℤ w'
+    sums d e f g = cc (d, e, f, g)
+
+-- the law
+pub below_is_combination : BelowIsCombination
+below_is_combination at ids m z p below = ⊎_elim (λ c. c) (λ s. absurd (none s)) (alternative_in at (Members ids) ids (listed_itself ids) p)
+  where
+    home : ℕ → Weighted
+    home = weighted_at at
+
+    none : Separator at (Members ids) p → ⊥
+    none s =
+        not_less (pos 0) _ (equal_positive _ _ (sym own) (omega (arith, ints)))
+        (nothing_outside m home (middle_at at z.s z.t z.u z.v) z.whole z.sound z.some z.some_live n (weighted p)
+        (λ g i l c. low l (z.corners g i l c)) middle_low (λ f i. blind_rise at m f p (below f i)))
+      where
+        -- 1 at p, and 0 at most at the members
+        n : Weighted
+        n = record { w = pos 1 -ℤ dot s.w p; x = s.w.x; y = s.w.y; z = s.w.z }
+
+        own : weighted_dot n (weighted p) ≡ pos 1
+        own = omega (arith, ints)
+
+        low : (l : ℕ) → Members ids l → weighted_dot n (home l) ≤ℤ pos 0
+        low l h = lower (dot s.w p) (s.w.x *ℤ (at l).x) (s.w.y *ℤ (at l).y) (s.w.z *ℤ (at l).z) (dot s.w (at l)) refl (s.past l h)
+          where
+            lower : (d x y z e : ℤ) → e ≡ x +ℤ y +ℤ z → e <ℤ d → ((pos 1 -ℤ d) *ℤ pos 1 +ℤ x +ℤ y +ℤ z) ≤ℤ pos 0
+            lower d x y z e q h = omega (arith, ints)
+
+        middle_low : weighted_dot n (middle_at at z.s z.t z.u z.v) ≤ℤ pos 0
+        middle_low =
+            four _ _ _ _ _ (dot-together n (home z.s) (home z.t) (home z.u) (home z.v)) (low z.s z.has_s) (low z.t z.has_t) (low z.u z.has_u) (low z.v z.has_v)
+          where
+            four : (x a b c d : ℤ) → x ≡ a +ℤ b +ℤ c +ℤ d → a ≤ℤ pos 0 → b ≤ℤ pos 0 → c ≤ℤ pos 0 → d ≤ℤ pos 0 → x ≤ℤ pos 0
+            four x a b c d e ha hb hc hd = omega (arith, ints)
+
+-- the law
+pub level_is_in_polygon : LevelIsInPolygon
+level_is_in_polygon at ids m z f i p below on =
+    face_combination at (Members ids) ids (listed_itself ids) (m.i f) (m.j f) (m.k f) (z.unseen f i) p on (below_is_combination at ids m z p below)

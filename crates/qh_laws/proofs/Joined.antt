@@ -1,0 +1,74 @@
+-- Faces of parts and of the kept ids that close up are the faces of all.
+use Rattle.std.proofs.Common.{ℕ, ◌⊎◌, inl, inr, refl, List}
+use Rattle.std.specs.Prelude.{pos, ◌↔◌}
+use Rattle.qh_model.specs.contract.{ClosedPolygons.AreClosedFaces, ClosedPolygons.IsFace, IdSets.HasDistinctPoints}
+use Rattle.qh_model.specs.headline.{Extreme.Extreme, Predicates.vol, Sets.Members, Vector.Vector}
+use Rattle.qh_model.proofs.{algebra.Signs.less_differ, extremes.ExtremeIds.listed_itself, extremes.ExtremeIds.extremes_between}
+use Rattle.qh_model.proofs.{extremes.Faces.support_of_extremes, polygons.ClosedFaces.closed_faces_are_all, polygons.ClosedFaces.closed_faces_have_extremes}
+use Rattle.qh_laws.specs.contract.Parts.{AreKept, IsPartFace, AreJoined}
+use Rattle.qh_laws.specs.laws.PartLaws.{FacesOfKept, JoinedAreFaces, JoinedHaveExtremes, PartIsSolid}
+use Rattle.qh_laws.proofs.Parts.{staying_supports, staying_has_polygon, polygon_of_same}
+
+-- the polygon of a part is a face
+part_face : (at : ℕ → Vector) (all kept : List ℕ) (q : List ℕ) → HasDistinctPoints at (Members all) → AreKept at all kept
+    → IsPartFace at all kept q → IsFace at (Members all) q
+part_face at all kept q d k p = (
+  p.m.i p.f,
+  p.m.j p.f,
+  p.m.k p.f,
+  staying_supports at all kept p.ids p.m p.stay d k p.part p.f p.live p.stays,
+  (staying_has_polygon at all kept p.ids p.m p.stay d k p.part p.f p.live p.stays p.clear q).0 p.polygon,
+)
+
+-- the law
+pub faces_of_kept : FacesOfKept
+faces_of_kept at all kept d k q (i, j, l, t, p) = (
+  i,
+  j,
+  l,
+  record {
+    has_i = k.inside i t.has_i;
+    has_j = k.inside j t.has_j;
+    has_k = k.inside l t.has_k;
+    area = t.area;
+    supports = support_of_extremes at all d i j l (λ h x. t.supports h (k.extremes h x));
+  },
+  polygon_of_same at (Members kept) (Members all) i j l (λ h x. ((same h).0 x.0, x.1)) (λ h x. ((same h).1 x.0, x.1)) q p,
+)
+  where
+    same : (h : ℕ) → Extreme at (Members kept) h ↔ Extreme at (Members all) h
+    same = extremes_between at (Members all) (Members kept) all (listed_itself all) d k.inside k.extremes
+
+-- each joined face is a face of all
+pub closed_faces : (at : ℕ → Vector) (all kept : List ℕ) (qs : List (List ℕ)) → HasDistinctPoints at (Members all) → AreKept at all kept
+    → AreJoined at all kept qs → AreClosedFaces at (Members all) qs
+closed_faces at all kept qs d k j = record { some = j.some; there = j.there; faces = λ q i. face q (j.each q i); closed = j.closed }
+  where
+    face : (q : List ℕ) → IsPartFace at all kept q ⊎ IsFace at (Members kept) q → IsFace at (Members all) q
+    face q (inl p) = part_face at all kept q d k p
+    face q (inr h) = faces_of_kept at all kept d k q h
+
+-- the law
+pub joined_are_faces : JoinedAreFaces
+joined_are_faces at all kept qs d k j rising = closed_faces_are_all at all qs d (closed_faces at all kept qs d k j) rising
+
+-- the law
+pub joined_have_extremes : JoinedHaveExtremes
+joined_have_extremes at all kept qs d k j l = closed_faces_have_extremes at all qs d (closed_faces at all kept qs d k j) l
+
+-- the law
+pub part_is_solid : PartIsSolid
+part_is_solid at all ids m z sub = inl (
+  refl,
+  record {
+    i = z.s;
+    j = z.t;
+    k = z.u;
+    l = z.v;
+    has_i = sub z.s z.has_s;
+    has_j = sub z.t z.has_t;
+    has_k = sub z.u z.has_u;
+    has_l = sub z.v z.has_v;
+    volume = λ e. less_differ (vol (at z.s) (at z.t) (at z.u) (at z.v)) (pos 0) z.volume e;
+  },
+)

@@ -1,0 +1,70 @@
+-- The laws of locally convex surfaces.
+-- Source: Mehlhorn, Naeher, Seel, Seidel, Schilz, Schirra and Uhrig 1999 (checking geometric programs).
+use Rattle.std.specs.Prelude.{ℕ, ◌↔◌, List, [], ◌∷◌, ◌<◌, pos, ◌≤ℤ◌}
+use Rattle.qh_model.specs.headline.Vector.{Vector}
+use Rattle.qh_model.specs.headline.Predicates.{vol}
+use Rattle.qh_model.specs.headline.Sets.{In, Members}
+use Rattle.qh_model.specs.headline.Polygons.{IsFacePolygon, RiseStrictly, AreFaces}
+use Rattle.qh_model.specs.headline.Extreme.{Extreme}
+use Rattle.qh_model.specs.headline.Dimension.{IsDimension}
+use Rattle.qh_model.specs.contract.ClosedPolygons.{AreClosed}
+use Rattle.qh_model.specs.contract.IdSets.{HasDistinctPoints}
+use Rattle.qh_model.specs.contract.ClosedSurface.{Triple, IsClosedSurface}
+use Rattle.qh_model.specs.laws.ClosedSurfaceLaws.{IsCornerOf}
+use Rattle.qh_model.specs.laws.ClosedFaceLaws.{AreSupporting}
+use Rattle.qh_laws.specs.contract.LocallyConvex.{IsRound, IsSharpAround, IsSharpPolygon, IsLocallyConvex, IsUnder, HasAllUnder}
+use Rattle.qh_laws.specs.contract.LocallyConvex.{AreSharpPolygons, ArePolygonsOf}
+
+-- no corner of a locally convex surface is above a triangle of it
+abbrev pub LocalIsConvex : Type 0
+LocalIsConvex = (at : ℕ → Vector) (ts : List Triple) (z d : Vector) → IsLocallyConvex at ts z d
+    → (l : ℕ) → IsCornerOf ts l → (t : Triple) → In t ts → vol (at t.i) (at t.j) (at t.k) (at l) ≤ℤ pos 0
+
+-- nor is a point above one that lies under a triangle
+abbrev pub UnderIsBelow : Type 0
+UnderIsBelow = (at : ℕ → Vector) (ts : List Triple) (z d : Vector) → IsLocallyConvex at ts z d
+    → (p : Vector) → IsUnder at ts z p → (t : Triple) → In t ts → vol (at t.i) (at t.j) (at t.k) p ≤ℤ pos 0
+
+-- so the triangles support a set that has all corners, and each other member under a triangle
+abbrev pub LocalSupports : Type 0
+LocalSupports = (at : ℕ → Vector) (ids : List ℕ) (ts : List Triple) (z d : Vector) → IsLocallyConvex at ts z d
+    → HasAllUnder at ids ts z → IsClosedSurface at ts × AreSupporting at (Members ids) ts
+
+-- and a triangle with its neighbours strictly below it is a face, from its least id on
+abbrev pub SharpIsFace : Type 0
+SharpIsFace = (at : ℕ → Vector) (ids : List ℕ) (ts : List Triple) (z d : Vector) → IsLocallyConvex at ts z d
+    → HasAllUnder at ids ts z → HasDistinctPoints at (Members ids)
+    → (t : Triple) → In t ts → IsSharpAround at ts t → (u v w : ℕ) → IsRound t u v w → u < v → u < w
+    → IsFacePolygon at (Members ids) t.i t.j t.k (u ∷ v ∷ w ∷ [])
+
+-- so is a convex polygon along edges with what is past them strictly below
+abbrev pub SharpPolygonIsFace : Type 0
+SharpPolygonIsFace = (at : ℕ → Vector) (ids : List ℕ) (ts : List Triple) (z d : Vector) → IsLocallyConvex at ts z d
+    → HasAllUnder at ids ts z → HasDistinctPoints at (Members ids)
+    → (t : Triple) → In t ts → (q : List ℕ) → IsSharpPolygon at ts t q → IsFacePolygon at (Members ids) t.i t.j t.k q
+
+-- ---- hulls
+-- where sharp polygons, one at least, close up, they are all faces
+abbrev pub SharpPolygonsAreFaces : Type 0
+SharpPolygonsAreFaces = (at : ℕ → Vector) (ids : List ℕ) (ts : List Triple) (z d : Vector) → IsLocallyConvex at ts z d
+    → HasAllUnder at ids ts z → HasDistinctPoints at (Members ids)
+    → (qs : List (List ℕ)) (q : List ℕ) → In q qs → AreSharpPolygons at ts qs → AreClosed qs → RiseStrictly qs
+    → AreFaces at (Members ids) qs
+
+-- the polygons of all triangles are all faces
+abbrev pub TrianglePolygonsAreFaces : Type 0
+TrianglePolygonsAreFaces = (at : ℕ → Vector) (ids : List ℕ) (ts : List Triple) (z d : Vector) → IsLocallyConvex at ts z d
+    → HasAllUnder at ids ts z → HasDistinctPoints at (Members ids)
+    → (qs : List (List ℕ)) → ArePolygonsOf at ts qs → RiseStrictly qs → AreFaces at (Members ids) qs
+
+-- and their corners are the extreme ids
+abbrev pub TrianglePolygonsHaveExtremes : Type 0
+TrianglePolygonsHaveExtremes = (at : ℕ → Vector) (ids : List ℕ) (ts : List Triple) (z d : Vector) → IsLocallyConvex at ts z d
+    → HasAllUnder at ids ts z → HasDistinctPoints at (Members ids)
+    → (qs : List (List ℕ)) → ArePolygonsOf at ts qs
+    → (l : ℕ) → Extreme at (Members ids) l ↔ ((q : List ℕ) × In q qs × In l q)
+
+-- and the set is a solid
+abbrev pub SharpIsSolid : Type 0
+SharpIsSolid = (at : ℕ → Vector) (ids : List ℕ) (ts : List Triple) → ((l : ℕ) → IsCornerOf ts l → In l ids)
+    → (t : Triple) → (q : List ℕ) → IsSharpPolygon at ts t q → IsDimension at (Members ids) 3

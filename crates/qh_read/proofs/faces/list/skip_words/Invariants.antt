@@ -1,0 +1,6 @@
+-- So many words were passed over.
+use Rattle.std.proofs.Common.{◌≡◌, drop}
+use Rattle.qh_read.proofs.faces.list.skip_words.Given as goal
+
+abbrev pub invariant-words : goal.invariant-words
+invariant-words l = l.words ≡ drop l.counter l.fn.words

@@ -1,0 +1,70 @@
+-- Which words of a text are faces.
+-- Source: Geomview OFF (a face is its number of corners, their indices from 0, and then a colour or none, to the end of the
+-- line); Qhull's options `Fv` (such faces) and `i` (a face is a line of indices, without their number).
+use Rattle.std.specs.Prelude.{ℕ, ◌≡◌, ◌==◌, List, [], ◌∷◌, ◌++◌, map, reverse, length, Some, if◌then◌else◌}
+use Rattle.qh_read.specs.declared.numerals.Numeral.{Numeral}
+use Rattle.qh_read.specs.declared.faces.reading.Layout.{Layout}
+use Rattle.qh_read.specs.declared.faces.reading.Layout.TheVariants.{Off, Counted, Lines}
+use Rattle.qh_read.specs.declared.faces.reading.Turn.{Turn}
+use Rattle.qh_read.specs.declared.faces.reading.Turn.TheVariants.{Counterclockwise, Clockwise}
+
+-- the words that stand on a line, as far as they come first
+abbrev pub on_line : ℕ → List Numeral → List Numeral
+on_line line [] = []
+on_line line (w ∷ ws) = if w.line == line then w ∷ on_line line ws else []
+
+-- and the words after these
+abbrev pub after_line : ℕ → List Numeral → List Numeral
+after_line line [] = []
+after_line line (w ∷ ws) = if w.line == line then after_line line ws else w ∷ ws
+
+-- the line of the last word
+abbrev pub last_line : ℕ → List Numeral → ℕ
+last_line line [] = line
+last_line line (w ∷ ws) = last_line w.line ws
+
+-- the words are these numbers
+abbrev pub AreNumbers : List Numeral → List ℕ → Type 0
+AreNumbers ws ns = map (λ w. w.number) ws ≡ map Some ns
+
+-- first come the number of corners, the corners, and whatever stands behind these on their last line
+pub record IsCountedFace (ws : List Numeral) (corners : List ℕ) (rest : List Numeral) : Type 0 where
+  pub count : Numeral
+  pub own : List Numeral
+  pub left : List Numeral
+  pub words : ws ≡ count ∷ own ++ left
+  pub number : count.number ≡ Some (length corners)
+  pub numbers : AreNumbers own corners
+  pub after : rest ≡ after_line (last_line count.line own) left
+
+-- first come the corners, which are all words of a line
+pub record IsLineFace (ws : List Numeral) (corners : List ℕ) (rest : List Numeral) : Type 0 where
+  pub first : Numeral
+  pub left : List Numeral
+  pub words : ws ≡ first ∷ left
+  pub numbers : AreNumbers (first ∷ on_line first.line left) corners
+  pub after : rest ≡ after_line first.line left
+
+abbrev pub IsFace : Layout → List Numeral → List ℕ → List Numeral → Type 0
+IsFace Off ws corners rest = IsCountedFace ws corners rest
+IsFace Counted ws corners rest = IsCountedFace ws corners rest
+IsFace Lines ws corners rest = IsLineFace ws corners rest
+
+-- corners in the order in which they go counterclockwise
+abbrev pub turned : Turn → List ℕ → List ℕ
+turned Counterclockwise corners = corners
+turned Clockwise corners = reverse corners
+
+-- the words are these faces, one after another, and no more
+abbrev pub AreFaces : Layout → Turn → List Numeral → List (List ℕ) → Type 0
+AreFaces layout turn ws [] = ws ≡ []
+AreFaces layout turn ws (f ∷ fs) =
+    (corners : List ℕ) × (rest : List Numeral) × IsFace layout ws corners rest × (f ≡ turned turn corners) × AreFaces layout turn rest fs
+
+-- they are the number of faces, and then these
+pub record IsList (layout : Layout) (turn : Turn) (ws : List Numeral) (faces : List (List ℕ)) : Type 0 where
+  pub count : Numeral
+  pub rest : List Numeral
+  pub words : ws ≡ count ∷ rest
+  pub number : count.number ≡ Some (length faces)
+  pub listed : AreFaces layout turn rest faces

@@ -1,0 +1,33 @@
+-- Lists of faces that are taken from words.
+use Rattle.std.specs.Prelude.{ℕ, ◌≡◌, ◌≤◌, ◌<◌, ◌⊎◌, List, [], ◌∷◌, drop, length, Some}
+use Rattle.qh_model.specs.declared.limits.TheConstants.{BYTE_LIMIT}
+use Rattle.qh_model.specs.declared.read_fault.ReadFault.{ReadFault}
+use Rattle.qh_model.specs.declared.read_fault.ReadFault.TheVariants.{Big, Memory}
+use Rattle.qh_model.specs.headline.Vector.{Vector}
+use Rattle.qh_read.specs.contract.Numerals.{numerals_in}
+use Rattle.qh_read.specs.declared.numerals.Numeral.{Numeral}
+use Rattle.qh_read.specs.declared.faces.reading.Layout.{Layout}
+use Rattle.qh_read.specs.declared.faces.reading.Reading.{Reading}
+use Rattle.qh_read.specs.contract.FaceFaults.{list_fault}
+use Rattle.qh_read.specs.contract.FaceFiles.{IsOffList, IsWholeList}
+use Rattle.qh_read.specs.contract.FaceWords.{IsList}
+
+-- the words without the skipped ones, which stand after the first
+abbrev pub behind : ℕ → List Numeral → List Numeral
+behind skipped [] = []
+behind skipped (w ∷ ws) = w ∷ drop skipped ws
+
+-- the faces of an OFF file
+abbrev pub AreOffFaces : Reading → List ℕ → List Vector → List (List ℕ) → Type 0
+AreOffFaces reading bytes vertices faces =
+    (ws : List Numeral) × IsOffList bytes vertices ws × IsList reading.layout reading.turn ws faces
+
+-- and of one that is a list
+abbrev pub AreWholeFaces : Reading → List ℕ → List Vector → List (List ℕ) → Type 0
+AreWholeFaces reading bytes vertices faces =
+    (ws : List Numeral) × IsWholeList bytes vertices ws × IsList reading.layout reading.turn ws faces
+
+-- an allocation failed, or a list has too many bytes or this fault
+abbrev pub IsWholeFault : Layout → List ℕ → ReadFault → Type 0
+IsWholeFault layout bytes e =
+    (e ≡ Memory) ⊎ ((BYTE_LIMIT < length bytes) × (e ≡ Big)) ⊎ ((length bytes ≤ BYTE_LIMIT) × (list_fault layout (numerals_in bytes) ≡ Some e))

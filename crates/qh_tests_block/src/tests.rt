@@ -1,4 +1,0 @@
-//! The tests.
-
-mod block;
-mod orders;

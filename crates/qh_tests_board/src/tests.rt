@@ -1,3 +1,0 @@
-//! The tests.
-
-mod board;

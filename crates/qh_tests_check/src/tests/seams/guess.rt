@@ -1,0 +1,139 @@
+//! What is guessed of the cube.
+use super::{ALL, halves_of};
+use qh_division::{Divided, Run};
+use qh_fixtures::faces::{CUBE_FACES, polygons_of};
+use qh_fixtures::ids::ids_of;
+use qh_fixtures::points::cube;
+use qh_guess::curve::{along_curve, shared_ids};
+use qh_guess::gap::{border_of, bridge_over};
+use qh_guess::{is_worth, marks_of, outline_of};
+use qh_model::{Memory, Polygon};
+use qh_polygon::rising_ids;
+use std::alloc::{AllocError, Global};
+use std::test::Fail;
+
+/// What is found of the first part: how many of its facets stay, how many corners of the other have
+/// witnesses, how many corners are beside the gap, and whether the seam pays.
+#[derive(Clone, Copy, Debug, PartialEq, Eq, Drop)]
+struct Found {
+    staying: usize,
+    witnessed: usize,
+    beside: usize,
+    is_worth: bool,
+}
+
+/// Returns how many ids have witnesses.
+fn count(runs: &[Vec<Run>]) -> usize {
+    let mut count = 0usize;
+    for run in runs.iter().flatten() {
+        count = count.saturating_add(run.count);
+    }
+    count
+}
+
+/// Returns what is found of the first part of the cube.
+fn first_part(alloc: Global) -> Result<Option<Found>, Memory> {
+    let pts = cube(0, 1);
+    let Some(halves) = halves_of(alloc, &pts)? else {
+        return Ok(None);
+    };
+    let set = Divided {
+        pts: &pts,
+        parts: &halves.parts,
+        shared: &halves.shared,
+    };
+    let outlines = [outline_of(alloc, set, 0)?, outline_of(alloc, set, 1)?];
+    let marks = marks_of(alloc, set, &outlines, 0)?;
+    Ok(Some(Found {
+        staying: marks.stay.iter().filter(|stays| **stays).count(),
+        witnessed: count(&marks.runs),
+        beside: rising_ids(alloc, &marks.seam)?.len(),
+        is_worth: is_worth(set, &outlines),
+    }))
+}
+
+#[test]
+fn the_square_of_the_first_part_stays(rt: HostRuntime) -> Result<(), Fail> {
+    let found = first_part(rt.alloc())?;
+    let right = Found {
+        staying: 2,
+        witnessed: 2,
+        beside: 6,
+        is_worth: false,
+    };
+    assert!(rt; found == Some(right));
+    Ok(())
+}
+
+/// Returns the numbers round polygons, one after the other.
+fn numbers(alloc: Global, polygons: &[Polygon]) -> Result<Vec<u32>, AllocError> {
+    let mut numbers = Vec::new(alloc);
+    for polygon in polygons {
+        for id in polygon.ids() {
+            numbers.push(id.number())?;
+        }
+    }
+    Ok(numbers)
+}
+
+/// Returns the numbers round the polygons that close the gap where some faces of the cube go, and others stay.
+fn bridged(alloc: Global, go: &[&[u32]]) -> Result<Option<Vec<u32>>, Memory> {
+    let pts = cube(0, 1);
+    let seam = ids_of(alloc, &pts, &ALL)?;
+    let go = polygons_of(alloc, go)?;
+    let borders = [border_of(alloc, &[true], &go)?];
+    match bridge_over(alloc, &pts, &borders, &seam)? {
+        Some(polygons) => Ok(Some(numbers(alloc, &polygons)?)),
+        None => Ok(None),
+    }
+}
+
+/// Returns true if the numbers round squares are just those of these squares, in any order.
+fn are_squares(found: &[u32], squares: &[&[u32]]) -> bool {
+    for square in squares {
+        let is_there = found.chunks(4).any(|part| part == *square);
+        if !is_there {
+            return false;
+        }
+    }
+    found.len() == 16
+}
+
+#[test]
+fn four_squares_are_between_two(rt: HostRuntime) -> Result<(), Fail> {
+    let found = bridged(rt.alloc(), &CUBE_FACES[1..5])?.ok_or("a gap")?;
+    assert!(rt; are_squares(&found, &CUBE_FACES[1..5]), "{found:?}");
+    Ok(())
+}
+
+#[test]
+fn no_face_has_a_diagonal(rt: HostRuntime) -> Result<(), Fail> {
+    let found = bridged(rt.alloc(), &[&[0, 7, 1]])?;
+    assert!(rt; found.is_none());
+    Ok(())
+}
+
+#[test]
+fn first_four_shared_corners_are_solid(rt: HostRuntime) -> Result<(), Fail> {
+    let pts = cube(0, 1);
+    let ids = ids_of(rt.alloc(), &pts, &ALL)?;
+    let shared = shared_ids(rt.alloc(), &pts, &ids)?.ok_or("a plane")?;
+    let [i, j, k, l, ..] = shared.as_slice() else {
+        return Err(Fail::from("fewer than four"));
+    };
+    let four = [i.number(), j.number(), k.number(), l.number()];
+    let corners = ids_of(rt.alloc(), &pts, &four)?;
+    let again = shared_ids(rt.alloc(), &pts, &corners)?;
+    assert!(rt; again.is_some());
+    Ok(())
+}
+
+#[test]
+fn the_curve_has_each_id_once(rt: HostRuntime) -> Result<(), Fail> {
+    let pts = cube(0, 1);
+    let ids = ids_of(rt.alloc(), &pts, &ALL)?;
+    let listed = along_curve(&rt, rt.alloc(), &pts, &ids, &ids, 2)?;
+    let rising = rising_ids(rt.alloc(), &listed)?;
+    assert!(rt; listed.len() == 8 && rising.as_slice() == ids.as_slice());
+    Ok(())
+}

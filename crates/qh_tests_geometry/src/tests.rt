@@ -1,0 +1,9 @@
+//! The tests.
+
+mod block;
+mod lattice;
+mod mesh;
+mod model;
+mod orders;
+mod plane;
+mod pred;

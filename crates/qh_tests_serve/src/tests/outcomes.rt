@@ -1,0 +1,177 @@
+//! Calls of `answer` and `serve` by the parts of their settings, with their outcomes as texts, as tests compare them.
+
+use qh_model::Form;
+use qh_read::MemSource;
+use qh_run::Gate;
+use qh_serve::{Fault, Settings, SettingsError, answer, serve};
+use qh_write::{MemSink, Out};
+use std::alloc::{AllocError, Global};
+use std::thread::Threads;
+
+/// The parts of settings, from which [`Asked::settings`] makes them.
+#[derive(Clone, Copy, Debug)]
+pub struct Asked<'a> {
+    /// The number of workers.
+    pub workers: u32,
+    /// The number of points of a block.
+    pub block: u32,
+    /// The outputs, in their order.
+    pub outs: &'a [Out],
+    /// The form of the input.
+    pub form: Form,
+}
+
+/// The summary, with the settings that the program takes where its command line names no others.
+pub const SUMMARY: Asked<'static> = Asked {
+    workers: 4,
+    block: 4096,
+    outs: &[Out::Summary],
+    form: Form::Qhull,
+};
+
+/// The parts of [`SUMMARY`], with another output.
+macro_rules! asked_for {
+    ($out:ident) => {
+        Asked {
+            outs: &[Out::$out],
+            ..SUMMARY
+        }
+    };
+}
+
+/// The same with the rank.
+pub const RANK: Asked<'static> = asked_for!(Rank);
+
+/// The same with the extreme points.
+pub const FX: Asked<'static> = asked_for!(Fx);
+
+/// The same with the faces as an OFF file.
+pub const OFF: Asked<'static> = asked_for!(Off);
+
+/// The same with fans of triangles.
+pub const OFFT: Asked<'static> = asked_for!(OffTriangles);
+
+impl Asked<'_> {
+    /// Returns the settings of these parts.
+    ///
+    /// # Errors
+    ///
+    /// Those of [`Settings::new`].
+    pub fn settings(&self, alloc: Global) -> Result<Settings, SettingsError> {
+        Settings::new(alloc, self.workers, self.block, self.outs, self.form)
+    }
+}
+
+/// A text, or the line of a fault with its exit status.
+#[derive(Drop)]
+pub struct Outcome {
+    /// The text, empty after a fault.
+    pub output: String,
+    /// The line of the fault, empty without one.
+    pub error: String,
+    /// The exit status.
+    pub status: u8,
+}
+
+/// What an outcome is compared with: its output, its error and its status.
+pub type Told<'a> = (&'a str, &'a str, u8);
+
+impl Outcome {
+    /// Returns the outcome as texts and a number.
+    pub fn told(&self) -> Told<'_> {
+        (self.output.as_str(), self.error.as_str(), self.status)
+    }
+}
+
+/// Returns the outcome of a fault.
+///
+/// # Errors
+///
+/// `AllocError` if an allocation fails.
+pub fn refusal(alloc: Global, fault: &Fault) -> Result<Outcome, AllocError> {
+    Ok(Outcome {
+        output: String::new(alloc),
+        error: fault.to_string(alloc)?,
+        status: fault.status(),
+    })
+}
+
+/// Returns the outcome of a text; bytes that are no text are told as `not text`.
+///
+/// # Errors
+///
+/// `AllocError` if an allocation fails.
+pub fn shown(alloc: Global, bytes: &[u8]) -> Result<Outcome, AllocError> {
+    let text = str::from_utf8(bytes).unwrap_or("not text");
+    Ok(Outcome {
+        output: String::from_str(alloc, text)?,
+        error: String::new(alloc),
+        status: 0,
+    })
+}
+
+/// A call of `answer` or `serve`, watched by a gate.
+#[derive(Clone, Copy, Drop)]
+pub struct Call<'a, G> {
+    input: &'a [u8],
+    settings: &'a Settings,
+    gate: &'a G,
+}
+
+impl<'a, G: Gate> Call<'a, G> {
+    /// Returns the call for the bytes of an input under settings, whose workers a gate watches.
+    pub fn new(input: &'a [u8], settings: &'a Settings, gate: &'a G) -> Call<'a, G> {
+        Call {
+            input,
+            settings,
+            gate,
+        }
+    }
+
+    /// Returns the outcome of `answer`.
+    ///
+    /// # Errors
+    ///
+    /// `AllocError` if the outcome itself cannot be allocated.
+    pub fn answered<R: Threads + Sync>(
+        &self,
+        rt: &R,
+        alloc: Global,
+    ) -> Result<Outcome, AllocError> {
+        match answer(rt, alloc, self.input, self.settings, self.gate) {
+            Ok(text) => shown(alloc, &text),
+            Err(fault) => refusal(alloc, &fault),
+        }
+    }
+
+    /// Returns the outcome of `serve` between memory devices.
+    ///
+    /// # Errors
+    ///
+    /// `AllocError` if the outcome itself cannot be allocated.
+    pub fn served<R: Threads + Sync>(&self, rt: &R, alloc: Global) -> Result<Outcome, AllocError> {
+        let mut source = MemSource::new(self.input);
+        let mut sink = MemSink::new(alloc);
+        match serve(rt, alloc, &mut source, &mut sink, self.settings, self.gate) {
+            Ok(()) => shown(alloc, sink.bytes()),
+            Err(fault) => refusal(alloc, &fault),
+        }
+    }
+}
+
+/// Appends a point to the text of a point file, as a line.
+///
+/// # Errors
+///
+/// `AllocError` if an allocation fails.
+pub fn push_point(
+    text: &mut String,
+    alloc: Global,
+    coordinates: [i64; 3],
+) -> Result<(), AllocError> {
+    for coordinate in coordinates {
+        text.push_str(coordinate.to_string(alloc)?.as_str())?;
+        text.push_str(" ")?;
+    }
+    text.push_str("\n")
+}

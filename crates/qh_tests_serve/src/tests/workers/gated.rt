@@ -1,0 +1,257 @@
+//! Workers that are held back until others have done something, which they see only where they run at
+//! once.
+//!
+//! The points are those of an octahedron and the middles of its edges, in blocks of 3. The gates take
+//! the hull of no other list than that of the extreme ids.
+ghost use Rattle.std.specs.Prelude.{◌≤◌, length};
+ghost use Rattle.qh_model.specs.declared.limits.TheConstants.{POINT_LIMIT};
+
+use crate::tests::outcomes::{Asked, Call, OFF, Outcome, refusal, shown};
+use qh_fixtures::files::{OCTAHEDRON, OCTAHEDRON_OFF};
+use qh_fixtures::points::octahedron;
+use qh_model::{Body, Cut, Id, Memory, Point};
+use qh_plane::distinct;
+use qh_read::ReadFault;
+use qh_run::{Gate, NoGate, RunError, run_hull};
+use qh_serve::{Fault, Settings};
+use qh_write::text;
+use std::alloc::Global;
+use std::process::Abort;
+use std::sync::atomic::{AtomicU64, Ordering};
+use std::test::Fail;
+use std::thread::Threads;
+
+/// How many turns a worker is held back at most.
+const TURNS: u64 = 1000000000;
+
+/// The extreme ids.
+const EXTREMES: [usize; 6] = [0, 2, 3, 5, 6, 9];
+
+/// Which blocks are held back once they are claimed.
+#[derive(Clone, Copy, Debug, Drop)]
+enum Holds {
+    /// Block 0, until block 1 was delivered.
+    FirstUntilSecond,
+    /// Blocks 0, 1 and 2, until all three were claimed.
+    ThreeUntilAll,
+}
+
+/// A gate that holds blocks back.
+#[derive(Drop)]
+struct Hold {
+    holds: Holds,
+    /// How many of the events came that it waits for.
+    came: AtomicU64,
+    /// How many workers went on before all came.
+    late: AtomicU64,
+}
+
+impl Hold {
+    fn new(holds: Holds) -> Hold {
+        Hold {
+            holds,
+            came: AtomicU64::new(0),
+            late: AtomicU64::new(0),
+        }
+    }
+
+    /// Counts an event.
+    fn tell(&self) {
+        self.came.fetch_add(1, Ordering::SeqCst);
+    }
+
+    /// Waits until a number of events came, for `TURNS` turns at most.
+    fn wait(&self, events: u64) {
+        for _ in 0..TURNS {
+            if self.came.load(Ordering::SeqCst) >= events {
+                return;
+            }
+        }
+        self.late.fetch_add(1, Ordering::SeqCst);
+    }
+
+    /// Returns true if the events came, and before any worker went on.
+    fn came_in_time(&self) -> bool {
+        self.came.load(Ordering::SeqCst) > 0 && self.late.load(Ordering::SeqCst) == 0
+    }
+}
+
+impl Gate for Hold {
+    fn claimed(&self, _pass: u32, block: u32) {
+        match self.holds {
+            Holds::FirstUntilSecond if block == 0 => self.wait(1),
+            Holds::ThreeUntilAll if block < 3 => {
+                self.tell();
+                self.wait(3);
+            }
+            _ => (),
+        }
+    }
+
+    fn delivered(&self, _pass: u32, block: u32) {
+        match self.holds {
+            Holds::FirstUntilSecond if block == 1 => self.tell(),
+            _ => (),
+        }
+    }
+
+    fn finish(&self, alloc: Global, pts: &[Point], ids: &[Id]) -> Result<Body, Memory> {
+        let mut numbers = Vec::new(alloc);
+        for id in ids {
+            numbers.push(id.index())?;
+        }
+        if numbers.as_slice() != EXTREMES.as_slice() {
+            return Err(Memory);
+        }
+        NoGate.finish(alloc, pts, ids)
+    }
+}
+
+/// A gate that takes no hull.
+struct NoHull;
+
+impl Gate for NoHull {
+    fn claimed(&self, _pass: u32, _block: u32) {}
+
+    fn delivered(&self, _pass: u32, _block: u32) {}
+
+    fn finish(&self, _alloc: Global, _pts: &[Point], _ids: &[Id]) -> Result<Body, Memory> {
+        Err(Memory)
+    }
+}
+
+/// The calls that a gate watches.
+#[derive(Clone, Copy, Debug, Drop)]
+pub(super) enum Watched {
+    RunHull,
+    Answer,
+    Serve,
+}
+
+/// Each of them.
+pub(super) const WATCHED: [Watched; 3] = [Watched::RunHull, Watched::Answer, Watched::Serve];
+
+/// Returns the text of the hull that `run_hull` takes of the points, in blocks of 3.
+fn text_by<R: Threads + Sync, G: Gate>(
+    rt: &R,
+    alloc: Global,
+    points: &[Point],
+    settings: &Settings,
+    gate: &G,
+) -> Result<Vec<u8>, RunError>
+    requires { length points.now ≤ POINT_LIMIT }
+{
+    let ids = distinct(rt, alloc, points)?;
+    let bounds = Vec::from_slice(alloc, &[0, 3, 6, 9, 12, 15, 18]).map_err(|_| RunError::Memory)?;
+    let cut = Cut::from_bounds(bounds).map_err(|_| RunError::Memory)?;
+    if ids.len() != 18 {
+        return Err(RunError::Memory);
+    }
+    let hull = run_hull(rt, alloc, points, &ids, &cut, settings.workers(), gate)?;
+    Ok(text(alloc, &hull, points, settings.outs())?)
+}
+
+/// Returns the outcome of `run_hull`, watched by a gate.
+fn hulled_by<R: Threads + Sync, G: Gate>(
+    rt: &R,
+    alloc: Global,
+    settings: &Settings,
+    gate: &G,
+) -> Result<Outcome, Fail> {
+    match text_by(rt, alloc, &octahedron(), settings, gate) {
+        Ok(text) => Ok(shown(alloc, &text)?),
+        Err(RunError::Memory) => Ok(refusal(alloc, &Fault::Read(ReadFault::Memory))?),
+        Err(RunError::BadWorkers) => Err("the workers are in range".into()),
+    }
+}
+
+/// Returns the outcome of a call on the points under settings, watched by a gate.
+pub(super) fn outcome_by<R: AllocGlobal + Threads + Sync, G: Gate>(
+    rt: &R,
+    watched: Watched,
+    asked: Asked,
+    gate: &G,
+) -> Result<Outcome, Fail> {
+    let settings = asked.settings(rt.alloc())?;
+    let call = Call::new(OCTAHEDRON.as_bytes(), &settings, gate);
+    match watched {
+        Watched::RunHull => hulled_by(rt, rt.alloc(), &settings, gate),
+        Watched::Answer => Ok(call.answered(rt, rt.alloc())?),
+        Watched::Serve => Ok(call.served(rt, rt.alloc())?),
+    }
+}
+
+/// The texts of `off` by blocks of 3 points.
+pub(super) const BY_THREES: Asked<'static> = Asked { block: 3, ..OFF };
+
+/// Settings, and what a gate holds back under them.
+const HELD: [(Asked, Holds); 2] = [
+    (
+        Asked {
+            workers: 2,
+            ..BY_THREES
+        },
+        Holds::FirstUntilSecond,
+    ),
+    (
+        Asked {
+            workers: 3,
+            ..BY_THREES
+        },
+        Holds::ThreeUntilAll,
+    ),
+];
+
+/// Asserts that the blocks that a gate holds back are waited for by no other worker, and change nothing.
+fn assert_held<R: AllocGlobal + Abort + Threads + Sync>(
+    rt: &R,
+    watched: Watched,
+    asked: Asked,
+    holds: Holds,
+) -> Result<(), Fail> {
+    let gate = Hold::new(holds);
+    let outcome = outcome_by(rt, watched, asked, &gate)?;
+    assert!(rt; gate.came_in_time(), "{watched:?}, {holds:?}");
+    assert_eq!(rt; outcome.told(), (OCTAHEDRON_OFF, "", 0));
+    Ok(())
+}
+
+#[test]
+fn workers_run_at_once(rt: HostRuntime) -> Result<(), Fail> {
+    for watched in WATCHED {
+        for (asked, holds) in &HELD {
+            assert_held(&rt, watched, *asked, *holds)?;
+        }
+    }
+    Ok(())
+}
+
+/// Asserts that a call is out of memory where its gate takes no hull.
+fn assert_no_hull<R: AllocGlobal + Abort + Threads + Sync>(
+    rt: &R,
+    watched: Watched,
+    rows: &[Asked],
+) -> Result<(), Fail> {
+    for asked in rows {
+        let outcome = outcome_by(rt, watched, *asked, &NoHull)?;
+        let want = ("", "qconvex: 8: Memory", 3);
+        assert_eq!(rt; outcome.told(), want, "{watched:?} at {asked:?}");
+    }
+    Ok(())
+}
+
+#[test]
+fn the_gate_takes_the_hull(rt: HostRuntime) -> Result<(), Fail> {
+    let alone = Asked {
+        workers: 1,
+        ..BY_THREES
+    };
+    let three = Asked {
+        workers: 3,
+        ..BY_THREES
+    };
+    for watched in WATCHED {
+        assert_no_hull(&rt, watched, &[alone, three, OFF])?;
+    }
+    Ok(())
+}

@@ -1,0 +1,90 @@
+//! Runs in many small blocks: what workers find in two blocks is joined in the tree.
+use super::paraboloid::{asked_in, points};
+use super::stored_points::STORED;
+use crate::tests::outcomes::{Asked, Call};
+use qh_model::{Body, Id, Memory, Point};
+use qh_run::{Gate, NoGate};
+use std::alloc::{AllocError, Global};
+use std::sync::atomic::{AtomicU64, Ordering};
+use std::test::Fail;
+use std::thread::Threads;
+
+/// A gate that counts the nodes both of whose children are blocks that were delivered: the pass that came
+/// second took the extreme ids of both together.
+#[derive(Drop)]
+pub struct Joins {
+    blocks: u32,
+    /// For each node above the leaves, the number of its blocks that were delivered.
+    delivered: Vec<AtomicU64>,
+    joins: AtomicU64,
+}
+
+impl Joins {
+    /// Returns a gate for a board of this many blocks.
+    pub fn of(alloc: Global, blocks: u32) -> Result<Joins, AllocError> {
+        let mut delivered = Vec::with_capacity(alloc, blocks as usize)?;
+        for _ in 0..blocks {
+            delivered.push(AtomicU64::new(0))?;
+        }
+        Ok(Joins {
+            blocks,
+            delivered,
+            joins: AtomicU64::new(0),
+        })
+    }
+
+    /// Returns the number of nodes.
+    pub fn joins(&self) -> u64 {
+        self.joins.load(Ordering::SeqCst)
+    }
+}
+
+impl Gate for Joins {
+    fn claimed(&self, _pass: u32, _block: u32) {}
+
+    fn delivered(&self, _pass: u32, block: u32) {
+        let parent = self.blocks.saturating_add(block) / 2;
+        if let Some(delivered) = self.delivered.get(parent as usize) {
+            if delivered.fetch_add(1, Ordering::SeqCst) == 1 {
+                self.joins.fetch_add(1, Ordering::SeqCst);
+            }
+        }
+    }
+
+    fn finish(&self, alloc: Global, pts: &[Point], ids: &[Id]) -> Result<Body, Memory> {
+        NoGate.finish(alloc, pts, ids)
+    }
+}
+
+/// Returns how many nodes joined the values of two blocks in a run that answers, over a number of blocks.
+fn joins_of<R: AllocGlobal + Threads + Sync>(
+    rt: &R,
+    asked: Asked,
+    input: &[u8],
+    blocks: u32,
+) -> Result<u64, Fail> {
+    let gate = Joins::of(rt.alloc(), blocks)?;
+    let settings = asked.settings(rt.alloc())?;
+    let outcome = Call::new(input, &settings, &gate).answered(rt, rt.alloc())?;
+    if outcome.status != 0 {
+        return Err("the run answers".into());
+    }
+    Ok(gate.joins())
+}
+
+#[test]
+fn the_stored_run_joins_all_pairs(rt: HostRuntime) -> Result<(), Fail> {
+    // 264 distinct points in blocks of 3 are 88 blocks, of which each has a sibling.
+    let joins = joins_of(&rt, asked_in((7, 3)), STORED.as_bytes(), 88)?;
+    assert_eq!(rt; joins, 44);
+    Ok(())
+}
+
+#[test]
+fn the_paraboloid_joins_until_a_pass_gives_up(rt: HostRuntime) -> Result<(), Fail> {
+    // No pass gives up below a node of 256 blocks, which have 1,024 points.
+    let input = points(rt.alloc(), 20000)?;
+    let joins = joins_of(&rt, asked_in((7, 4)), input.as_bytes(), 5000)?;
+    assert!(rt; joins >= 100, "{joins} joins");
+    Ok(())
+}

@@ -1,0 +1,112 @@
+//! The 20,000 points of a paraboloid, all of them extreme, in four settings, and 60,000 whose hull is taken by
+//! threads.
+use crate::tests::outcomes::{Asked, Call, OFFT, Outcome, SUMMARY, push_point};
+use qh_run::{Gate, NoGate};
+use qh_serve::Threaded;
+use qh_write::Out;
+use std::alloc::{AllocError, Global};
+use std::process::Abort;
+use std::test::Fail;
+use std::thread::Threads;
+
+/// The most points that are made: their coordinates fit.
+const COUNT_LIMIT: u32 = 60000;
+
+const BEGINNING: &str =
+    "Convex hull of 20000 points in 3-d:\n  dimension: 3\n  distinct points: 20000\n  extreme points: 20000\n  facets: 19706\n  edges: 39704\n";
+
+/// The outputs whose text begins with the summary.
+const OUTPUTS: Asked<'static> = Asked {
+    outs: &[Out::Summary, Out::Fx, Out::Off],
+    ..SUMMARY
+};
+
+/// Numbers of workers and sizes of blocks.
+const WAYS: [(u32, u32); 4] = [(1, 20000), (2, 4096), (7, 4), (64, 4096)];
+
+/// Returns the outputs by a number of workers, in blocks of a size.
+pub fn asked_in(way: (u32, u32)) -> Asked<'static> {
+    let (workers, block) = way;
+    Asked {
+        workers,
+        block,
+        ..OUTPUTS
+    }
+}
+
+/// Returns the first points (x, y, x x + y y) for y below 100.
+pub fn points(alloc: Global, count: u32) -> Result<String, AllocError> {
+    let mut text = format!(in alloc; "3\n{count}\n")?;
+    for number in 0..count.min(COUNT_LIMIT) {
+        let (x, y) = (number / 100, number % 100);
+        push_point(&mut text, alloc, [x, y, x * x + y * y].map(i64::from))?;
+    }
+    Ok(text)
+}
+
+/// Returns the outcome of `answer` for an input under settings, watched by a gate.
+fn outcome_of<R: AllocGlobal + Threads + Sync, G: Gate>(
+    rt: &R,
+    asked: Asked,
+    input: &[u8],
+    gate: &G,
+) -> Result<Outcome, Fail> {
+    let settings = asked.settings(rt.alloc())?;
+    Ok(Call::new(input, &settings, gate).answered(rt, rt.alloc())?)
+}
+
+/// Asserts that the text of an input in a way is another one.
+fn assert_same<R: AllocGlobal + Abort + Threads + Sync>(
+    rt: &R,
+    way: (u32, u32),
+    input: &[u8],
+    other: &Outcome,
+) -> Result<(), Fail> {
+    let outcome = outcome_of(rt, asked_in(way), input, &NoGate)?;
+    assert!(rt; outcome.output == other.output, "{way:?}");
+    Ok(())
+}
+
+#[test]
+fn has_one_text_in_all_settings(rt: HostRuntime) -> Result<(), Fail> {
+    let input = points(rt.alloc(), 20000)?;
+    let first = outcome_of(&rt, asked_in(WAYS[0]), input.as_bytes(), &NoGate)?;
+    assert!(rt; first.output.starts_with(BEGINNING));
+    for way in &WAYS[1..] {
+        assert_same(&rt, *way, input.as_bytes(), &first)?;
+    }
+    Ok(())
+}
+
+/// How `offt` begins: one vertex for each point, 39,996 triangles, and their edges.
+const TRIANGLES: &str = "OFF\n20000 39996 59994\n";
+
+#[test]
+fn has_its_triangles(rt: HostRuntime) -> Result<(), Fail> {
+    let input = points(rt.alloc(), 20000)?;
+    let outcome = outcome_of(&rt, OFFT, input.as_bytes(), &NoGate)?;
+    assert!(rt; outcome.output.starts_with(TRIANGLES));
+    // Two lines of counts, and one for each vertex; all that follow are triangles.
+    let faces = outcome.output.lines().skip(2 + 20000);
+    let count = faces.filter(|line| line.starts_with("3 ")).count();
+    assert_eq!(rt; count, 39996);
+    Ok(())
+}
+
+const LARGE_BEGINNING: &str =
+    "Convex hull of 60000 points in 3-d:\n  dimension: 3\n  distinct points: 60000\n  extreme points: 60000\n";
+
+#[test]
+fn has_the_same_text_by_parts(rt: HostRuntime) -> Result<(), Fail> {
+    let input = points(rt.alloc(), 60000)?;
+    let asked = asked_in((4, 4096));
+    let whole = outcome_of(&rt, asked, input.as_bytes(), &NoGate)?;
+    let gate = Threaded {
+        rt: &rt,
+        threads: 4,
+    };
+    let by_parts = outcome_of(&rt, asked, input.as_bytes(), &gate)?;
+    let holds = whole.output.starts_with(LARGE_BEGINNING) && by_parts.output == whole.output;
+    assert!(rt; holds);
+    Ok(())
+}

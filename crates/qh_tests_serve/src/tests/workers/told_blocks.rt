@@ -1,0 +1,125 @@
+//! A gate that keeps what it was told: which pass claimed and delivered each block.
+use super::gated::{BY_THREES, WATCHED, Watched, outcome_by};
+use crate::tests::outcomes::Asked;
+use qh_fixtures::files::OCTAHEDRON_OFF;
+use qh_model::{Body, Id, Memory, Point};
+use qh_run::{Gate, NoGate};
+use std::alloc::{AllocError, Global};
+use std::process::Abort;
+use std::sync::atomic::{AtomicU64, Ordering};
+use std::test::Fail;
+use std::thread::Threads;
+
+/// How many blocks of 3 the points have.
+const BLOCKS: u32 = 6;
+
+/// What is kept of a block before it is claimed.
+const FREE: u64 = 0;
+
+/// What is kept of a block after it was delivered.
+const DELIVERED: u64 = 1000;
+
+/// Returns what is kept of a block between: the pass that claimed it, and 1.
+fn claimed_by(pass: u32) -> u64 {
+    u64::from(pass).wrapping_add(1)
+}
+
+/// A gate that keeps what it was told of each block.
+#[derive(Drop)]
+struct Keeper {
+    passes: u32,
+    blocks: Vec<AtomicU64>,
+    /// How often it was told what is wrong: of a pass or a block that there is not, of a block that was
+    /// claimed before, or that another pass had claimed.
+    wrong: AtomicU64,
+}
+
+impl Keeper {
+    /// Creates a keeper for a run of a number of passes.
+    fn new(alloc: Global, passes: u32) -> Result<Keeper, AllocError> {
+        let mut blocks = Vec::new(alloc);
+        for _ in 0..BLOCKS {
+            blocks.push(AtomicU64::new(FREE))?;
+        }
+        Ok(Keeper {
+            passes,
+            blocks,
+            wrong: AtomicU64::new(0),
+        })
+    }
+
+    /// Keeps what a pass did with a block, of which it should have kept `before`.
+    fn keep(&self, pass: u32, block: u32, before: u64, after: u64) {
+        let is_right = match self.blocks.get(block as usize) {
+            Some(kept) if pass < self.passes => kept.swap(after, Ordering::SeqCst) == before,
+            _ => false,
+        };
+        if !is_right {
+            self.wrong.fetch_add(1, Ordering::SeqCst);
+        }
+    }
+
+    /// Returns true if each block was claimed once and then delivered once, by the same pass.
+    fn was_told_right(&self) -> bool {
+        self.wrong.load(Ordering::SeqCst) == 0
+            && self
+                .blocks
+                .iter()
+                .all(|kept| kept.load(Ordering::SeqCst) == DELIVERED)
+    }
+}
+
+impl Gate for Keeper {
+    fn claimed(&self, pass: u32, block: u32) {
+        self.keep(pass, block, FREE, claimed_by(pass));
+    }
+
+    fn delivered(&self, pass: u32, block: u32) {
+        self.keep(pass, block, claimed_by(pass), DELIVERED);
+    }
+
+    fn finish(&self, alloc: Global, pts: &[Point], ids: &[Id]) -> Result<Body, Memory> {
+        NoGate.finish(alloc, pts, ids)
+    }
+}
+
+/// Numbers of workers, with how many passes there are: no more than blocks.
+const PASSES: [(u32, u32); 5] = [(1, 1), (2, 2), (5, 5), (6, 6), (64, 6)];
+
+/// Asserts what a call tells its gate, by a number of workers and of passes.
+fn assert_told<R: AllocGlobal + Abort + Threads + Sync>(
+    rt: &R,
+    watched: Watched,
+    workers: u32,
+    passes: u32,
+) -> Result<(), Fail> {
+    let gate = Keeper::new(rt.alloc(), passes)?;
+    let asked = Asked {
+        workers,
+        ..BY_THREES
+    };
+    let outcome = outcome_by(rt, watched, asked, &gate)?;
+    assert!(rt; gate.was_told_right(), "{watched:?}, {workers} workers");
+    assert_eq!(rt; outcome.told(), (OCTAHEDRON_OFF, "", 0));
+    Ok(())
+}
+
+/// Asserts what a call tells its gate, by each number of workers and of passes.
+fn assert_each_told<R: AllocGlobal + Abort + Threads + Sync>(
+    rt: &R,
+    watched: Watched,
+    rows: &[(u32, u32)],
+) -> Result<(), Fail> {
+    for (workers, passes) in rows {
+        assert_told(rt, watched, *workers, *passes)?;
+    }
+    Ok(())
+}
+
+#[test]
+fn each_block_is_told_once_with_its_pass(rt: HostRuntime) -> Result<(), Fail> {
+    for watched in WATCHED {
+        assert_each_told(&rt, watched, &PASSES)?;
+    }
+    Ok(())
+}

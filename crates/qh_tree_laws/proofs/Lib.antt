@@ -1,3 +1,0 @@
-pub mod Lowest
-pub mod Answers
-pub mod Trees

@@ -1,0 +1,109 @@
+"""Whole numbers near floats, on a grid whose step is a power of two."""
+from __future__ import annotations
+
+import operator
+from fractions import Fraction
+from math import frexp, ldexp
+from typing import Any, NamedTuple
+
+import numpy as np
+from numpy.typing import NDArray
+
+from ._arrays import floats_of
+
+BITS_LIMIT = 30
+"""The greatest number of bits of the whole numbers: coordinates go to 2 to this power, either way."""
+
+FINEST = -1074
+"""All floats are whole multiples of 2 to this power."""
+
+
+class Snapped(NamedTuple):
+    """Whole numbers near floats: float i is about ``(points[i] + centre) * step``."""
+
+    points: NDArray[np.int32]  # (n, 3)
+    step: float  # a power of two
+    centre: tuple[int, int, int]
+    error: float  # the greatest distance along an axis from a float to its point, exactly
+
+
+class _Axis(NamedTuple):
+    """The steps of the least and of the greatest float on an axis, and by how much the axis was rounded if it has one float."""
+
+    low: int
+    high: int
+    error: float
+
+
+def _axis_of(low: float, high: float, exponent: int) -> _Axis:
+    """The ends of an axis in steps of 2 to an exponent, exactly rounded."""
+    if low < high:
+        return _Axis(round(ldexp(low, -exponent)), round(ldexp(high, -exponent)), 0.0)
+    whole = round(Fraction(low) / Fraction(2) ** exponent)
+    return _Axis(whole, whole, float(abs(Fraction(low) - whole * Fraction(2) ** exponent)))
+
+
+def _finest(lows: list[float], highs: list[float], bits: int) -> tuple[int, list[_Axis]]:
+    """The least exponent of 2 with which the whole numbers have at most `bits` bits, and the axes with it."""
+    extent = max(high / 2 - low / 2 for low, high in zip(lows, highs))
+    if lows == highs:
+        exponent = FINEST
+    else:  # what dividing by two rounds is at most one step of the finest grid
+        exponent = max(frexp(extent)[1] - bits - 2, FINEST)
+    while True:
+        axes = [_axis_of(low, high, exponent) for low, high in zip(lows, highs)]
+        if all(axis.high - axis.low <= 2 << bits for axis in axes):
+            return exponent, axes
+        exponent += 1
+
+
+def _errors(floats: NDArray[np.float64], steps: NDArray[np.float64], whole: NDArray[np.float64], exponent: int) -> float:
+    """The greatest distance between floats and whole steps. Each one is a float, so none is rounded."""
+    if np.array_equal(steps, whole) and np.array_equal(steps == 0, floats == 0):
+        return 0.0
+    moved = np.ldexp(np.abs(steps - whole), exponent)
+    return float(np.where(whole == 0, np.abs(floats), moved).max())
+
+
+def snap(points: Any, bits: int = BITS_LIMIT) -> Snapped:
+    """Returns whole numbers of at most `bits` bits for floats, on a grid whose step is a power of two.
+
+    If a grid that has room holds all floats, they stand on it, and the error is 0: the step is 1, or the greatest below 1 that
+    does, or the greatest of all if 1 has no room. Else each float goes to the nearest point of the finest grid that has room,
+    so the error is at most about 2^-(bits + 1) of the longest side of the box.
+
+    Raises
+    ------
+    TypeError
+        The points are not real numbers, or one of them is no float64 exactly.
+    ValueError
+        The shape is not (n, 3), there is no point, a number is not finite, or bits is not from 1 to 30.
+    """
+    floats, bits = floats_of(points), operator.index(bits)
+    if not 1 <= bits <= BITS_LIMIT:
+        raise ValueError(f"bits must be from 1 to {BITS_LIMIT}")
+    lows, highs = floats.min(axis=0).tolist(), floats.max(axis=0).tolist()
+    exponent, axes = _finest(lows, highs, bits)
+    constant = np.equal(lows, highs)  # such an axis may be too far out for so small a step
+    varying = np.where(constant, 0.0, floats) if constant.any() else floats
+    steps = np.ldexp(varying, -exponent)
+    whole = np.rint(steps)
+    error = max(_errors(varying, steps, whole, exponent), *(axis.error for axis in axes))
+    whole -= whole.min(axis=0)
+    exact = 0 if error else _shift(whole, axes, exponent)
+    ends = [(axis.low >> exact, axis.high >> exact) for axis in axes]
+    halves = [(high - low) // 2 for low, high in ends]
+    numbers = (np.ldexp(whole, -exact) - halves).astype(np.int32)
+    x, y, z = (low + half for (low, _), half in zip(ends, halves))
+    return Snapped(numbers, ldexp(1.0, exponent + exact), (x, y, z), error)
+
+
+def _shift(whole: NDArray[np.float64], axes: list[_Axis], exponent: int) -> int:
+    """By how many powers of two the step of an exact grid can be greater: up to 1 if that has room, else as far as it goes."""
+    common = int(np.bitwise_or.reduce(whole.astype(np.int64), axis=None))
+    for axis in axes:
+        common |= axis.low
+    most = (common & -common).bit_length() - 1
+    if exponent > 0:
+        return most
+    return min(most, -exponent) if common else -exponent

@@ -1,0 +1,126 @@
+"""The whole points of a mesh's vertices: on which grid, how many coordinates were rounded, and by how much at most.
+
+`snap` keeps the same rule for floats. If all coordinates are whole at a power of the base in which they are written, ten for
+decimals and two for binary numbers, and these whole numbers have room, they are taken as they are, at the least power from 1
+on, or below 1 where only that has room. Else they are rounded to the finest grid with room whose step is a power of two.
+"""
+from __future__ import annotations
+
+from dataclasses import dataclass
+from fractions import Fraction
+from itertools import chain
+from math import floor, gcd
+from typing import List, NamedTuple, Optional, Sequence, Tuple
+
+from .._limits import COORDINATE_LIMIT
+from .exact_numbers import Vertices
+
+Fractions = Tuple[Fraction, ...]
+
+
+class Map(NamedTuple):
+    """How a mesh is turned into whole numbers."""
+
+    scale: Fraction
+    centre: Fractions
+
+
+@dataclass(frozen=True)
+class Rounded:
+    """The whole points of vertices, how many coordinates were rounded, and by how much at most."""
+
+    points: List[Tuple[int, ...]]
+    count: int
+    most: Fraction
+
+
+class Box:
+    """The least and the greatest coordinate on each axis, and the centre, if one is given."""
+
+    def __init__(self, vertices: Vertices, centre: Optional[Fractions] = None) -> None:
+        self.ends = [(min(part), max(part)) for part in vertices.axes]
+        self.divisor = vertices.divisor
+        self.centre = centre
+
+    def middle(self, scale: Fraction) -> Fractions:
+        """The centre: the given one, or the middle of the box on the grid."""
+        if self.centre:
+            return self.centre
+        steps = (along_axis(ends, self.divisor, Fraction(0), scale)[0] for ends in self.ends)
+        return tuple((low + high) // 2 / scale for low, high in steps)
+
+    def has_room(self, scale: Fraction) -> bool:
+        """Whether all whole points are in range."""
+        axes = zip(self.ends, self.middle(scale))
+        reach = (along_axis(ends, self.divisor, middle * scale, scale)[0] for ends, middle in axes)
+        return all(abs(number) <= COORDINATE_LIMIT for number in chain.from_iterable(reach))
+
+    def extent(self) -> Fraction:
+        """The greatest distance along an axis between two vertices, or between a vertex and the given centre."""
+        centre = self.centre or [Fraction(low, self.divisor) for low, _ in self.ends]
+        return max(abs(Fraction(end, self.divisor) - part) for ends, part in zip(self.ends, centre) for end in ends)
+
+
+def map_of_vertices(vertices: Vertices, scale: Optional[Fraction] = None, centre: Optional[Fractions] = None) -> Map:
+    """The map by the rule, with a scale or a centre that is given."""
+    box = Box(vertices, centre)
+    if scale is None:
+        scale = next((exact for exact in exact_scales(vertices) if box.has_room(exact)), None) or finest_scale(box)
+    return Map(scale, box.middle(scale))
+
+
+def exact_scales(vertices: Vertices) -> List[Fraction]:
+    """The least power of the base, from 1 on, at which all coordinates are whole, and the least of all powers."""
+    common, scale = gcd(*chain.from_iterable(vertices.axes)), Fraction(vertices.divisor)
+    while common and common % vertices.base == 0:
+        common, scale = common // vertices.base, scale / vertices.base
+    return [max(scale, Fraction(1)), scale] if common else [Fraction(1)]
+
+
+def finest_scale(box: Box) -> Fraction:
+    """The greatest power of two with room."""
+    extent = box.extent()
+    power = extent.denominator.bit_length() - extent.numerator.bit_length() + COORDINATE_LIMIT.bit_length() + 2
+    while not box.has_room(Fraction(2) ** power):
+        power -= 1
+    return Fraction(2) ** power
+
+
+def along_axis(numbers: Sequence[int], divisor: int, offset: Fraction, scale: Fraction) -> Tuple[List[int], int, Fraction]:
+    """The whole numbers of one axis, how many were rounded, and by how much at most, in units of the grid.
+
+    n / divisor * scale - offset is (n * top - start) / bottom - shift, and what is left of the division tells how to round.
+    """
+    shift = floor(offset)
+    offset -= shift
+    bottom = divisor * offset.denominator * scale.denominator
+    top, start = offset.denominator * scale.numerator, offset.numerator * divisor * scale.denominator
+    whole: List[int] = []
+    count = most = 0
+    for number in numbers:
+        quotient, left = divmod(number * top - start, bottom)
+        if left:
+            count += 1
+            up = 2 * left > bottom or 2 * left == bottom and quotient % 2
+            quotient, left = (quotient + 1, bottom - left) if up else (quotient, left)
+            most = max(most, left)
+        whole.append(quotient - shift)
+    return whole, count, Fraction(most, bottom)
+
+
+def rounded(vertices: Vertices, by: Map) -> Rounded:
+    """The whole points of the vertices."""
+    axes = [along_axis(part, vertices.divisor, middle * by.scale, by.scale) for part, middle in zip(vertices.axes, by.centre)]
+    wholes, counts, mosts = zip(*axes)
+    return Rounded(list(zip(*wholes)), sum(counts), max(mosts) / abs(by.scale))
+
+
+def decimals_of(size: Fraction) -> str:
+    """A size from 0 on, exactly: in decimals where these end soon, else as a fraction."""
+    divisor, places = size.denominator, 0
+    while divisor > 1 and gcd(divisor, 10) > 1 and places < 40:
+        divisor, places = divisor // gcd(divisor, 10), places + 1
+    if divisor > 1:
+        return str(size)
+    digits = str(size.numerator * 10**places // size.denominator).rjust(places + 1, "0")
+    return digits[: len(digits) - places] + ("." + digits[-places:] if places else "")

@@ -1,0 +1,91 @@
+"""The faces of meshes, each as the places of its corners among the vertices: in off, obj, stl and ply."""
+from __future__ import annotations
+
+import struct
+from typing import Iterator, List, Sequence, Tuple
+
+from .off_files import Malformed, face_of, lines_of, parts_of, rows_of
+from .ply_files import TYPES, Element, header_of, ply_rows
+from .stl_files import corners_of
+
+Face = List[int]
+
+
+def faces_of_off(data: bytes) -> List[Face]:
+    """The faces of an OFF text."""
+    points, faces = parts_of(rows_of(data.decode("utf-8", "replace")))
+    return [face_of(row, len(points)) for row in faces]
+
+
+def faces_of_obj(data: bytes) -> List[Face]:
+    """The faces of an OBJ text. Numbers below 0 count back from the last vertex before the face."""
+    vertices, faces = 0, []
+    for line, text in enumerate(lines_of(data.decode("utf-8", "replace")), 1):
+        words = text.split("#")[0].split()
+        vertices += words[:1] == ["v"]
+        if words[:1] != ["f"]:
+            continue
+        try:
+            numbers = [int(word.split("/")[0]) for word in words[1:]]
+        except ValueError:
+            numbers = [0]
+        faces.append((line, [number - 1 if number > 0 else vertices + number if number else -1 for number in numbers]))
+    return [checked(line, face, vertices) for line, face in faces]
+
+
+def checked(line: int, face: Face, vertices: int) -> Face:
+    """A face all of whose corners are vertices."""
+    if not face or not all(0 <= corner < vertices for corner in face):
+        raise Malformed(f"line {line}: no face of {vertices} vertices")
+    return face
+
+
+def faces_of_stl(data: bytes) -> List[Face]:
+    """The triangles of an stl file."""
+    corners: Sequence[object] = corners_of(data)
+    places = {corner: place for place, corner in enumerate(dict.fromkeys(corners))}
+    found = [places[corner] for corner in corners]
+    return [found[place : place + 3] for place in range(0, len(found), 3)]
+
+
+def faces_of_ply(data: bytes) -> List[Face]:
+    """The faces of a ply file: the lists of its element face."""
+    header = header_of(data)
+    counts = {element.name: element.count for element in header.elements}
+    face = next((element for element in header.elements if element.name == "face"), None)
+    if face is None or [words[0] for words in face.properties].count("list") != 1:
+        raise Malformed("the ply file has no element face with one list")
+    if header.order:
+        faces = list(lists_of_bytes(data, header.end, header.elements, header.order))
+    else:
+        first = sum(element.count for element in header.elements[: header.elements.index(face)])
+        rows = ply_rows(data[header.end :], header)[first : first + face.count]
+        before = [words[0] for words in face.properties].index("list")
+        faces = [face_of((line, words[before:]), counts["vertex"]) for line, words in rows]
+    return [checked(header.lines, corners, counts["vertex"]) for corners in faces]
+
+
+def lists_of_bytes(data: bytes, at: int, elements: Sequence[Element], order: str) -> Iterator[Face]:
+    """The lists of the element face, behind the elements before it."""
+    for element in elements:
+        for _ in range(element.count):
+            for words in element.properties:
+                at, numbers = property_at(data, at, words, order)
+                if element.name == "face" and words[0] == "list":
+                    yield numbers
+
+
+def property_at(data: bytes, at: int, words: Sequence[str], order: str) -> Tuple[int, List[int]]:
+    """Where the property ends that begins at a byte, and its numbers."""
+    try:
+        count = 1
+        if words[0] == "list":
+            (count,) = struct.unpack_from(order + TYPES[words[1]], data, at)
+            at += struct.calcsize(order + TYPES[words[1]])
+        layout = f"{order}{count}{TYPES[words[-2]]}"
+        return at + struct.calcsize(layout), list(struct.unpack_from(layout, data, at))
+    except struct.error:
+        raise Malformed("the ply file ends before its last face") from None
+
+
+FACES = {".off": faces_of_off, ".obj": faces_of_obj, ".ply": faces_of_ply, ".stl": faces_of_stl}

@@ -1,0 +1,47 @@
+"""The corners of the triangles of stl files, of text and of bytes."""
+from __future__ import annotations
+
+import struct
+from itertools import chain
+from typing import List, Sequence, Tuple, Union
+
+from .exact_numbers import Vertices, of_numbers, of_words
+from .off_files import Malformed, lines_of
+
+HEAD, TRIANGLE = 84, struct.Struct("<12x12s12s12s2x")
+
+# A corner by its bytes, or by its words.
+Corner = Union[bytes, Tuple[str, ...]]
+
+
+def corners_of(data: bytes) -> Sequence[Corner]:
+    """The corners of all triangles, three for each."""
+    count = int.from_bytes(data[80:HEAD], "little")
+    if len(data) == HEAD + count * TRIANGLE.size:
+        return list(chain.from_iterable(TRIANGLE.iter_unpack(data[HEAD:])))
+    if not data.lstrip().startswith(b"solid"):
+        raise Malformed(f"it has {len(data)} bytes; {count} triangles have {HEAD + count * TRIANGLE.size}")
+    return [words for _, words in corners_of_text(data)]
+
+
+def corners_of_text(data: bytes) -> List[Tuple[int, Tuple[str, ...]]]:
+    """The corners of a text with their lines, three to each facet."""
+    split = [(line, text.split()) for line, text in enumerate(lines_of(data.decode("utf-8", "replace")), 1)]
+    rows = [row for row in split if row[1]]
+    corners = 0
+    for line, words in rows:
+        if words[0] == "endfacet" and corners != 3 or words[0] == "endsolid" and corners:
+            raise Malformed(f"line {line}: a facet has {corners} corners")
+        corners = 0 if words[0] == "endfacet" else corners + (words[0] == "vertex")
+    if rows[-1][1][0] != "endsolid":
+        raise Malformed(f"line {rows[-1][0]}: the text ends before its endsolid")
+    return [(line, tuple(words[1:4])) for line, words in rows if words[0] == "vertex"]
+
+
+def of_stl(data: bytes) -> Vertices:
+    """The corners of the triangles of an stl file, each once."""
+    corners = dict.fromkeys(corners_of(data))
+    if all(isinstance(corner, bytes) for corner in corners):
+        return of_numbers(list(struct.unpack(f"<{3 * len(corners)}f", b"".join(corners))))  # type: ignore[arg-type]
+    lines = {words: line for line, words in corners_of_text(data)}
+    return of_words([(line, list(words)) for words, line in lines.items()])
