@@ -142,8 +142,8 @@ def ratio_of(given, ratio, found):
     """Returns the ratio of two columns and whether it is within its limit; nothing where a program has no time."""
     number = ratio["number"] or next(name for name in given.show if name != "extreme")
     beside = given.peers if ratio["by"] == "peers" else [ratio["by"]]
-    # A peer that was stopped counts with its CPU time.
-    times = [found[name].get(number, found[name]["cpu"]) for name in beside if found[name]]
+    # A peer that was stopped counts with the time that it had.
+    times = [found[name][number] for name in beside if found[name] and number in found[name]]
     if not times or not found[ratio["of"]]:
         return None, True
     of, by = found[ratio["of"]][number], max(min(times), RESOLUTION)

@@ -115,12 +115,12 @@ def build(name, target):
 def command_of(name, output):
     """Returns the command of a peer for an output of this program; a library's program is built if it was not yet."""
     if name == "qhull":
-        return [QHULL, {"off": "o"}.get(output, output)]
+        return [QHULL, *{"off": ["o"], "offt": ["Qt", "o"]}.get(output, [output])]
     target = TOP / "build" / "peers" / name
     if not target.exists() or target.stat().st_mtime < Path(__file__).stat().st_mtime:
         target.parent.mkdir(parents=True, exist_ok=True)
         build(name, target)
-    return [str(target), "off"] if output == "off" and name != "bullet" else [str(target)]
+    return [str(target), "off"] if output.startswith("off") and name != "bullet" else [str(target)]
 
 
 def main():

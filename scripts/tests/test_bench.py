@@ -102,6 +102,24 @@ class Measure(unittest.TestCase):
         self.assertIn("none is no family", self.measured("--families", "none").stderr)
 
 
+class Checks(unittest.TestCase):
+    """bench/checks.py, with a stand-in for this program and a checker that accepts everything."""
+
+    def test_a_damage_that_is_accepted_is_told(self):
+        with tempfile.TemporaryDirectory() as folder:
+            program, checker = Path(folder) / "program", Path(folder) / "checker"
+            program.write_text("#!/bin/sh\ncat > /dev/null\nprintf 'OFF\\n3 1 3\\n0 0 0\\n4 0 0\\n0 4 0\\n3 0 1 2\\n'\n")
+            checker.write_text("#!/bin/sh\necho all right\n")
+            for path in (program, checker):
+                path.chmod(0o755)
+            words = ["--ours", program, "--checker", checker, "--families", "line", "--counts", "9", "--rounds", "1", "--damages"]
+            done = subprocess.run([sys.executable, BENCH / "checks.py", *words], capture_output=True, text=True)
+        self.assertEqual(done.returncode, 1)
+        self.assertIn("| line | 9 | 1 | right | 0.", done.stdout)
+        self.assertIn("line, 9 points: lost is not found", done.stderr)
+        self.assertNotIn("right", done.stderr)
+
+
 class Families(unittest.TestCase):
     def test_images_are_within_the_limit(self):
         corners = list(itertools.product((-points.SIZE, points.SIZE), repeat=3))
