@@ -9,7 +9,6 @@ it is in. The interior filter is the column `filter`. A hull by parts has the hu
 and joins them in `parts`. Functions that are inlined count with their caller, the sort of 64-bit numbers with the distinct
 points although the order of faces is one, and that of packed pairs with the faces although a large surface and a hull by
 parts begin with one. What the system does (memory, pages, pipes) is a column of its own. A run that fails ends the script.
-By hand: no gate asks for it.
 """
 import argparse
 import os
@@ -27,7 +26,7 @@ OWNERS = [
     (r"^(qh_write|itoa)::", "text"),
     (r"^(qh_plane|rayon)::", "distinct"),
     (r"^qh_(interior|regions)::|^qh_run::filtered::", "filter"),
-    # qh_join asks qh_steps for the borders of faces.
+    # qh_join compares the borders of faces by qh_steps.
     (r"^qh_(parts|division|join|seam|guess|gap|curve|places|check|steps)::|^qh_serve::threaded::", "parts"),
     (r"^qh_bodies::|^qh_block::(faces|hulls|plane_walk|bodies|flat_sets|segment)::", "faces"),
     (r"^qh_polygon::|^qh_surface::named_mesh::", "faces"),

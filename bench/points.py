@@ -36,7 +36,7 @@ MAPS = {
     "long-z": lambda x, y, z: (x, y, 1000 * z),
 }
 
-# Names that stand for several families.
+# Names of several families together.
 GROUPS = {
     "solid": ["cube", "ball", "sphere", "paraboloid", "grid", "cube-surface"],
     "ordinary": list(ORDINARY),
@@ -56,7 +56,7 @@ def family_of(name):
 
 
 def names_of(text):
-    """Returns the families that names with commas between them stand for; an unknown one ends the script."""
+    """Returns the families of a list of names with commas, which may be groups; an unknown name ends the script."""
     names = [family for name in text.split(",") for family in GROUPS.get(name, [name])]
     for name in names:
         if family_of(name) is None:

@@ -7,10 +7,10 @@
 Each row is some seeded sets of one size, all solid, about 8,192 points together. `small_hulls.cpp` makes them by all libraries in
 turn, with what each keeps in memory already, and the least CPU time of the rounds counts, in microseconds a hull. `hulls` is
 one call of qconvex_hulls for all sets. The ratios are of qconvex_hull to each peer; the goals are 0.3 of Qhull, 0.8 of CGAL
-from 8 points on and 1.0 of Bullet. A `*` stands where a peer finds another number of vertices; where it refuses a set, it
+from 8 points on and 1.0 of Bullet. A `*` marks a peer that finds another number of vertices; where it refuses a set, it
 has no time.
 
-In Python `ConvexHull` with all attributes that scipy's constructor computes stands beside that, and one call of `hulls` beside
+In Python `ConvexHull` with all attributes that scipy's constructor computes is compared with it, and one call of `hulls` with
 the C call: its goal is 1.5 of that. Needs `make -C c`. The status is 1 where a goal is missed by more than a tenth.
 """
 import argparse

@@ -5,7 +5,7 @@ RUN = "crates/qh_run/src/run.rt"
 ROOT = "crates/qh_run/src/root.rt"
 
 # Each body gives the right hull, by workers that do not run at once, are too few, give up too soon, or whose list is not used: its name, its
-# file, and texts of the right body with what stands for them.
+# file, and texts of the right body with their replacements.
 WORKERS = [
     ("workers-in-turn", PASSES, [
         ("use std::thread::{Threads, join};\n",
@@ -54,7 +54,7 @@ fn supporting_triples(set: IdSet) -> usize {
 """),
 ])  # fmt: skip
 
-# The line that hulls all ids where the tree has no root, and what stands for it.
+# The line that hulls all ids where the tree has no root, and its replacement.
 WITHOUT_ROOT = ("without-root", RUN, [("None => gate.finish(alloc, pts, ids),", "None => Err(Memory),")])
 
 # The crate whose tests call `answer`, and a body of it that is always out of memory.
@@ -77,8 +77,8 @@ ALWAYS_MEMORY = [
     ]),
 ]  # fmt: skip
 
-# Comparisons of what `answer` gave with what it should give, and what asks for a difference. A name before a dot is one that the tests give to
-# an outcome of `answer`.
+# Comparisons of what `answer` gave with what it should give, and their replacements, which require a difference. A name before a dot is one
+# that the tests give to an outcome of `answer`.
 TURNED = [
     (r"assert_eq!(\(rt; answered\.told\(\), want)", r"assert_ne!\1"),
     (r"assert!\(rt; ((?:outcome|whole)\.output\.starts_with\()", r"assert!(rt; !\1"),

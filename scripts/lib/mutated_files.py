@@ -37,7 +37,7 @@ def off_gap(rng, line_end):
 
 
 def some_faces(rng, count):
-    """Faces, or what may stand in their place."""
+    """Faces, or other words in their place."""
     if rng.random() < 0.3:
         return [rng.choice([b"zero", b"OFF", b"7.5", b"3", b"--", b"99999999999"]) for _ in range(rng.randint(0, 5))]
     face = [rng.randrange(count) for _ in range(rng.randint(1, 4))]
@@ -102,7 +102,7 @@ def flip(rng, data):
 
 
 def copy_slice(rng, data):
-    """A slice stands once more, elsewhere."""
+    """A slice is copied to another place."""
     first = rng.randint(0, len(data))
     return with_slice(rng, data, data[first : first + rng.randint(1, 12)])
 

@@ -4,7 +4,7 @@
     scripts/trials/checkers.py [--seconds N] [--seed N] [--only damaged,right,damaged-alone,right-alone]
 
 The sets are those of lib/small_sets.py and the damages those of lib/damages.py, and one more: the hull of all points but one. Where hullcheck is
-built it has to say the same of each solid set, of faces in any order and beginning at any corner. The parts `alone` ask hullcheck alone,
+built it has to say the same of each solid set, of faces in any order and beginning at any corner. The parts `alone` run hullcheck only,
 which is faster. Right hulls are this program's, whole; Qhull's by the options `o` and `Qt o`, if it names the same points for each facet; and
 the triangles of CGAL's program, where both are installed.
 
@@ -59,7 +59,7 @@ def shuffled(faces):
 
 
 class Verdicts:
-    """What the checkers say: hullcheck, where it is built and can be asked, and check_hull.py, where it is not alone."""
+    """The verdicts of both checkers: of hullcheck where it is built and takes the set, of check_hull.py unless hullcheck runs alone."""
 
     def __init__(self, given, alone):
         self.alone = alone

@@ -60,7 +60,7 @@ def fault(name, wanted, *command, **settings):
 
 
 def lines_of_readme(language):
-    """The lines of README in a language, as they stand."""
+    """The code block of README in a language."""
     return re.search(rf"```{language}\n(.*?)```", (TOP / "README.md").read_text(encoding="utf-8"), re.DOTALL)[1]
 
 

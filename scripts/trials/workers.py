@@ -5,7 +5,7 @@
 
 The tests run unproved, by `rt try --test`, and each part takes minutes whatever the seconds.
 
-bodies      each of lib/bodies.py gives the right hull, but by workers that do not run at once, are too few, give up too soon or are told
+bodies      each of lib/bodies.py gives the right hull, but by workers that do not run at once, are too few, give up too soon or report
             something wrong, or by a filter of all triples that takes too long. A test of qh_tests_serve that watches the workers or the time
             must fail for each, and none for the right bodies
 memory      a body of `answer` that is always out of memory. A test ends at its first row that fails, so each comparison of what `answer` gave
@@ -13,7 +13,7 @@ memory      a body of `answer` that is always out of memory. A test ends at its 
 boards      10,000 boards of 7 to 64 blocks with 2 to 8 passes in threads, some of which give up: each block is got once, and there is one
             root or none as `close` says
 roots       runs of 2 to 64 workers with blocks of 1 to 3 points by a program that answers Memory where a board has no root: each has one
-private     the tests that need private items of a crate, of scripts/trials/private_tests: they ask what no contract says, as whether a quick
+private     the tests that need private items of a crate, of scripts/trials/private_tests: they check what no contract says, such as whether a quick
             way is taken. The gate would prove a crate with tests of its own twice
 """
 import os
@@ -33,7 +33,7 @@ from lib.hull_oracle import file_of  # noqa: E402
 from lib.paths import TOP  # noqa: E402
 from lib.small_sets import small_set  # noqa: E402
 
-# The tests of workers that watch them, and the row of 20,000 points, which tells the time: each with its most seconds.
+# The tests of workers that watch them, and the row of 20,000 points, which takes too long with a slow filter: each with a limit in seconds.
 WATCHING, WATCHED_SECONDS = {"gated", "told_blocks"}, 1200
 TIMED, TIMED_SECONDS = {"paraboloid"}, 600
 BOARD_RUNS = "crates/qh_tests_run/src/tests/board/runs.rt"
@@ -48,7 +48,7 @@ RAN = re.compile(r"^run=(?!none\b)", re.MULTILINE)
 
 @contextmanager
 def copy_of_crates(given):
-    """A copy of the crates, in a folder that goes again."""
+    """Copies the crates to a folder that is removed at the end."""
     trials.need_rt(given)
     with tempfile.TemporaryDirectory() as folder:
         copy_crates(Path(folder))
@@ -129,7 +129,7 @@ def boards(given, _rng):
 
 
 def roots(given, rng):
-    """Boards whose roots are told by a program that is proved and built in a copy."""
+    """Runs of a program, built in a copy, that fails where a board has no root."""
     with copy_of_crates(given) as top:
         _, file, edits = WITHOUT_ROOT
         replace_once(top / file, edits)
