@@ -22,7 +22,8 @@ from pathlib import Path
 
 import numpy as np
 
-import compare
+import measure
+import peers
 
 TOP = Path(__file__).resolve().parents[1]
 sys.path.insert(0, str(TOP / "python"))
@@ -58,27 +59,25 @@ def extremes_of(command, path):
 
 
 def of_file(given):
+    """Measures all programs on a file."""
     os.environ["PYTHONPATH"] = str(TOP / "python")
     with tempfile.TemporaryDirectory() as folder:
         path = os.path.join(folder, "points.txt")
-        writing = [sys.executable, __file__, "write", str(given.count), path]
-        subprocess.run(writing, check=True)  # by a process of its own: the peak memory of a child begins at its parent's
-        hullmany = [sys.executable, HULLMANY, "--quiet"]
-        qhull = f"{given.qhull} s"
+        # By a process of its own: the peak memory of a child begins at its parent's.
+        subprocess.run([sys.executable, __file__, "write", str(given.count), path], check=True)
+        hullmany = [sys.executable, HULLMANY, "--quiet", "--jobs"]
         commands = {
-            qhull: [given.qhull, "s"],
-            "hullmany --jobs 1 Fx": [*hullmany, "--jobs", "1", "Fx"],
-            "hullmany --jobs 4 Fx": [*hullmany, "--jobs", "4", "Fx"],
+            "Qhull": [given.qhull, "Fx"],
+            "hullmany --jobs 1 Fx": [*hullmany, "1", "Fx"],
+            "hullmany --jobs 4 Fx": [*hullmany, "4", "Fx"],
             "qconvex.dask.extremes, four threads": [sys.executable, "-c", BY_DASK, path],
         }
-        results = {name: [] for name in commands}
-        for _ in range(given.rounds):
-            for name, command in commands.items():
-                results[name].append(compare.run(command, path))
-        for name, rows in results.items():
-            cpu, wall, memory, status = compare.best(rows)
-            print(f"| {name} | {cpu:.1f} | {wall:.1f} | {memory:.0f} | status {status}")
-        answers = [extremes_of(command, path) for command in {**commands, qhull: [given.qhull, "Fx"]}.values()]
+        columns = [measure.Column(name, command, False) for name, command in commands.items()]
+        columns[0] = measure.Column("Qhull", [given.qhull, "s"], False)
+        for column, runs in zip(columns, measure.runs_in_turn(columns, path, given.rounds)):
+            wall, cpu, memory, _ = map(min, zip(*runs))
+            print(f"| {column.name} | {cpu:.1f} | {wall:.1f} | {memory:.0f} | status {runs[-1].status}")
+        answers = [extremes_of(command, path) for command in commands.values()]
         print(len(answers[0]) - 1, "extreme,", "the same" if answers.count(answers[0]) == len(answers) else "DIFFERENT")
 
 
@@ -118,7 +117,7 @@ def by_dask(count, kill):
 def main():
     parser = argparse.ArgumentParser(description=__doc__, formatter_class=argparse.RawDescriptionHelpFormatter)
     parser.add_argument("--rounds", type=int, default=3)
-    parser.add_argument("--qhull", default="/usr/bin/qconvex")
+    parser.add_argument("--qhull", default=peers.QHULL)
     parser.add_argument("--kill", action="store_true")
     parser.add_argument("what", choices=["file", "dask", "write"])
     parser.add_argument("count", type=int)

@@ -5,16 +5,20 @@
     bench/peers.py cgal-plain PROGRAM    the same over plain doubles, whose predicates are rounded
     bench/peers.py bullet PROGRAM        Bullet's btConvexHullComputer (Debian's libbullet-dev)
 
-CGAL's program writes the hull as OFF text if it is run with a word, such as `off`.
+CGAL's program writes the hull as OFF text if it is run with a word, such as `off`. Other scripts of this folder build what they need
+themselves, in build/peers.
 """
-import os
 import subprocess
 import sys
 import tempfile
 from pathlib import Path
 
 sys.path.insert(0, str(Path(__file__).resolve().parents[1] / "scripts"))
+from lib.paths import TOP  # noqa: E402
 from lib.usage import names_given  # noqa: E402
+
+# Qhull's program of the same name, of Debian's package qhull-bin.
+QHULL = "/usr/bin/qconvex"
 
 # Reads the points of standard input and calls `add(x, y, z)` for each.
 READ = r"""
@@ -99,17 +103,31 @@ PEERS = {
 }
 
 
+def build(name, target):
+    """Builds a peer."""
+    source, flags, libraries = PEERS[name]
+    with tempfile.TemporaryDirectory() as folder:
+        path = Path(folder) / "hull.cpp"
+        path.write_text(source, encoding="ascii")
+        subprocess.run(["g++", "-O3", "-DNDEBUG", "-std=c++17", *flags, path, "-o", target, *libraries], check=True)
+
+
+def command_of(name, output):
+    """Returns the command of a peer for an output of this program; a library's program is built if it was not yet."""
+    if name == "qhull":
+        return [QHULL, *{"off": ["o"], "offt": ["Qt", "o"]}.get(output, [output])]
+    target = TOP / "build" / "peers" / name
+    if not target.exists() or target.stat().st_mtime < Path(__file__).stat().st_mtime:
+        target.parent.mkdir(parents=True, exist_ok=True)
+        build(name, target)
+    return [str(target), "off"] if output.startswith("off") and name != "bullet" else [str(target)]
+
+
 def main():
     names = names_given(__doc__)
     if len(names) != 2 or names[0] not in PEERS:
         sys.exit(f"name a peer, which is one of {', '.join(PEERS)}, and the program to build")
-    source, flags, libraries = PEERS[names[0]]
-    target = os.path.abspath(names[1])
-    with tempfile.TemporaryDirectory() as folder:
-        path = os.path.join(folder, "hull.cpp")
-        with open(path, "w", encoding="ascii") as out:
-            out.write(source)
-        subprocess.run(["g++", "-O3", "-DNDEBUG", "-std=c++17", *flags, path, "-o", target, *libraries], check=True)
+    build(names[0], Path(names[1]).absolute())
 
 
 if __name__ == "__main__":

@@ -9,16 +9,15 @@ it is in. The interior filter is the column `filter`. A hull by parts has the hu
 and joins them in `parts`. Functions that are inlined count with their caller, the sort of 64-bit numbers with the distinct
 points although the order of faces is one, and that of packed pairs with the faces although a large surface and a hull by
 parts begin with one. What the system does (memory, pages, pipes) is a column of its own. A run that fails ends the script.
-By hand: no gate asks for it.
 """
 import argparse
 import os
 import re
 import subprocess
-import sys
 import tempfile
 
-import compare
+import measure
+import points
 
 PHASES = ["read", "distinct", "filter", "surface", "parts", "faces", "text", "system", "else"]
 
@@ -27,12 +26,13 @@ OWNERS = [
     (r"^(qh_write|itoa)::", "text"),
     (r"^(qh_plane|rayon)::", "distinct"),
     (r"^qh_(interior|regions)::|^qh_run::filtered::", "filter"),
-    # qh_join asks qh_steps for the borders of faces.
+    # qh_join compares the borders of faces by qh_steps.
     (r"^qh_(parts|division|join|seam|guess|gap|curve|places|check|steps)::|^qh_serve::threaded::", "parts"),
     (r"^qh_bodies::|^qh_block::(faces|hulls|plane_walk|bodies|flat_sets|segment)::", "faces"),
     (r"^qh_polygon::|^qh_surface::named_mesh::", "faces"),
-    (r"^(qh_block|qh_surface|qh_outside|qh_starts|qh_mesh|qh_pred)::", "surface"),
-    # The tree and its workers make lists of extreme ids by surfaces of blocks. Morton order is the start of a surface.
+    (r"^(qh_lattice|qh_block|qh_surface|qh_outside|qh_starts|qh_mesh|qh_pred)::", "surface"),
+    # A set is mapped before its surface is made. The tree and its workers make lists of extreme ids by surfaces of blocks. Morton order is
+    # the start of a surface.
     (r"^(qh_hull|qh_run|qh_board|qh_keys|atomic_table)::|^qh_serve::answers::hull", "surface"),
     # What is inlined in the calls above the crates is mostly the loop that reads.
     (r"^(qh_read|qh_serve|qconvex)::", "read"),
@@ -50,7 +50,7 @@ def sample(command, path, folder):
     sampled = ["perf", "record", "-q", "-F", "4000", "-o", record] + command
     with open(path, "rb") as source:
         done = subprocess.run(sampled, stdin=source, stdout=subprocess.DEVNULL, stderr=subprocess.DEVNULL)
-    compare.must_succeed(sampled, done.returncode)
+    measure.must_succeed(sampled, done.returncode)
     text = subprocess.run(["perf", "report", "-i", record, "--stdio", "--no-children", "--sort", "dso,symbol"],
                           stdout=subprocess.PIPE, stderr=subprocess.DEVNULL, check=True, text=True).stdout
     for line in text.splitlines():
@@ -80,18 +80,17 @@ def phase(dso, space, name, ours, number_sorts):
 def number_sorts(command, folder):
     """The sorts that a set without faces to sort takes: those of numbers."""
     path = os.path.join(folder, "cube.txt")
-    with open(path, "wb") as out:
-        subprocess.run([sys.executable, compare.POINTS, "cube", "200000"], stdout=out, check=True)
+    measure.write_points("cube", 200_000, path)
     names = (name for _, _, name, part in sample(command, path, folder) if SORTS.match(name) and part > 0.01)
     return {kind.group(1) for kind in (re.search(r"<#(\w+)>", name) for name in names) if kind}
 
 
 def main():
     parser = argparse.ArgumentParser(description=__doc__, formatter_class=argparse.RawDescriptionHelpFormatter)
-    parser.add_argument("--ours", type=compare.built, default=compare.PROGRAM, help="this program")
+    parser.add_argument("--ours", type=measure.built, default=measure.PROGRAM, help="this program")
     parser.add_argument("--words", default="s", help="the words that it is given")
     parser.add_argument("--count", type=int, default=1000000)
-    parser.add_argument("--families", default="cube,ball,cube-surface,grid,sphere,paraboloid,flat,line")
+    parser.add_argument("--families", type=points.names_of, default="cube,ball,cube-surface,grid,sphere,paraboloid,flat,line")
     given = parser.parse_args()
     command = [given.ours] + given.words.split()
     print("| Family | CPU s | " + " | ".join(PHASES) + " |")
@@ -99,10 +98,9 @@ def main():
     with tempfile.TemporaryDirectory() as folder:
         numbers = number_sorts(command, folder)
         path = os.path.join(folder, "points.txt")
-        for family in given.families.split(","):
-            with open(path, "wb") as out:
-                subprocess.run([sys.executable, compare.POINTS, family, str(given.count)], stdout=out, check=True)
-            cpu = compare.best_in_turn([command], path, 3, own=1)[0][0]
+        for family in given.families:
+            measure.write_points(family, given.count, path)
+            cpu = measure.least(command, path, 3).cpu
             parts = dict.fromkeys(PHASES, 0.0)
             for dso, space, name, part in sample(command, path, folder):
                 parts[phase(dso, space, name, os.path.basename(given.ours), numbers)] += part

@@ -1,110 +1,79 @@
 #!/usr/bin/env python3
-"""Seeded point files of the families that the benchmarks use.
+"""Writes a seeded point file of a family, or of its image under a linear map.
 
     bench/points.py cube 1048576 > points.txt
+    bench/points.py sphere-shuffled@leaf 1000000 > points.txt
+
+`FAMILY@MAP` is the image of a family under a map to three whole sums, within 2^30: a shear, a thin plate, a needle, a rotation, a box
+aslant, or one long axis.
 """
-import math
 import random
 import sys
 from pathlib import Path
 
+from families import ORDINARY, SIZE, WORST
+
 sys.path.insert(0, str(Path(__file__).resolve().parents[1] / "scripts"))
 from lib.usage import names_given  # noqa: E402
 
-# The families go to this size either way, whatever the limit of the program: times stay comparable.
-SIZE = 1 << 20
+__all__ = ["FAMILIES", "SIZE"]
+FAMILIES = {**ORDINARY, **WORST}
 
+# Of a point within 2^20 each image is within 2^30.
+MAPS = {
+    "shear-10": lambda x, y, z: (x + 10 * y, y, z),
+    "shear-1000": lambda x, y, z: (x + 1000 * y, y, z),
+    "shears": lambda x, y, z: (x + 30 * y, y + 30 * (x + 30 * y), z),
+    "shears-all": lambda x, y, z: (x + 9 * y, y + 9 * z, z + 9 * (x + 9 * y)),
+    "plate": lambda x, y, z: (500 * x, 500 * y, z >> 14),
+    "leaf": lambda x, y, z: (500 * x, 500 * y, 300 * x + 400 * y + (z >> 7)),
+    "leaf-of-one": lambda x, y, z: (990 * x, 990 * y, (-5 * 990 * x + 7 * 990 * y) // 12 + (z >> 20)),
+    "needle": lambda x, y, z: (900 * x, 700 * x + (y >> 7), 500 * x - (y >> 6) + (z >> 8)),
+    "box": lambda x, y, z: (480 * x + 32 * y + 12 * z, 160 * x + 48 * y - 24 * z, 240 * x - 96 * y - 8 * z),
+    "turn-3": lambda x, y, z: (2 * x - y + 2 * z, 2 * x + 2 * y - z, 2 * z + 2 * y - x),
+    "turn-7": lambda x, y, z: (6 * x + 2 * y + 3 * z, 2 * x + 3 * y - 6 * z, 3 * x - 6 * y - 2 * z),
+    "long-x": lambda x, y, z: (1000 * x, y, z),
+    "long-z": lambda x, y, z: (x, y, 1000 * z),
+}
 
-def cube(rng, n):
-    """Uniform in a cube."""
-    return [tuple(rng.randint(-SIZE, SIZE) for _ in range(3)) for _ in range(n)]
-
-
-def direction(rng):
-    """A direction, uniform over the sphere."""
-    while True:
-        v = [rng.gauss(0, 1) for _ in range(3)]
-        size = math.sqrt(sum(c * c for c in v))
-        if size > 1e-9:
-            return [c / size for c in v]
-
-
-def sphere(rng, n):
-    """On a sphere, rounded to whole numbers."""
-    return [tuple(round(SIZE * c) for c in direction(rng)) for _ in range(n)]
-
-
-def ball(rng, n):
-    """Uniform in a ball."""
-    points = []
-    for _ in range(n):
-        radius = SIZE * rng.random() ** (1 / 3)
-        points.append(tuple(round(radius * c) for c in direction(rng)))
-    return points
-
-
-def paraboloid_in_rows(_rng, n):
-    """(x, y, x^2 + y^2) around 0, row by row: all are extreme."""
-    side = math.isqrt(n)
-    low = -(side // 2)
-    return [(x, y, x * x + y * y) for x in range(low, low + side) for y in range(low, low + side)]
-
-
-def paraboloid(rng, n):
-    """The same, shuffled."""
-    points = paraboloid_in_rows(rng, n)
-    rng.shuffle(points)
-    return points
-
-
-def grid(rng, n):
-    """Whole coordinates from 0 to 10: nearly all points are repeats."""
-    return [tuple(rng.randint(0, 10) for _ in range(3)) for _ in range(n)]
-
-
-def cube_surface(rng, n):
-    """On the six faces of a cube."""
-    points = []
-    for _ in range(n):
-        p = [rng.randint(-SIZE, SIZE) for _ in range(3)]
-        p[rng.randrange(3)] = rng.choice((-SIZE, SIZE))
-        points.append(tuple(p))
-    return points
-
-
-def flat(rng, n):
-    """In the plane x + y + z = 0."""
-    points = []
-    for _ in range(n):
-        x, y = rng.randint(-SIZE // 2, SIZE // 2), rng.randint(-SIZE // 2, SIZE // 2)
-        points.append((x, y, -x - y))
-    return points
-
-
-def line(rng, n):
-    """On one line; nearly all points are repeats or neighbours."""
-    return [(t, t, -t) for t in (rng.randint(-SIZE, SIZE) for _ in range(n))]
-
-
-FAMILIES = {
-    "cube": cube,
-    "ball": ball,
-    "sphere": sphere,
-    "paraboloid": paraboloid,
-    "paraboloid-in-rows": paraboloid_in_rows,
-    "grid": grid,
-    "cube-surface": cube_surface,
-    "flat": flat,
-    "line": line,
+# Names of several families together.
+GROUPS = {
+    "solid": ["cube", "ball", "sphere", "paraboloid", "grid", "cube-surface"],
+    "ordinary": list(ORDINARY),
+    "worst": list(WORST),
+    "images": [f"{family}@{word}" for family in WORST for word in MAPS],
 }
 
 
+def family_of(name):
+    """Returns what makes the points of a family, or of its image under a map; None if there is none of this name."""
+    family, at, word = name.partition("@")
+    if family not in FAMILIES or (at and word not in MAPS):
+        return None
+    if not at:
+        return FAMILIES[family]
+    return lambda rng, count: [MAPS[word](*point) for point in FAMILIES[family](rng, count)]
+
+
+def names_of(text):
+    """Returns the families of a list of names with commas, which may be groups; an unknown name ends the script."""
+    names = [family for name in text.split(",") for family in GROUPS.get(name, [name])]
+    for name in names:
+        if family_of(name) is None:
+            sys.exit(f"{name} is no family: bench/points.py --help lists them")
+    return names
+
+
+def points_of(name, count):
+    """The points of a family, from seed 1."""
+    return family_of(name)(random.Random(1), count)
+
+
 def main():
-    names = names_given(f"{__doc__.strip()}\n\nThe families are {', '.join(FAMILIES)}.")
-    if len(names) != 2 or names[0] not in FAMILIES:
-        sys.exit("name a family and a number of points; --help lists the families")
-    family, count = names[0], int(names[1])
-    points = FAMILIES[family](random.Random(1), count)
+    names = names_given(f"{__doc__.strip()}\n\nThe families are {', '.join(FAMILIES)}. The maps are {', '.join(MAPS)}.")
+    if len(names) != 2 or family_of(names[0]) is None:
+        sys.exit("name a family, or FAMILY@MAP, and a number of points; --help lists them")
+    points = points_of(names[0], int(names[1]))
     sys.stdout.write("3\n%d\n" % len(points))
     sys.stdout.writelines("%d %d %d\n" % p for p in points)
 

@@ -3,14 +3,12 @@
 
     bench/python.py [--counts 1000,10000,100000,1000000] [--families cube,ball,sphere] [--rounds N]
 
-Each row is one seeded set of points (`points.py`), which lies in memory as both want it: int32 for this module, float64
-for scipy. Both make the hull in turn, round after round, at least N times, and of few points often enough for 200,000
-points together; the best CPU time of each counts. scipy's constructor computes the triangles, their neighbours and
-equations, the area and the volume, so the second column of this module's times is with all of these. Needs numpy,
-scipy and the library of `make -C c`. Nothing is asserted.
+Each row is one seeded set of points, which lies in memory as both want it: int32 for this module, float64 for scipy. Both make the hull
+in turn, round after round, at least N times, and of few points often enough for 200,000 points together; the least CPU time of each counts.
+scipy's constructor computes the triangles, their neighbours and equations, the area and the volume, so the second column of this module's
+times is with all of these. Needs numpy, scipy and the library of `make -C c`.
 """
 import argparse
-import random
 import sys
 import time
 from pathlib import Path
@@ -20,8 +18,12 @@ from scipy.spatial import ConvexHull as TheirHull
 
 import points as families
 
-sys.path.insert(0, str(Path(__file__).resolve().parents[1] / "python"))
-from qconvex import ConvexHull, POINT_LIMIT  # noqa: E402
+sys.path.insert(0, str(Path(__file__).resolve().parents[1] / "scripts"))
+from lib import package  # noqa: E402,F401
+from qconvex import ConvexHull, hulls  # noqa: E402
+
+
+__all__ = ["ConvexHull", "TheirHull", "hulls"]
 
 
 def hull_with_all(points):
@@ -39,8 +41,8 @@ def timed(work, points, times):
 
 
 def row(family, count, rounds):
-    """One row: the family, the count, the extreme points of both, the times, and how many times as long scipy takes."""
-    whole = np.array(getattr(families, family)(random.Random(count), count), np.int32)
+    """One row: the family, the count, the extreme points, whether both find the same, the times, and their ratios."""
+    whole = np.array(families.points_of(family, count), np.int32)
     decimal = whole.astype(np.float64)
     bare, full, theirs = [], [], []
     for _ in range(rounds):
@@ -50,21 +52,19 @@ def row(family, count, rounds):
     same = set(map(tuple, whole[hull.vertices].tolist())) == set(map(tuple, whole[other.vertices].tolist()))
     cells = [family, str(count), str(len(hull.vertices)), "yes" if same else "NO"]
     cells += ["%.5f" % min(times) for times in (bare, full, theirs)]
-    cells += ["%.1f" % (min(theirs) / min(times)) for times in (bare, full)]
-    return "| " + " | ".join(cells) + " |"
+    return "| " + " | ".join(cells + ["%.1f" % (min(theirs) / min(times)) for times in (bare, full)]) + " |"
 
 
 def main():
     parser = argparse.ArgumentParser(description=__doc__, formatter_class=argparse.RawDescriptionHelpFormatter)
     parser.add_argument("--counts", default="1000,10000,100000,1000000")
-    parser.add_argument("--families", default="cube,ball,sphere")
+    parser.add_argument("--families", type=families.names_of, default="cube,ball,sphere")
     parser.add_argument("--rounds", type=int, default=3)
     given = parser.parse_args()
-    print("| family | points | extreme | same as scipy's | hull s | with all s | scipy s | times | times with all |")
-    print("|---|---|---|---|---|---|---|---|---|")
-    for family in given.families.split(","):
+    print("| family | points | extreme | same as scipy's | hull s | with all s | scipy s | times | times with all |\n" + "|---" * 9 + "|")
+    for family in given.families:
         for count in map(int, given.counts.split(",")):
-            print(row(family, min(count, POINT_LIMIT), max(given.rounds, 200_000 // count)), flush=True)
+            print(row(family, count, max(given.rounds, 200_000 // count)), flush=True)
 
 
 if __name__ == "__main__":

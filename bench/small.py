@@ -7,31 +7,26 @@
 Each row is some seeded sets of one size, all solid, about 8,192 points together. `small_hulls.cpp` makes them by all libraries in
 turn, with what each keeps in memory already, and the least CPU time of the rounds counts, in microseconds a hull. `hulls` is
 one call of qconvex_hulls for all sets. The ratios are of qconvex_hull to each peer; the goals are 0.3 of Qhull, 0.8 of CGAL
-from 8 points on and 1.0 of Bullet. A `*` stands where a peer finds another number of vertices; where it refuses a set, it
+from 8 points on and 1.0 of Bullet. A `*` marks a peer that finds another number of vertices; where it refuses a set, it
 has no time.
 
-In Python `ConvexHull` with all attributes that scipy's constructor computes stands beside that, and one call of `hulls` beside
+In Python `ConvexHull` with all attributes that scipy's constructor computes is compared with it, and one call of `hulls` with
 the C call: its goal is 1.5 of that. Needs `make -C c`. The status is 1 where a goal is missed by more than a tenth.
 """
 import argparse
-import math
 import random
 import struct
 import subprocess
 import sys
 import tempfile
-import time
 from pathlib import Path
 
 import numpy as np
-from scipy.spatial import ConvexHull as TheirHull
 
-import points as families
+import families
+import python as module
 
 TOP = Path(__file__).resolve().parents[1]
-sys.path.insert(0, str(TOP / "python"))
-from qconvex import ConvexHull, hulls  # noqa: E402
-
 POINTS_OF_A_ROW = 8192
 OVER = 1.1
 GOALS = {"qhull": 0.3, "cgal": 0.8, "bullet": 1.0}
@@ -80,34 +75,22 @@ def library_times(program, sets, rounds):
     return times, {name for name, _, found in rows if found not in (rows[0][2], "-1")}
 
 
-def best_of(work, rounds):
-    """The least CPU time of some work, in microseconds."""
-    best = math.inf
-    for _ in range(rounds):
-        start = time.process_time_ns()
-        work()
-        best = min(best, (time.process_time_ns() - start) / 1000)
-    return best
-
-
-def with_all(points):
-    """This module's hull with all that scipy's constructor computes."""
-    hull = ConvexHull(points)
-    return hull.simplices, hull.neighbors, hull.equations, hull.area, hull.volume
-
-
 def module_times(sets, rounds):
     """Microseconds a hull of the module for Python: alone, with all attributes, scipy's, and in one call."""
     few = sets[: max(1, 256 // sets.shape[1])]
     decimal = few.astype(float)
     whole, starts = sets.reshape(-1, 3), np.arange(len(sets) + 1) * sets.shape[1]
     works = {
-        "module": (lambda: [ConvexHull(points) for points in few], len(few)),
-        "all": (lambda: [with_all(points) for points in few], len(few)),
-        "scipy": (lambda: [TheirHull(points) for points in decimal], len(few)),
-        "module hulls": (lambda: hulls(whole, starts), len(sets)),
+        "module": (lambda _: [module.ConvexHull(points) for points in few], len(few)),
+        "all": (lambda _: [module.hull_with_all(points) for points in few], len(few)),
+        "scipy": (lambda _: [module.TheirHull(points) for points in decimal], len(few)),
+        "module hulls": (lambda _: module.hulls(whole, starts), len(sets)),
     }
-    return {name: best_of(work, rounds) / count for name, (work, count) in works.items()}
+    times = {name: [] for name in works}
+    for _ in range(rounds):
+        for name, (work, _) in works.items():
+            module.timed(work, None, times[name])
+    return {name: min(times[name]) / count * 1e6 for name, (_, count) in works.items()}
 
 
 def missed_goals(count, times):

@@ -21,6 +21,7 @@ def scripts():
                 yield path, [sys.executable, path]
         for path in sorted((TOP / folder).glob("*.sh")):
             yield path, ["sh", path]
+    yield TOP / "scripts/trials/all", [sys.executable, TOP / "scripts/trials/all"]
 
 
 class Starts(unittest.TestCase):

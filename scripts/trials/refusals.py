@@ -1,102 +1,135 @@
 #!/usr/bin/env python3
-"""Refuses each allocation and each thread of the refusal tests in turn, one in each run, and checks how they end.
+"""Refuses each growth and each thread in turn, of the programs and of calls, and checks how they end.
 
-    scripts/trials/refusals.py [CRATE..]        from the top of the repository; without a name, all crates with such tests
+    scripts/trials/refusals.py [--seconds N] [--seed N] [--only program,checker,calls]
 
-The tests of a crate's modules `refusals` make calls that take memory on square-with-centre, unit-cube and
-octahedron-midpoints, each call that is refused once more, and want the right result, or Memory and then the right
-result, with all that the call was made on as before. The script has `rt test` prove, build and run them, and runs each
-by itself with the library of refuse.py: the first growth is refused, then the second, and so on until a run meets no
-refusal; then the same of threads. Each run must pass and give back as many blocks as it took. Of the tests named
-`falls_back`, which ask for the right result at once, at least one run that met a refusal must pass: there the calling
-thread took the place of a worker whose growth was refused.
+lib/refuse.c refuses the Nth call of malloc or realloc that a program makes, or all from the Nth on, or the same of pthread_create. N goes up
+from 1 until a run meets no refusal. Each run must have given back as many blocks as it took, and end within a minute. The seed gives the
+order of the sweeps, in which the seconds may end; all together take about twenty minutes.
 
-It prints each run that was wrong, a line for each test, and how many refusals were tried. The status is 1 if a run was
-wrong.
+program     qconvex over three examples and 2,000 points, with 1, 2 and 7 workers: the right text of `rank s Fx off` and status 0, or
+            `qconvex: 8: Memory` and status 3. Of the 2,000 points a sweep has about 100 runs
+checker     hullcheck on right and wrong faces of the examples, whole and in triangles: the right verdict, or out of memory
+calls       the tests of the crates' modules `refusals`, proved and built by `rt test`: each passes. Of a test `falls_back` one run that met
+            a refusal passes: there the calling thread took the place of a worker
 """
+import random
 import subprocess
 import sys
-import tempfile
-from collections import Counter
 from pathlib import Path
 
 sys.path.insert(0, str(Path(__file__).resolve().parents[1]))
-from lib.usage import known, names_given  # noqa: E402
-from trials.refuse import build, is_refusal, run  # noqa: E402
+from lib import refusing, trials  # noqa: E402
+from lib.file_oracle import points_of  # noqa: E402
+from lib.hull_oracle import file_of, hull_text  # noqa: E402
+from lib.paths import TOP  # noqa: E402
+
+OUTPUTS = ["rank", "s", "Fx", "off"]
+WORKERS = ["1", "2", "7"]
+# The examples, each with a block size.
+EXAMPLES = {"square-with-centre": "2", "unit-cube": "2", "octahedron-midpoints": "3"}
+BLOCK_OF_MANY = "100"
+RUNS_OF_A_SWEEP = 100
+MEMORY = (3, b"", b"qconvex: 8: Memory\n")
+CHECKS_OUT_OF_MEMORY = [(3, b"", b"hullcheck: " + line + b"\n") for line in (b"the points: Memory", b"the faces: Memory", b"out of memory")]
+MODULE, MAY_FAIL = "refusals::", "falls_back"
 
 
-MODULE = "refusals::"
-# The tests of which only some runs that meet a refusal pass.
-MAY_FAIL = "falls_back"
-VARIABLES = ["REFUSE_GROWTH", "REFUSE_THREAD"]
+def outcome(run, wanted, memory):
+    """Returns how a run ended, and what is wrong with it: it is one of the answers, and all blocks came back."""
+    title, said, report = run
+    right = said == wanted or (refusing.is_refusal(report) and said in memory)
+    kind = "no refusal" if not refusing.is_refusal(report) else "right in spite of it" if said == wanted else "out of memory"
+    return kind, None if right and report.new == report.given_back else f"{title}: {said}, {report}"
 
 
-def crates_with_tests():
-    return sorted({path.parts[1] for path in Path("crates").glob("*/src/tests/**/refusals.rt")})
+def example(name):
+    """The points of an example, and its path."""
+    path = TOP / "examples" / f"{name}.txt"
+    return points_of(path.read_bytes()), str(path)
 
 
-def tests_of(crate):
-    """The program of a crate's tests, built and run by rt, and the names of its refusal tests."""
-    subprocess.run(["rt", "test", "--", MODULE], cwd=f"crates/{crate}", check=True, stdout=subprocess.DEVNULL)
-    program = f"crates/{crate}/out/{crate}_tests"
-    lines = subprocess.run([program, "--list"], capture_output=True, text=True, check=True).stdout.splitlines()
-    names = [line.removesuffix(": test") for line in lines]
-    return program, [name for name in names if f"::{MODULE}" in name]
+def many_points():
+    """2,000 points of a lattice within a ball, some of them again: corners, coplanar points and points within."""
+    rng, points = random.Random(18), []
+    while len(points) < 2000:
+        point = tuple(rng.randint(-20, 20) for _ in range(3))
+        points += [point] * (sum(part * part for part in point) <= 400)
+    return points
 
 
-def outcome(test, said, report):
-    """How a run of a test ended: it passed, it failed as it may, or it was wrong."""
-    passed = said[0] == 0
-    if passed and report.new == report.given_back:
-        return "passed"
-    return "failed" if not passed and said[0] != "no end" and test.endswith(MAY_FAIL) else "WRONG"
+def program(given, rng):
+    """The built program."""
+    ours = trials.need(given.program)
+    many = file_of(many_points())
+    alone = subprocess.run([ours, "--workers", "1", "--block", "1048576", *OUTPUTS], input=many, capture_output=True, check=True)
+    inputs = [(file_of(example(name)[0]), block, hull_text(example(name)[0], OUTPUTS)[0]) for name, block in EXAMPLES.items()]
+    inputs.append((many, BLOCK_OF_MANY, alone.stdout))
+    sweeps = [(one, workers, variable) for one in inputs for workers in WORKERS for variable in refusing.VARIABLES]
+    with refusing.library() as library:
+        for (data, block, text), workers, variable in rng.sample(sweeps, len(sweeps)):
+            command, step = [ours, "--workers", workers, "--block", block, *OUTPUTS], 1
+            if data is many and "GROWTH" in variable:
+                _, report = refusing.run(command, data, library, {})
+                step = max(1, (report.new + report.grown) // RUNS_OF_A_SWEEP)
+            for run in refusing.sweep(command, data, library, variable, step):
+                yield outcome(run, (0, text, b""), [MEMORY])
 
 
-def sweep(program, test, library, variable):
-    """How many runs that met a refusal ended in which way; the last met none and must pass."""
-    outcomes, number = Counter(), 1
-    while True:
-        said, report = run([program, test], b"", library, {variable: str(number)})
-        found = outcome(test, said, report)
-        if found == "WRONG" or (found == "failed" and not is_refusal(report)):
-            print(f"WRONG: {variable}={number} {program} {test}: {said}, {report}", flush=True)
-            outcomes["WRONG"] += 1
-        elif is_refusal(report):
-            outcomes[found] += 1
-        if not is_refusal(report):
-            return outcomes
-        number += 1
+def faces_of_checks():
+    """Of each check its points and its faces: right ones, whole and in triangles, and with one face less."""
+    for name in EXAMPLES:
+        points, path = example(name)
+        for output in ["off", "offt"]:
+            text = hull_text(points, [output])[0]
+            yield path, text
+            rows = text.splitlines()
+            corners, faces, edges = rows[1].split()
+            if int(faces) > 1:
+                yield path, b"\n".join([rows[0], b"%s %d %s" % (corners, int(faces) - 1, edges), *rows[2:-1]]) + b"\n"
 
 
-def try_crate(crate, library):
-    """How the runs of a crate's refusal tests ended."""
-    totals = Counter()
-    program, tests = tests_of(crate)
-    if not tests:
-        print(f"WRONG: {crate} has no test of a module `refusals`", flush=True)
-        totals["WRONG"] += 1
-    for test in tests:
-        growths, threads = [sweep(program, test, library, variable) for variable in VARIABLES]
-        if test.endswith(MAY_FAIL) and not growths["passed"]:
-            print(f"WRONG: {crate}, {test}: no run that met a refusal passed", flush=True)
-            totals["WRONG"] += 1
-        shown = ", ".join(f"{count} {found}" for found, count in sorted(growths.items()))
-        print(f"{crate}, {test}: growths refused: {shown}; threads: {sum(threads.values())}", flush=True)
-        totals += growths + threads
-    return totals
+def checker(given, rng):
+    """The built checker."""
+    ours = trials.need(given.checker)
+    sweeps = [(check, workers, variable) for check in faces_of_checks() for workers in WORKERS for variable in refusing.VARIABLES]
+    with refusing.library() as library:
+        for (points, faces), workers, variable in rng.sample(sweeps, len(sweeps)):
+            command = [ours, "--workers", workers, points]
+            wanted, _ = refusing.run(command, faces, library, {})
+            for run in refusing.sweep(command, faces, library, variable):
+                yield outcome(run, wanted, CHECKS_OUT_OF_MEMORY)
 
 
-def main():
-    totals = Counter()
-    crates = known(names_given(__doc__), crates_with_tests()) or crates_with_tests()
-    with tempfile.TemporaryDirectory() as folder:
-        library = build(folder)
-        for crate in crates:
-            totals += try_crate(crate, library)
-    print(f"{sum(totals.values())} refusals tried: {totals['passed']} passed, {totals['failed']} failed as they may, ", end="")
-    print(f"{totals['WRONG']} WRONG")
-    sys.exit(1 if totals["WRONG"] else 0)
+def outcomes_of_test(tests, test, library):
+    """Yields the outcomes of the sweeps of one test."""
+    may_fail, passed = test.endswith(MAY_FAIL), 0
+    for variable in (refusing.ONE_GROWTH, refusing.ONE_THREAD):
+        for title, said, report in refusing.sweep([tests, test], b"", library, variable):
+            passes = said[0] == 0 and report.new == report.given_back
+            passed += passes and variable == refusing.ONE_GROWTH and refusing.is_refusal(report)
+            fails_as_it_may = may_fail and said[0] not in (0, "no end") and refusing.is_refusal(report)
+            yield "passes" if passes else "fails as it may", None if passes or fails_as_it_may else f"{title}: {said}, {report}"
+    if may_fail:
+        yield "has a run that passes", None if passed else f"{test}: no run whose growth was refused passes"
+
+
+def calls(given, rng):
+    """The calls of the crates that have tests of refusals."""
+    trials.need_rt(given)
+    crates = sorted({path.relative_to(TOP).parts[1] for path in TOP.glob("crates/*/src/tests/**/refusals.rt")})
+    with refusing.library() as library:
+        for crate in rng.sample(crates, len(crates)):
+            folder = TOP / "crates" / crate
+            subprocess.run(["rt", "test", "--", MODULE], cwd=folder, check=True, stdout=subprocess.DEVNULL)
+            program = str(folder / "out" / f"{crate}_tests")
+            listed = subprocess.run([program, "--list"], capture_output=True, text=True, check=True).stdout.splitlines()
+            tests = [line.removesuffix(": test") for line in listed if f"::{MODULE}" in line]
+            if not tests:
+                yield "crates", f"{crate} has no test of a module `refusals`"
+            for test in tests:
+                yield from outcomes_of_test(program, test, library)
 
 
 if __name__ == "__main__":
-    main()
+    trials.main(__doc__, {"program": program, "checker": checker, "calls": calls})
