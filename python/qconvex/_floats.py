@@ -12,9 +12,9 @@ from numpy.typing import NDArray
 from ._arrays import floats_of
 from ._grid import BITS_LIMIT, snap
 from ._hull import ConvexHull
-from ._library import flat_hull
 from ._sides import Places
 from ._triangles import equations_of
+from ._workers import hull_by_parts
 
 # Centres from here on are those of floats that are whole steps each.
 _WHOLE = 1 << 52
@@ -44,10 +44,10 @@ class FloatHull(ConvexHull):
 
     points: NDArray[np.float64]  # type: ignore[assignment]
 
-    def __init__(self, points: Any, bits: int = BITS_LIMIT) -> None:
+    def __init__(self, points: Any, bits: int = BITS_LIMIT, *, workers: int = 1) -> None:
         floats = floats_of(points)
         snapped = snap(floats, bits)
-        self._take(snapped.points, flat_hull(snapped.points))
+        self._take(snapped.points, hull_by_parts(snapped.points, workers))
         self.points = floats
         self.scale: float = snapped.step
         self.centre: tuple[int, int, int] = snapped.centre

@@ -8,11 +8,12 @@ import numpy as np
 from numpy.typing import NDArray
 
 from ._arrays import floats_of, numbers_of
-from ._library import RANGE_REFUSAL, FlatHull, flat_hull
+from ._library import RANGE_REFUSAL, FlatHull
 from ._limits import COORDINATE_LIMIT
 from ._sides import Cones, Places, sides_of
 from ._surface import Surface
 from ._texts import obj_text, off_text, ply_text, stl_text
+from ._workers import hull_by_parts
 
 if TYPE_CHECKING:
     from ._floats import FloatHull
@@ -64,6 +65,9 @@ class ConvexHull(Surface):
     copy : bool, default True
         If true, the attribute `points` is a copy that can't be written. If false, it is the given array itself, if that is an
         aligned, C-contiguous array of int32: leave it unchanged while you use the hull.
+    workers : int, default 1
+        How many threads share the work: each takes the extreme points of a part. -1 stands for all processors. Few points, and
+        those that are mostly extreme, such as points on a sphere, one thread takes.
 
     Raises
     ------
@@ -96,9 +100,9 @@ class ConvexHull(Surface):
         The corners of face j are ``corners[offsets[j]:offsets[j + 1]]``.
     """
 
-    def __init__(self, points: WholePoints, *, copy: bool = True) -> None:
+    def __init__(self, points: WholePoints, *, copy: bool = True, workers: int = 1) -> None:
         whole = whole_points(points, copy)
-        self._take(whole, flat_hull(whole))
+        self._take(whole, hull_by_parts(whole, workers))
 
     @classmethod
     def _of(cls, points: NDArray[np.int32], hull: FlatHull) -> ConvexHull:
@@ -108,11 +112,11 @@ class ConvexHull(Surface):
         return made
 
     @classmethod
-    def from_floats(cls, points: Any, bits: int = 30) -> FloatHull:
+    def from_floats(cls, points: Any, bits: int = 30, *, workers: int = 1) -> FloatHull:
         """Returns the exact hull of points near the given floats, in their units: see `FloatHull`."""
         from ._floats import FloatHull
 
-        return FloatHull(points, bits)
+        return FloatHull(points, bits, workers=workers)
 
     def __repr__(self) -> str:
         return (
