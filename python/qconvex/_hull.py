@@ -12,7 +12,7 @@ from ._library import RANGE_REFUSAL, FlatHull
 from ._limits import COORDINATE_LIMIT
 from ._sides import Cones, Places, sides_of
 from ._surface import Surface
-from ._texts import obj_text, off_text, ply_text, stl_text
+from ._texts import Drawn, obj_text, off_text, ply_text, stl_text
 from ._workers import hull_by_parts
 
 if TYPE_CHECKING:
@@ -146,15 +146,15 @@ class ConvexHull(Surface):
 
     def to_off(self) -> str:
         """Returns the hull as an OFF file, as the program's output `off` writes it."""
-        return off_text(self._corner_places(), self._numbered_faces(), self.nedges)
+        return off_text(self._drawn(), self.nedges)
 
     def to_obj(self) -> str:
         """Returns the hull as a Wavefront OBJ file, with faces as polygons."""
-        return obj_text(self._corner_places(), self._numbered_faces())
+        return obj_text(self._drawn())
 
     def to_ply(self) -> str:
         """Returns the hull as a PLY text, with faces as polygons."""
-        return ply_text(self._corner_places(), self._numbered_faces())
+        return ply_text(self._drawn())
 
     def to_stl(self) -> str:
         """Returns the triangles of the hull as an STL text, with unit normals that are rounded."""
@@ -174,16 +174,16 @@ class ConvexHull(Surface):
         """Returns a picture that can be turned, for notebooks."""
         from ._view import frame, page
 
-        return frame(page(self.vertices.tolist(), self._corner_places().tolist(), self._numbered_faces(), repr(self)))
+        drawn = self._drawn()
+        return frame(page(self.vertices.tolist(), drawn.places.tolist(), self._numbered_faces(), repr(self)))
 
-    def _corner_places(self) -> NDArray[Any]:
-        """The places of the vertices."""
-        places: NDArray[Any] = self._coordinates()[self.vertices]
-        return places
+    def _drawn(self) -> Drawn:
+        """Returns the vertices, and the faces with each corner as its position in `vertices`."""
+        numbers = np.zeros(len(self.points), np.intp)
+        numbers[self.vertices] = np.arange(len(self.vertices))
+        return Drawn(self._coordinates()[self.vertices], numbers[self.corners], self.offsets)
 
     def _numbered_faces(self) -> list[list[int]]:
         """Returns the faces, with each corner as its position in `vertices`."""
-        numbers = np.zeros(len(self.points), np.int64)
-        numbers[self.vertices] = np.arange(len(self.vertices))
-        corners, ends = numbers[self.corners].tolist(), self.offsets.tolist()
+        corners, ends = self._drawn().corners.tolist(), self.offsets.tolist()
         return [corners[start:end] for start, end in zip(ends, ends[1:])]
