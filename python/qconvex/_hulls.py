@@ -143,18 +143,12 @@ def hulls(points: WholePoints, starts: ArrayLike, *, copy: bool = True, workers:
     whole, places = whole_points(points, copy), _whole_starts(starts)
     if places[-1] > len(whole) or (places[1:] < places[:-1]).any():
         raise ValueError(_STARTS_REFUSAL)
-    sets, end = len(places) - 1, int(places[-1])
-    buffers = _Buffers(
-        np.zeros(sets, _ANSWER),
-        np.zeros(end, np.int32),
-        np.zeros(2 * (end + sets), np.intp),
-        np.zeros(6 * end + 4 * sets, np.int32),
-    )
+    buffers = _room_for(len(places) - 1, int(places[-1]))
     cuts = _cuts_of(places, count_of(workers))
     codes = shared(lambda cut: _call(*_part_of(cut, whole, places, buffers)), cuts, len(cuts))
     assert not any(codes), codes
-    for list_of_numbers in buffers:
-        list_of_numbers.setflags(write=False)
+    for numbers in buffers:
+        numbers.setflags(write=False)
     return Hulls(whole, places, buffers)
 
 
@@ -169,6 +163,16 @@ def _whole_starts(starts: ArrayLike) -> NDArray[np.intp]:
         raise ValueError(_STARTS_REFUSAL)
     places: NDArray[np.intp] = np.require(given, dtype=np.intp, requirements=["C", "A"])
     return places.copy() if np.shares_memory(places, given) else places
+
+
+def _room_for(sets: int, points: int) -> _Buffers:
+    """Room for the hulls of sets that end at a number of points."""
+    return _Buffers(
+        np.zeros(sets, _ANSWER),
+        np.zeros(points, np.int32),
+        np.zeros(2 * (points + sets), np.intp),
+        np.zeros(6 * points + 4 * sets, np.int32),
+    )
 
 
 def _cuts_of(starts: NDArray[np.intp], count: int) -> list[tuple[int, int]]:

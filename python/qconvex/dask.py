@@ -103,7 +103,8 @@ def read(paths: Paths, columns: Sequence[str] | None = None) -> da.Array:
     """Returns the points of files, one after the other, as a dask array.
 
     A file is told by its name: `.npy` has an array of shape (n, 3); `.parquet` or `.parq`, also a folder, has the three
-    columns named, or three in all (pyarrow reads it); `.csv` has three columns of whole numbers; any other is a point file, with each point on lines of its own.
+    columns named, or three in all (pyarrow reads it); `.csv` has three columns of whole numbers; any
+    other is a point file, with each point on lines of its own.
     Workers open the files by the same names. The lengths of a point file's chunks are not known before it is read, so
     its count is compared by `extremes` alone.
     """

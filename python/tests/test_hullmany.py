@@ -63,7 +63,8 @@ def late(rng, points):
 def files_of(folder, points):
     """Files of several kinds with some of the points each."""
     rows = [",".join(map(str, point)) for point in points]
-    texts = {"a.csv": "\n".join(["x,y,z", *rows[:50]]), "b.csv": "\r\n".join(rows[50:90]).replace(",", ";"), "c.txt": regular(points[90:200]).rstrip()}
+    texts = {"a.csv": "\n".join(["x,y,z", *rows[:50]]), "b.csv": "\r\n".join(rows[50:90]).replace(",", ";")}
+    texts["c.txt"] = regular(points[90:200]).rstrip()
     texts["d.txt"] = f"{len(points) - 200} 3 {points[200][0]}\n" + regular(points[200:], " # a\n").split("\n", 2)[2].split(" ", 1)[1]
     for name, text in texts.items():
         (folder / name).write_text(text)

@@ -161,7 +161,8 @@ def test_the_least_power_of_ten_is_taken(words, scale, tmp_path):
 
 def binary_ply(floats):
     head = b"ply\nformat binary_little_endian 1.0\nelement vertex %d\n" % len(floats)
-    return head + b"".join(b"property double %c\n" % axis for axis in b"xyz") + b"end_header\n" + struct.pack(f"<{3 * len(floats)}d", *sum(floats, []))
+    head += b"".join(b"property double %c\n" % axis for axis in b"xyz") + b"end_header\n"
+    return head + struct.pack(f"<{3 * len(floats)}d", *sum(floats, []))
 
 
 @pytest.mark.parametrize("case", range(12))

@@ -32,7 +32,8 @@ def test_sides_are_those_of_the_inequalities(reach, shape):
         pairs = points[rng.integers(0, count, (2, 30))]
         hull, places = ConvexHull(points), np.concatenate([points, pairs.sum(axis=0) // 2, rng.integers(-reach, reach + 1, (50, 3))])
         assert hull.sides(places).tolist() == wanted(hull, places)
-        near = np.concatenate([rng.uniform(-reach, reach, (30, 3)), pairs.mean(axis=0), places + rng.choice([0, 2.0**-21, -(2.0**-60)], places.shape)])
+        beside = places + rng.choice([0, 2.0**-21, -(2.0**-60)], places.shape)
+        near = np.concatenate([rng.uniform(-reach, reach, (30, 3)), pairs.mean(axis=0), beside])
         assert hull.sides(near).tolist() == wanted(hull, near) and np.array_equal(hull.contains(near), hull.sides(near) >= 0)
         floats = ConvexHull.from_floats(points * 0.1 + [0, 1e15, -3])
         near = np.concatenate([floats.points, floats.coordinates, floats.points[rng.integers(0, count, (2, 30))].mean(axis=0)])
@@ -41,7 +42,8 @@ def test_sides_are_those_of_the_inequalities(reach, shape):
 
 def test_sides_of_other_places():
     hull = ConvexHull(CUBE)
-    assert hull.sides(np.zeros((0, 3))).shape == (0,) and hull.contains([[10**15, 0, 0], [-1e300, 0, 0], [5e-324, 0.5, 0.5]]).tolist() == [False, False, True]
+    assert hull.sides(np.zeros((0, 3))).shape == (0,)
+    assert hull.contains([[10**15, 0, 0], [-1e300, 0, 0], [5e-324, 0.5, 0.5]]).tolist() == [False, False, True]
     assert hull.sides([[0.5, 0.5, 0.5], [0.5, 0.5, 1], [0.5, 0.5, 1 + 2**-50]]).tolist() == [1, 0, -1]
     for scale in (2.0**-997, 2.0**-1070, 2.0**1000):
         far = ConvexHull.from_floats(np.array(CUBE) * scale)

@@ -10,7 +10,10 @@ from test_hulls import CUBE, same
 COUNT = _workers._LEAST
 
 
-@pytest.mark.parametrize("reach, shape", [(9, [1, 1, 1]), (1000, [1, 1, 1]), (50, [1, 1, 0]), (50, [0, 1, 0]), (0, [1, 1, 1]), (COORDINATE_LIMIT, [1, 1, 1])])
+SHAPES = [(9, [1, 1, 1]), (1000, [1, 1, 1]), (50, [1, 1, 0]), (50, [0, 1, 0]), (0, [1, 1, 1]), (COORDINATE_LIMIT, [1, 1, 1])]
+
+
+@pytest.mark.parametrize("reach, shape", SHAPES)
 def test_the_hull_of_parts_is_that_of_all(reach, shape, monkeypatch):
     points = np.random.default_rng(reach).integers(-reach, reach + 1, (400, 3)) * shape
     one = ConvexHull(points)

@@ -6,8 +6,9 @@
     hullfacets --form polymake [FILE]      as a script of polymake that makes the polytope $p of vertices and facets,
     hullfacets --form lrs [FILE]           or as an H-representation for lrs
 
-FILE may also be the text of `Fx off`: then JSON names the corners by their indices in the input as well. All numbers are whole. The points of the hull are the points p with `normal . p <= offset` for every facet; normal and
-offset have no common divisor. The neighbours of a facet stand in the order of its sides: the first lies beyond the
+FILE may also be the text of `Fx off`: then JSON names the corners by their indices in the input as well. All numbers are
+whole. The points of the hull are the points p with `normal . p <= offset` for every facet; normal and offset have no common
+divisor. The neighbours of a facet stand in the order of its sides: the first lies beyond the
 side from its first corner to its second. Of each corner the facets are listed in their order round it, counterclockwise
 from outside. A flat hull has one facet without neighbours, and the volume 0; a line or a point has none. The forms for
 other programs describe those, too: by the equations of their plane, line or place, and what bounds them in it.
