@@ -203,7 +203,7 @@ LACKING = {
     "cut.ply": (PLY_TEXT[:-len("9 0.0 0 0e0\n") * 6 - 1], "counts 9 rows, and 3 rows follow line 10"),
     "short.ply": (PLY_TEXT.replace("9 0.0 1 0e0", "9 0.0 1"), "line 14: a vertex has 3 numbers; its properties are 4"),
     "minus.ply": (PLY_TEXT.replace("vertex 8", "vertex -8"), "line 5: element vertex -8 is no element of a ply file"),
-    "list.ply": (PLY_TEXT.replace("uchar red", "list uchar uchar red"), "the element vertex of the ply file has a list"),
+    "list.ply": (PLY_TEXT.replace("uchar red", "list uchar uchar red"), "line 6: a vertex has a list, red"),
     "type.ply": (PLY_TEXT.replace("uchar red", "colour red"), "line 6: property colour red is no property"),
     "no-z.ply": (PLY_TEXT.replace("float z", "float w"), "has no x, y and z"),
     "cut.stl": (stl_text().decode()[:-20], "line 85: the text ends before its endsolid"),

@@ -52,6 +52,7 @@ NO_TABLES = {
     "cut.txt": ("3\n8\n0 0 0\n", "the header counts 8 points, and 1 rows follow"),
     "long.txt": ("3\n1\n0 0 0\n1 1 1\n", "the header counts 1 points, and 2 rows follow"),
     "row.txt": ("3\n2\n0 0 0\n1 1\n", "line 4: a point has 2 numbers"),
+    "same-line.txt": ("3 1 5 6 7\n", "a point file begins with 3"),
     "head.txt": ("2\n2\n0 0\n1 1\n", "begins with 3"),
     "no.npy": ("\x93NUMPY", "no array of numpy"),
 }
