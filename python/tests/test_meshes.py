@@ -159,6 +159,15 @@ def test_the_least_power_of_ten_is_taken(words, scale, tmp_path):
     assert said.startswith("exact") and taken == scale and found[0] == list(map(Fraction, words.split()))
 
 
+@pytest.mark.parametrize("centre, scale", [("1/2,0,0", 10), ("0.125,-3,1/5", 1000), ("7,0,0", 1)])
+def test_a_given_centre_stands_on_the_grid(centre, scale, tmp_path):
+    path = tmp_path / "whole.off"
+    path.write_text(CUBE_OFF)
+    found, said, taken = put(path, f"--centre={centre}")
+    assert sorted(map(tuple, found)) == CUBE and said.startswith("exact") and taken == scale
+    assert "were rounded" in put(path, "--centre", "1/3,0,0")[1]
+
+
 def binary_ply(floats):
     head = b"ply\nformat binary_little_endian 1.0\nelement vertex %d\n" % len(floats)
     head += b"".join(b"property double %c\n" % axis for axis in b"xyz") + b"end_header\n"
