@@ -40,6 +40,18 @@ def test_sides_are_those_of_the_inequalities(reach, shape):
         assert floats.sides(near).tolist() == wanted(floats, near, Fraction(floats.scale), floats.centre)
 
 
+@pytest.mark.parametrize("seed", range(4))
+def test_a_solid_that_is_nearly_flat(seed):
+    rng, far = np.random.default_rng(seed), COORDINATE_LIMIT // 3
+    a, b = rng.integers(-far, far, (2, 3))
+    u, v = rng.integers(-9, 10, (2, 40, 1)) / 9
+    plane = np.rint(u * a + v * b).astype(int)
+    hull = ConvexHull(plane)
+    places = np.concatenate([plane, plane + [0, 0, 1], plane - [1, 0, 0], rng.integers(-far, far, (20, 3))])
+    assert hull.dimension == 3 and hull.sides(places).tolist() == wanted(hull, places)
+    assert hull.sides(places / 2).tolist() == wanted(hull, places / 2)
+
+
 def test_sides_of_other_places():
     hull = ConvexHull(CUBE)
     assert hull.sides(np.zeros((0, 3))).shape == (0,)
