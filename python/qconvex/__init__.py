@@ -10,7 +10,7 @@ from typing import TYPE_CHECKING, Any
 from ._limits import COORDINATE_LIMIT, POINT_LIMIT
 
 if TYPE_CHECKING:
-    from ._checks import Verdict, check
+    from ._checks import Verdict, check, checks
     from ._floats import FloatHull
     from ._grid import Snapped, snap
     from ._hull import ConvexHull
@@ -27,6 +27,7 @@ __all__ = [
     "Verdict",
     "__version__",
     "check",
+    "checks",
     "hulls",
     "snap",
 ]
@@ -39,6 +40,7 @@ _NEEDS_LIBRARY = {
     "Snapped": ("._grid", "Snapped"),
     "Verdict": ("._checks", "Verdict"),
     "check": ("._checks", "check"),
+    "checks": ("._checks", "checks"),
     "hulls": ("._hulls", "hulls"),
     "snap": ("._grid", "snap"),
     "__version__": ("._library", "VERSION"),

@@ -33,11 +33,13 @@ def floats_of(points: Any) -> NDArray[np.float64]:
         raise ValueError(f"points must have the shape (n, 3), and have {given.shape}")
     if not len(given):
         raise ValueError("there is no point")
+    if given.dtype == np.float64:
+        return _finite(given.astype(np.float64))
     if given.dtype.kind == "O":
         return _finite(_floats_of_objects(given))
     with np.errstate(over="ignore"):
         floats = given.astype(np.float64)
-    if given.dtype.itemsize >= 8 and given.dtype != np.float64 and not _is_exact(given, floats):
+    if given.dtype.itemsize >= 8 and not _is_exact(given, floats):
         raise TypeError(f"points are {given.dtype}, and some of them no float64 exactly")
     return _finite(floats)
 

@@ -12,6 +12,7 @@ from numpy.typing import NDArray
 
 from ._hull import WholePoints, whole_points
 from ._library import LIBRARY, error_of
+from ._workers import count_of, shared
 
 Faces = Union[NDArray[np.integer[Any]], Iterable[Sequence[int]], Iterable[NDArray[np.integer[Any]]]]
 """Faces that `check` takes: an array with a face in each row, or a list or generator of faces of any number of corners."""
@@ -165,3 +166,8 @@ def check(points: WholePoints, faces: Faces) -> Verdict:
     if code != _DONE:
         raise error_of(code)
     return _verdict_of(told)
+
+
+def checks(sets: Iterable[tuple[WholePoints, Faces]], *, workers: int = 1) -> list[Verdict]:
+    """Returns what `check` says of the points and the faces of each set, by a number of threads; -1 stands for all processors."""
+    return shared(lambda given: check(*given), sets, count_of(workers))

@@ -9,6 +9,8 @@ from typing import BinaryIO
 import numpy as np
 from numpy.typing import NDArray
 
+from .commands.point_streams import BLANKS
+
 _DATA_WORD = re.compile(rb"[+-]?[0-9]+")
 _DATA_WORD_STARTS = b"0123456789+-."  # any other word begins a comment, up to the end of its line
 # Digits, signs and blanks, each as one byte, and anything else as another.
@@ -56,6 +58,8 @@ def read_block(path: str | Path, start: int, end: int) -> NDArray[np.int64]:
         begin, behind = _next_line(source, start), _next_line(source, end)
         source.seek(begin)
         text = source.read(behind - begin)
+    if Path(path).suffix == ".csv":
+        text = text.translate(BLANKS)
     numbers = _numbers_of(text, path, begin)
     if len(numbers) % 3:
         raise ValueError(f"{path}: the lines of the bytes {begin} to {begin + len(text)} have {len(numbers)} numbers, "
@@ -64,7 +68,9 @@ def read_block(path: str | Path, start: int, end: int) -> NDArray[np.int64]:
 
 
 def _next_line(source: BinaryIO, offset: int) -> int:
-    """The offset at which the first line begins that does not begin before an offset above 0."""
+    """The offset at which the first line begins that does not begin before an offset."""
+    if not offset:
+        return 0
     source.seek(offset - 1)
     source.readline()
     return source.tell()

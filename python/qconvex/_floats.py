@@ -1,6 +1,7 @@
 """Hulls of floats, by whole numbers near them."""
 from __future__ import annotations
 
+import operator
 from fractions import Fraction
 from functools import cached_property
 from math import frexp, inf, ldexp
@@ -10,11 +11,11 @@ import numpy as np
 from numpy.typing import NDArray
 
 from ._arrays import floats_of
-from ._grid import BITS_LIMIT, snap
+from ._grid import BITS_LIMIT, snapped
 from ._hull import ConvexHull
-from ._library import flat_hull
 from ._sides import Places
 from ._triangles import equations_of
+from ._workers import hull_by_parts
 
 # Centres from here on are those of floats that are whole steps each.
 _WHOLE = 1 << 52
@@ -44,14 +45,16 @@ class FloatHull(ConvexHull):
 
     points: NDArray[np.float64]  # type: ignore[assignment]
 
-    def __init__(self, points: Any, bits: int = BITS_LIMIT) -> None:
+    def __init__(self, points: Any, bits: int = BITS_LIMIT, *, workers: int = 1) -> None:
         floats = floats_of(points)
-        snapped = snap(floats, bits)
-        self._take(snapped.points, flat_hull(snapped.points))
+        grid = snapped(floats, operator.index(bits))
+        self._take(grid.points, hull_by_parts(grid.points, workers))
         self.points = floats
-        self.scale: float = snapped.step
-        self.centre: tuple[int, int, int] = snapped.centre
-        self.snap_error: float = snapped.error
+        self.scale: float = grid.step
+        self.centre: tuple[int, int, int] = grid.centre
+        self.snap_error: float = grid.error
+        floats.setflags(write=False)
+        grid.points.setflags(write=False)
 
     @cached_property
     def coordinates(self) -> NDArray[np.float64]:

@@ -17,6 +17,8 @@ BITS_LIMIT = 30
 FINEST = -1074
 """All floats are whole multiples of 2 to this power."""
 
+_ROWS = 256
+
 
 class Snapped(NamedTuple):
     """Whole numbers near floats: float i is about ``(points[i] + centre) * step``."""
@@ -25,6 +27,15 @@ class Snapped(NamedTuple):
     step: float  # a power of two
     centre: tuple[int, int, int]
     error: float  # the greatest distance along an axis from a float to its point, exactly
+
+
+def _along_axes(choice: np.ufunc, floats: NDArray[np.float64]) -> list[float]:
+    """The least or the greatest float on each axis; numpy finds them fast in long rows."""
+    whole = len(floats) // _ROWS * _ROWS
+    if whole:
+        floats = np.concatenate([choice.reduce(floats[:whole].reshape(-1, 3 * _ROWS), axis=0).reshape(-1, 3), floats[whole:]])
+    ends: list[float] = choice.reduce(floats, axis=0).tolist()
+    return ends
 
 
 class _Axis(NamedTuple):
@@ -48,8 +59,8 @@ def _finest(lows: list[float], highs: list[float], bits: int) -> tuple[int, list
     extent = max(high / 2 - low / 2 for low, high in zip(lows, highs))
     if lows == highs:
         exponent = FINEST
-    else:  # what dividing by two rounds is at most one step of the finest grid
-        exponent = max(frexp(extent)[1] - bits - 2, FINEST)
+    else:  # half the extent is at least 2^(bits - 1) steps; what dividing by two rounds is less than a step of the finest grid
+        exponent = max(frexp(extent)[1] - bits - 1, FINEST)
     while True:
         axes = [_axis_of(low, high, exponent) for low, high in zip(lows, highs)]
         if all(axis.high - axis.low <= 2 << bits for axis in axes):
@@ -59,10 +70,10 @@ def _finest(lows: list[float], highs: list[float], bits: int) -> tuple[int, list
 
 def _errors(floats: NDArray[np.float64], steps: NDArray[np.float64], whole: NDArray[np.float64], exponent: int) -> float:
     """The greatest distance between floats and whole steps. Each one is a float, so none is rounded."""
-    if np.array_equal(steps, whole) and np.array_equal(steps == 0, floats == 0):
+    if (steps == whole).all() and ((steps != 0) | (floats == 0)).all():
         return 0.0
-    moved = np.ldexp(np.abs(steps - whole), exponent)
-    return float(np.where(whole == 0, np.abs(floats), moved).max())
+    moved = np.ldexp(steps - whole, exponent)
+    return float(np.abs(np.where(whole == 0, floats, moved)).max())
 
 
 def snap(points: Any, bits: int = BITS_LIMIT) -> Snapped:
@@ -79,21 +90,26 @@ def snap(points: Any, bits: int = BITS_LIMIT) -> Snapped:
     ValueError
         The shape is not (n, 3), there is no point, a number is not finite, or bits is not from 1 to 30.
     """
-    floats, bits = floats_of(points), operator.index(bits)
+    return snapped(floats_of(points), operator.index(bits))
+
+
+def snapped(floats: NDArray[np.float64], bits: int) -> Snapped:
+    """The same of float64 that are finite."""
     if not 1 <= bits <= BITS_LIMIT:
         raise ValueError(f"bits must be from 1 to {BITS_LIMIT}")
-    lows, highs = floats.min(axis=0).tolist(), floats.max(axis=0).tolist()
+    lows, highs = _along_axes(np.minimum, floats), _along_axes(np.maximum, floats)
     exponent, axes = _finest(lows, highs, bits)
-    constant = np.equal(lows, highs)  # such an axis may be too far out for so small a step
-    varying = np.where(constant, 0.0, floats) if constant.any() else floats
+    varying = floats
+    if any(map(operator.eq, lows, highs)):  # such an axis may be too far out for so small a step
+        varying = np.where(np.equal(lows, highs), 0.0, floats)
     steps = np.ldexp(varying, -exponent)
     whole = np.rint(steps)
     error = max(_errors(varying, steps, whole, exponent), *(axis.error for axis in axes))
-    whole -= whole.min(axis=0)
+    whole -= [float(axis.low) if low < high else 0.0 for axis, low, high in zip(axes, lows, highs)]
     exact = 0 if error else _shift(whole, axes, exponent)
     ends = [(axis.low >> exact, axis.high >> exact) for axis in axes]
     halves = [(high - low) // 2 for low, high in ends]
-    numbers = (np.ldexp(whole, -exact) - halves).astype(np.int32)
+    numbers = ((np.ldexp(whole, -exact) if exact else whole) - halves).astype(np.int32)
     x, y, z = (low + half for (low, _), half in zip(ends, halves))
     return Snapped(numbers, ldexp(1.0, exponent + exact), (x, y, z), error)
 

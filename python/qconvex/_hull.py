@@ -8,11 +8,12 @@ import numpy as np
 from numpy.typing import NDArray
 
 from ._arrays import floats_of, numbers_of
-from ._library import RANGE_REFUSAL, FlatHull, flat_hull
+from ._library import RANGE_REFUSAL, FlatHull
 from ._limits import COORDINATE_LIMIT
 from ._sides import Cones, Places, sides_of
 from ._surface import Surface
-from ._texts import obj_text, off_text, ply_text, stl_text
+from ._texts import Drawn, obj_text, off_text, ply_text, stl_text
+from ._workers import hull_by_parts
 
 if TYPE_CHECKING:
     from ._floats import FloatHull
@@ -64,6 +65,9 @@ class ConvexHull(Surface):
     copy : bool, default True
         If true, the attribute `points` is a copy that can't be written. If false, it is the given array itself, if that is an
         aligned, C-contiguous array of int32: leave it unchanged while you use the hull.
+    workers : int, default 1
+        How many threads share the work: each takes the extreme points of a part. -1 stands for all processors. Few points, and
+        those that are mostly extreme, such as points on a sphere, one thread takes.
 
     Raises
     ------
@@ -96,9 +100,9 @@ class ConvexHull(Surface):
         The corners of face j are ``corners[offsets[j]:offsets[j + 1]]``.
     """
 
-    def __init__(self, points: WholePoints, *, copy: bool = True) -> None:
+    def __init__(self, points: WholePoints, *, copy: bool = True, workers: int = 1) -> None:
         whole = whole_points(points, copy)
-        self._take(whole, flat_hull(whole))
+        self._take(whole, hull_by_parts(whole, workers))
 
     @classmethod
     def _of(cls, points: NDArray[np.int32], hull: FlatHull) -> ConvexHull:
@@ -108,11 +112,11 @@ class ConvexHull(Surface):
         return made
 
     @classmethod
-    def from_floats(cls, points: Any, bits: int = 30) -> FloatHull:
+    def from_floats(cls, points: Any, bits: int = 30, *, workers: int = 1) -> FloatHull:
         """Returns the exact hull of points near the given floats, in their units: see `FloatHull`."""
         from ._floats import FloatHull
 
-        return FloatHull(points, bits)
+        return FloatHull(points, bits, workers=workers)
 
     def __repr__(self) -> str:
         return (
@@ -142,15 +146,15 @@ class ConvexHull(Surface):
 
     def to_off(self) -> str:
         """Returns the hull as an OFF file, as the program's output `off` writes it."""
-        return off_text(self._corner_places(), self._numbered_faces(), self.nedges)
+        return off_text(self._drawn(), self.nedges)
 
     def to_obj(self) -> str:
         """Returns the hull as a Wavefront OBJ file, with faces as polygons."""
-        return obj_text(self._corner_places(), self._numbered_faces())
+        return obj_text(self._drawn())
 
     def to_ply(self) -> str:
         """Returns the hull as a PLY text, with faces as polygons."""
-        return ply_text(self._corner_places(), self._numbered_faces())
+        return ply_text(self._drawn())
 
     def to_stl(self) -> str:
         """Returns the triangles of the hull as an STL text, with unit normals that are rounded."""
@@ -170,16 +174,16 @@ class ConvexHull(Surface):
         """Returns a picture that can be turned, for notebooks."""
         from ._view import frame, page
 
-        return frame(page(self.vertices.tolist(), self._corner_places().tolist(), self._numbered_faces(), repr(self)))
+        drawn = self._drawn()
+        return frame(page(self.vertices.tolist(), drawn.places.tolist(), self._numbered_faces(), repr(self)))
 
-    def _corner_places(self) -> NDArray[Any]:
-        """The places of the vertices."""
-        places: NDArray[Any] = self._coordinates()[self.vertices]
-        return places
+    def _drawn(self) -> Drawn:
+        """Returns the vertices, and the faces with each corner as its position in `vertices`."""
+        numbers = np.zeros(len(self.points), np.intp)
+        numbers[self.vertices] = np.arange(len(self.vertices))
+        return Drawn(self._coordinates()[self.vertices], numbers[self.corners], self.offsets)
 
     def _numbered_faces(self) -> list[list[int]]:
         """Returns the faces, with each corner as its position in `vertices`."""
-        numbers = np.zeros(len(self.points), np.int64)
-        numbers[self.vertices] = np.arange(len(self.vertices))
-        corners, ends = numbers[self.corners].tolist(), self.offsets.tolist()
+        corners, ends = self._drawn().corners.tolist(), self.offsets.tolist()
         return [corners[start:end] for start, end in zip(ends, ends[1:])]

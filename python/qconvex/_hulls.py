@@ -11,8 +11,9 @@ from numpy.typing import ArrayLike, NDArray
 from ._arrays import numbers_of
 from ._hull import ConvexHull, WholePoints, whole_points
 from ._library import LIBRARY, FlatHull, error_of
+from ._workers import count_of, shared
 
-_DONE, _STARTS = 0, 6
+_DONE = 0
 _STARTS_REFUSAL = "starts must rise, and go no further than the points"
 
 # What a set is told: qconvex_answer of the header.
@@ -114,7 +115,7 @@ class Hulls(Sequence[ConvexHull]):
         )
 
 
-def hulls(points: WholePoints, starts: ArrayLike, *, copy: bool = True) -> Hulls:
+def hulls(points: WholePoints, starts: ArrayLike, *, copy: bool = True, workers: int = 1) -> Hulls:
     """Returns the hulls of many sets of points, which stand one after the other in one array.
 
     If a set is refused, such as one without a point, the others still have their hulls. The arrays of a hull are slices of common
@@ -128,6 +129,8 @@ def hulls(points: WholePoints, starts: ArrayLike, *, copy: bool = True) -> Hulls
         Set j has the points from ``starts[j]`` to before ``starts[j + 1]``.
     copy : bool, default True
         As for `ConvexHull`.
+    workers : int, default 1
+        How many threads share the sets; -1 stands for all processors.
 
     Raises
     ------
@@ -138,21 +141,14 @@ def hulls(points: WholePoints, starts: ArrayLike, *, copy: bool = True) -> Hulls
         does not hold is out of range. In an array of int32 the set with such a coordinate is refused, and the others are not.
     """
     whole, places = whole_points(points, copy), _whole_starts(starts)
-    if places[-1] > len(whole):
+    if places[-1] > len(whole) or (places[1:] < places[:-1]).any():
         raise ValueError(_STARTS_REFUSAL)
-    sets, end = len(places) - 1, int(places[-1])
-    buffers = _Buffers(
-        np.zeros(sets, _ANSWER),
-        np.zeros(end, np.int32),
-        np.zeros(2 * (end + sets), np.intp),
-        np.zeros(6 * end + 4 * sets, np.int32),
-    )
-    code = _call(whole, places, buffers)
-    if code == _STARTS:
-        raise ValueError(_STARTS_REFUSAL)
-    assert code == _DONE, code
-    for list_of_numbers in buffers:
-        list_of_numbers.setflags(write=False)
+    buffers = _room_for(len(places) - 1, int(places[-1]))
+    cuts = _cuts_of(places, count_of(workers))
+    codes = shared(lambda cut: _call(*_part_of(cut, whole, places, buffers)), cuts, len(cuts))
+    assert not any(codes), codes
+    for numbers in buffers:
+        numbers.setflags(write=False)
     return Hulls(whole, places, buffers)
 
 
@@ -167,6 +163,38 @@ def _whole_starts(starts: ArrayLike) -> NDArray[np.intp]:
         raise ValueError(_STARTS_REFUSAL)
     places: NDArray[np.intp] = np.require(given, dtype=np.intp, requirements=["C", "A"])
     return places.copy() if np.shares_memory(places, given) else places
+
+
+def _room_for(sets: int, points: int) -> _Buffers:
+    """Room for the hulls of sets that end at a number of points."""
+    return _Buffers(
+        np.zeros(sets, _ANSWER),
+        np.zeros(points, np.int32),
+        np.zeros(2 * (points + sets), np.intp),
+        np.zeros(6 * points + 4 * sets, np.int32),
+    )
+
+
+def _cuts_of(starts: NDArray[np.intp], count: int) -> list[tuple[int, int]]:
+    """Ranges of sets with about as many points each."""
+    goals = starts[0] + (starts[-1] - starts[0]) * np.arange(1, count) // count
+    ends = [0, *np.searchsorted(starts, goals).tolist(), len(starts) - 1]
+    return [(first, end) for first, end in zip(ends, ends[1:]) if first < end] or [(0, len(starts) - 1)]
+
+
+def _part_of(
+    cut: tuple[int, int], points: NDArray[np.int32], starts: NDArray[np.intp], buffers: _Buffers
+) -> tuple[NDArray[np.int32], NDArray[np.intp], _Buffers]:
+    """The points, the starts and the buffers of a range of sets, whose parts of the buffers follow one another."""
+    first, end = cut
+    begin = starts[first]
+    part = _Buffers(
+        buffers.answers[first:end],
+        buffers.extremes[begin:],
+        buffers.offsets[2 * (begin + first) :],
+        buffers.corners[6 * begin + 4 * first :],
+    )
+    return points[begin:], starts[first : end + 1] - begin, part
 
 
 def _call(points: NDArray[np.int32], starts: NDArray[np.intp], buffers: _Buffers) -> int:

@@ -40,7 +40,7 @@ class FlatHull(NamedTuple):
     """A hull in flat lists, as the library writes it."""
 
     dimension: int
-    distinct: int
+    distinct: int | None  # None where it was not counted
     edges: int
     extremes: NDArray[np.int32]  # int32, rising
     offsets: NDArray[np.intp]  # intp: the corners of face j stand from offsets[j] to before offsets[j + 1]

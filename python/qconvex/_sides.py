@@ -62,15 +62,25 @@ def normals_of_cones(corners: NDArray[Any]) -> NDArray[Any]:
     return np.stack([cross(b, c), cross(c, a), cross(a, b), cross(b - a, c - a)], axis=1)
 
 
+def lowest_below(triangle: NDArray[np.int64], points: NDArray[np.int64]) -> NDArray[np.int64]:
+    """A point below the plane of a triangle: the lowest, as far as floats tell, or exactly if they take another for it."""
+    ways = points - triangle[0]
+    sides = triangle[1:] - triangle[0]
+    lowest = (ways.astype(np.float64) @ cross(*sides.astype(np.float64))).argmin()
+    normal = cross(*sides.astype(object))
+    if ways[lowest].astype(object) @ normal >= 0:
+        lowest = (ways.astype(object) @ normal).argmin()
+    found: NDArray[np.int64] = points[lowest]
+    return found
+
+
 class Cones:
     """The cones of the triangles of a solid. Coordinates are four times as large and seen from the eye, so all are whole."""
 
     def __init__(self, points: NDArray[np.int32], triangles: NDArray[np.int32], neighbors: NDArray[np.int32]) -> None:
         self.triangles, self.neighbors = triangles, neighbors
-        used = points[triangles.ravel()].astype(np.int64)
         first = points[triangles[0]].astype(np.int64)
-        heights = (used - first[0]).astype(np.float64) @ cross(*(first[1:] - first[0]).astype(np.float64))
-        self.eye = first.sum(axis=0) + used[heights.argmin()]
+        self.eye = first.sum(axis=0) + lowest_below(first, points[np.unique(triangles)].astype(np.int64))
         self.seen = 4 * points.astype(np.int64) - self.eye
         corners = self.seen[triangles].astype(np.float64)
         self.normals = normals_of_cones(corners)

@@ -19,11 +19,19 @@ class Surface:
         self.points: NDArray[np.int32] = points
         self.grid_points: NDArray[np.int32] = points
         self.dimension: int = hull.dimension
-        self.distinct: int = hull.distinct
+        self._distinct = hull.distinct
         self.nedges: int = hull.edges
         self.vertices: NDArray[np.int32] = hull.extremes
         self.corners: NDArray[np.int32] = hull.corners
         self.offsets: NDArray[np.intp] = hull.offsets
+
+    @cached_property
+    def distinct(self) -> int:
+        """The number of distinct points. Of equal points the lowest index stands for all."""
+        if self._distinct is not None:
+            return self._distinct
+        x, y, z = self.grid_points[np.lexsort(self.grid_points.T)].T
+        return 1 + int(np.count_nonzero((x[1:] != x[:-1]) | (y[1:] != y[:-1]) | (z[1:] != z[:-1])))
 
     def __len__(self) -> int:
         """The number of faces."""

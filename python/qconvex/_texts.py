@@ -1,44 +1,58 @@
 """The texts of a hull for other programs."""
 from __future__ import annotations
 
-from typing import Any, Iterable
+from typing import Any, NamedTuple
 
+import numpy as np
 from numpy.typing import NDArray
 
 
-def _line(numbers: Iterable[object]) -> str:
-    return " ".join(map(repr, numbers)) + "\n"
+class Drawn(NamedTuple):
+    """The places of the vertices, and the faces in flat lists by the numbers of these vertices, from 0 on."""
+
+    places: NDArray[Any]
+    corners: NDArray[np.intp]
+    offsets: NDArray[np.intp]
+
+    def polygons(self) -> Drawn:
+        """The same without faces of one or two corners, of which a hull has one alone."""
+        return self._replace(offsets=self.offsets[:1]) if len(self.corners) < 3 else self
 
 
-def off_text(vertices: NDArray[Any], faces: list[list[int]], edges: int) -> str:
+def _places(drawn: Drawn, before: str = "") -> str:
+    """A line for each vertex. Python formats many numbers at once in a tenth of the time of a line at a time."""
+    numbers = tuple(drawn.places.ravel().tolist())
+    return f"{before}%r %r %r\n" * len(drawn.places) % numbers
+
+
+def _faces(drawn: Drawn, before: str, first: int = 0) -> str:
+    """A line for each face: what stands before, with the number of its corners if it is asked for, and the corners."""
+    sizes = np.diff(drawn.offsets).tolist()
+    forms = {size: before.format(size) + " %d" * size + "\n" for size in set(sizes)}
+    return "".join([forms[size] for size in sizes]) % tuple((drawn.corners[: drawn.offsets[-1]] + first).tolist())
+
+
+def off_text(drawn: Drawn, edges: int) -> str:
     """Geomview's OFF: the counts, the vertices, and of each face the number of its corners and these, from 0 on."""
-    return "OFF\n" + _line([len(vertices), len(faces), edges]) + _body(vertices, faces)
+    return f"OFF\n{len(drawn.places)} {len(drawn.offsets) - 1} {edges}\n" + _places(drawn) + _faces(drawn, "{}")
 
 
-def _body(vertices: NDArray[Any], faces: list[list[int]]) -> str:
-    """The lines of the vertices, and those of the faces."""
-    return "".join(map(_line, vertices.tolist())) + "".join(_line([len(face), *face]) for face in faces)
-
-
-def obj_text(vertices: NDArray[Any], faces: list[list[int]]) -> str:
+def obj_text(drawn: Drawn) -> str:
     """Wavefront's OBJ: the vertices, and the corners of each face of three corners or more, from 1 on."""
-    lines = ["v " + _line(vertex) for vertex in vertices.tolist()]
-    lines += ["f " + _line(corner + 1 for corner in face) for face in faces if len(face) > 2]
-    return "".join(lines)
+    return _places(drawn, "v ") + _faces(drawn.polygons(), "f", 1)
 
 
-def ply_text(vertices: NDArray[Any], faces: list[list[int]]) -> str:
+def ply_text(drawn: Drawn) -> str:
     """Stanford's PLY, as text: the vertices as whole numbers or doubles, and the faces of three corners or more."""
-    solid = [face for face in faces if len(face) > 2]
-    kind = "int" if vertices.dtype.kind == "i" else "double"
-    head = f"ply\nformat ascii 1.0\nelement vertex {len(vertices)}\n" + "".join(f"property {kind} {axis}\n" for axis in "xyz")
-    return head + f"element face {len(solid)}\nproperty list int int vertex_indices\nend_header\n" + _body(vertices, solid)
+    solid = drawn.polygons()
+    kind = "int" if drawn.places.dtype.kind == "i" else "double"
+    head = f"ply\nformat ascii 1.0\nelement vertex {len(drawn.places)}\n" + "".join(f"property {kind} {axis}\n" for axis in "xyz")
+    head += f"element face {len(solid.offsets) - 1}\nproperty list int int vertex_indices\nend_header\n"
+    return head + _places(drawn) + _faces(solid, "{}")
 
 
 def stl_text(triangles: NDArray[Any], normals: NDArray[Any]) -> str:
     """STL, as text: the normal and the corners of each triangle."""
-    lines = ["solid hull\n"]
-    for normal, corners in zip(normals.tolist(), triangles.tolist()):
-        loop = "".join("vertex " + _line(corner) for corner in corners)
-        lines.append(f"facet normal {_line(normal)}outer loop\n{loop}endloop\nendfacet\n")
-    return "".join([*lines, "endsolid hull\n"])
+    form = "facet normal %r %r %r\nouter loop\n" + 3 * "vertex %r %r %r\n" + "endloop\nendfacet\n"
+    numbers = np.column_stack([normals.astype(object), triangles.reshape(-1, 9).astype(object)])
+    return "solid hull\n" + form * len(triangles) % tuple(numbers.ravel().tolist()) + "endsolid hull\n"

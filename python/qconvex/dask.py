@@ -21,6 +21,7 @@ from ._files import header_of, read_block
 from ._hull import WHOLE_REFUSAL, ConvexHull
 from ._limits import POINT_LIMIT
 from ._parts import Part, TooManyExtremes, joined, part_of_block
+from .commands.point_streams import begin_of_csv
 
 __all__ = ["Extremes", "IndexedHull", "TooManyExtremes", "extremes", "hull", "read"]
 
@@ -102,7 +103,8 @@ def read(paths: Paths, columns: Sequence[str] | None = None) -> da.Array:
     """Returns the points of files, one after the other, as a dask array.
 
     A file is told by its name: `.npy` has an array of shape (n, 3); `.parquet` or `.parq`, also a folder, has the three
-    columns named, or three in all (pyarrow reads it); any other is a point file, with each point on lines of its own.
+    columns named, or three in all (pyarrow reads it); `.csv` has three columns of whole numbers; any
+    other is a point file, with each point on lines of its own.
     Workers open the files by the same names. The lengths of a point file's chunks are not known before it is read, so
     its count is compared by `extremes` alone.
     """
@@ -132,6 +134,8 @@ def _opened_one(path: Path, columns: Sequence[str] | None) -> tuple[da.Array, in
         import dask.dataframe
 
         return dask.dataframe.read_parquet(str(path), columns=columns).to_dask_array(), None
+    if path.suffix == ".csv":
+        return _array_of_text(path, begin_of_csv(str(path))), None
     header = header_of(path)
     return _array_of_text(path, header.end), header.count
 

@@ -145,7 +145,8 @@ def test_polymake_takes_vertices_and_facets(name, tmp_path):
 
 def test_corners_have_their_indices_in_the_input():
     told = json.loads(out("hullfacets", "--form", "json", given="8\n" + "".join(f"{7 * place}\n" for place in range(8)) + CUBE_OFF))
-    assert told["f_vector"] == [8, 12, 6] and told["facets"][0]["corners"] == [0, 1, 3, 2] and told["facets"][0]["indices"] == [0, 7, 21, 14]
+    facet = told["facets"][0]
+    assert told["f_vector"] == [8, 12, 6] and facet["corners"] == [0, 1, 3, 2] and facet["indices"] == [0, 7, 21, 14]
     assert [corner["index"] for corner in told["corners"]] == list(range(0, 56, 7))
     assert "index" not in json.loads(out("hullfacets", "--form", "json", given=CUBE_OFF))["corners"][0]
     done = run("hullfacets", "--form", "json", given="7\n" + "1\n" * 7 + CUBE_OFF)
@@ -181,8 +182,25 @@ def test_numbers_are_exact_and_an_exponent_without_end_is_refused():
 
 
 def test_coordinates_of_any_length_are_written():
-    lines = out("hullfacets", given="OFF\n4 4 6\n0 0 0\n1e2000 0 0\n0 1e2000 0\n0 0 1e2000\n3 0 2 1\n3 0 1 3\n3 0 3 2\n3 1 2 3\n").splitlines()
+    points, faces = "0 0 0\n1e2000 0 0\n0 1e2000 0\n0 0 1e2000\n", "3 0 2 1\n3 0 1 3\n3 0 3 2\n3 1 2 3\n"
+    lines = out("hullfacets", given="OFF\n4 4 6\n" + points + faces).splitlines()
     assert lines[0] == "six times the volume: 1" + "0" * 6000
+
+
+@pytest.mark.parametrize("seed", range(5))
+def test_numpy_finds_what_the_loops_find(seed, monkeypatch):
+    numpy = pytest.importorskip("numpy")
+    from qconvex import ConvexHull
+    from qconvex.commands import closed_surfaces, hullfacets
+
+    monkeypatch.setattr(closed_surfaces, "LEAST_FACES", 2)
+    rng, reach = numpy.random.default_rng(seed), [1, 2, 6, 1000, _limits.COORDINATE_LIMIT][seed]
+    for count in (8, 20, 90):
+        hull = ConvexHull([*(numpy.array(CUBE) * 2 * reach - reach).tolist(), *rng.integers(-reach, reach + 1, (count, 3)).tolist()])
+        points, faces = [tuple(point) for point in hull.points[hull.vertices].tolist()], hull._numbered_faces()
+        assert closed_surfaces.described_by_numpy(points, faces) == hullfacets.described_by_loops(points, faces)
+        for wrong in (faces[1:], [faces[0][::-1], *faces[1:]], [*faces, faces[0]], [[*faces[0][:2], *faces[0][1:]], *faces[1:]]):
+            assert closed_surfaces.described_by_numpy(points, wrong) is None
 
 
 # ---- hullview
@@ -222,8 +240,8 @@ def test_a_fault_is_shown_where_it_stands(tmp_path):
 KINDS = {
     "gzip": b"\x1f\x8b\x08\0\0\0", "a zip": b"PK\x03\x04ab", "numpy": b"\x93NUMPY\x01\0", "PLY": b"ply\nformat ascii 1.0\n",
     "OFF": CUBE_OFF.encode(), "STL mesh:": b"solid a\n facet normal 0 0 1\n", "OBJ": b"# by Blender\nmtllib a.mtl\no Cube\nv 1 2 3\n",
-    "JSON": b'{"points": [[1, 2, 3]]}', "STL mesh in binary": bytes(84), "UTF-16": "3\n1\n0 0 0".encode("utf-16"), "is binary": b"3\n\0\0\0",
-    "XML": b"<?xml version='1.0'?>",
+    "JSON": b'{"points": [[1, 2, 3]]}', "STL mesh in binary": bytes(84), "UTF-16": "3\n1\n0 0 0".encode("utf-16"),
+    "is binary": b"3\n\0\0\0", "XML": b"<?xml version='1.0'?>",
 }
 
 
@@ -243,8 +261,9 @@ def test_a_point_file_is_of_no_other_kind():
 
 
 LINES = {
-    "oops": "OUT is one of", "off --workers 0": "from 1 to 64", "--block=1048577": "from 1 to 1048576", "--from obj": "FORM is", "--from": "wants a value",
-    "--workers 1 off --workers 2": "--workers stands twice", "--work 4": "no option", "-V": "no option", "o": "nearest here is off", "--workers 1_0": "from 1",
+    "oops": "OUT is one of", "off --workers 0": "from 1 to 64", "--block=1048577": "from 1 to 1048576", "--from obj": "FORM is",
+    "--from": "wants a value", "--workers 1 off --workers 2": "--workers stands twice", "--work 4": "no option", "-V": "no option",
+    "o": "nearest here is off", "--workers 1_0": "from 1",
 }
 
 

@@ -192,8 +192,13 @@ def test_files(client, tmp_path, monkeypatch):
         monkeypatch.setattr(qconvex.dask, "_BLOCK_BYTES", size)
         if size > 7:
             matches(extremes([tmp_path / "points.npy", second], client), points)
+            (tmp_path / "points.csv").write_text("X;Y;Z\n" + "".join("%d;%d;%d\r\n" % tuple(point) for point in points[:3000]))
+            matches(extremes([tmp_path / "points.csv", second], client), points)
         short = point_file(tmp_path / "short.txt", points[:40])
         matches(extremes(short), points[:40])
+        for mark in ("", "\ufeff"):
+            (tmp_path / "short.csv").write_text(mark + "".join("%d,%d,%d\n" % tuple(point) for point in points[:40]))
+            matches(extremes(tmp_path / "short.csv"), points[:40])
     assert read(tmp_path / "points.npy").shape == (3000, 3)
 
 

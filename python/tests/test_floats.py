@@ -128,7 +128,8 @@ def test_any_float_is_where_the_rule_puts_it(seed):
             assert any((number / step / 2).denominator > 1 for row in rows for number in row)
         hull = FloatHull(floats, bits)
         assert np.isfinite(hull.coordinates).all() and hull.volume >= 0 and hull.area >= 0
-        within = [abs(Fraction(place) - number) for places, row in zip(hull.coordinates.tolist(), rows) for place, number in zip(places, row)]
+        pairs = zip(hull.coordinates.ravel().tolist(), (number for row in rows for number in row))
+        within = [abs(Fraction(place) - number) for place, number in pairs]
         assert max(within) == most or np.abs(floats).max() > 1.79e308
 
 
@@ -150,14 +151,18 @@ def test_the_step_is_one_where_one_will_do():
 def test_the_points_of_a_hull_are_the_floats():
     floats = np.random.default_rng(2).normal(size=(50, 3))
     hull = ConvexHull.from_floats(floats)
-    assert np.array_equal(hull.points, floats) and hull.grid_points.dtype == np.int32 and hull.min_bound.tolist() == floats.min(axis=0).tolist()
+    assert np.array_equal(hull.points, floats) and hull.grid_points.dtype == np.int32
+    assert hull.min_bound.tolist() == floats.min(axis=0).tolist() and not hull.points.flags.writeable
 
 
 REFUSED = {
-    "complex128": np.zeros((4, 3), complex), "<U3": [["0.5", "1", "2"]], "bool": np.zeros((4, 3), bool), "datetime64": np.zeros((2, 3), "M8[s]"),
+    "complex128": np.zeros((4, 3), complex), "<U3": [["0.5", "1", "2"]],
+    "bool": np.zeros((4, 3), bool), "datetime64": np.zeros((2, 3), "M8[s]"),
     "int64, and some": np.array([[2**53 + 1, 0, 0]]), "uint64, and some": np.array([[2**64 - 1, 0, 0]], np.uint64),
-    "the int 9007199254740993": [[2**53 + 1, 0.5, 0]], "the int64 9007199254740993": [[np.int64(2**53 + 1), 0.5, 0]], "the Decimal 0.1": [[Decimal("0.1"), 0, 0]], "the Fraction 1/3": [[Fraction(1, 3), 0, 0]],
-    "some are NoneType": [[None, 0, 1]], "some are bool": [[True, 0.5, 1]], "beyond the range": [[10**400, 0, 0]], "some are str": np.array([["1", 0, 0]], object),
+    "the int 9007199254740993": [[2**53 + 1, 0.5, 0]], "the int64 9007199254740993": [[np.int64(2**53 + 1), 0.5, 0]],
+    "the Decimal 0.1": [[Decimal("0.1"), 0, 0]], "the Fraction 1/3": [[Fraction(1, 3), 0, 0]],
+    "some are NoneType": [[None, 0, 1]], "some are bool": [[True, 0.5, 1]], "beyond the range": [[10**400, 0, 0]],
+    "some are str": np.array([["1", 0, 0]], object),
     "some are masked": np.ma.masked_greater(np.arange(12.0).reshape(4, 3), 5), "some are complex": np.array([[1j, 0, 0]], object),
 }
 if np.finfo(np.longdouble).nmant > 52:
@@ -172,7 +177,8 @@ def test_what_is_no_float64_is_refused_by_name(reason):
 
 def test_what_is_a_float64_is_taken():
     for points in (
-        np.array([[2**62, 0, -(2**63)]]), np.array([[2**63, 3, 0]], np.uint64), np.full((1, 3), 0.1, np.longdouble), np.full((2, 3), 0.1, np.float32),
-        [[2**60, 0.5, np.float32(0.1)]], [[Decimal("0.5"), Fraction(1, 4), 3]], np.ma.masked_greater(np.zeros((2, 3)), 5), np.zeros((2, 3), np.float16),
+        np.array([[2**62, 0, -(2**63)]]), np.array([[2**63, 3, 0]], np.uint64), np.full((1, 3), 0.1, np.longdouble),
+        np.full((2, 3), 0.1, np.float32), [[2**60, 0.5, np.float32(0.1)]], [[Decimal("0.5"), Fraction(1, 4), 3]],
+        np.ma.masked_greater(np.zeros((2, 3)), 5), np.zeros((2, 3), np.float16),
     ):
         assert max(errors(points, snap(points))) <= Fraction(snap(points).error)

@@ -135,4 +135,4 @@ def test_agrees_with_scipy():
 
 def test_exported_names():
     names = ["COORDINATE_LIMIT", "ConvexHull", "FloatHull", "Hulls", "POINT_LIMIT", "Snapped", "Verdict", "__version__"]
-    assert sorted(qconvex.__all__) == [*names, "check", "hulls", "snap"]
+    assert sorted(qconvex.__all__) == [*names, "check", "checks", "hulls", "snap"]

@@ -1,6 +1,7 @@
 """hullmany: any parts, jobs and failing commands give the answer of one run of the built program."""
 import os
 import random
+import re
 import signal
 import subprocess
 import sys
@@ -11,7 +12,8 @@ from pathlib import Path
 from unittest import mock
 
 from qconvex.commands import part_runs
-from qconvex.commands.part_lines import Part
+from qconvex.commands.part_lines import Part, Refused
+from qconvex.commands.point_streams import opened
 
 TOP = Path(__file__).resolve().parents[2]
 PROGRAM = str(TOP / "crates" / "qconvex" / "out" / "qconvex")
@@ -58,6 +60,47 @@ def late(rng, points):
     return f"3\n{len(points)}\n" + regular(points[:cut]).split("\n", 2)[2] + " ".join(first) + "\n" + rest[1]
 
 
+def files_of(folder, points):
+    """Files of several kinds with some of the points each."""
+    rows = [",".join(map(str, point)) for point in points]
+    texts = {"a.csv": "\n".join(["x,y,z", *rows[:50]]), "b.csv": "\r\n".join(rows[50:90]).replace(",", ";")}
+    texts["c.txt"] = regular(points[90:200]).rstrip()
+    texts["d.txt"] = f"{len(points) - 200} 3 {points[200][0]}\n" + regular(points[200:], " # a\n").split("\n", 2)[2].split(" ", 1)[1]
+    for name, text in texts.items():
+        (folder / name).write_text(text)
+    return [str(folder / name) for name in texts]
+
+
+class Streams(unittest.TestCase):
+    """Several files as one. The program is not needed."""
+
+    def test_files_follow_one_another(self):
+        points = points_of(random.Random(10), 300, 1 << 30)
+        with tempfile.TemporaryDirectory() as folder:
+            files = files_of(Path(folder), points)
+            with opened(files) as stream:
+                text = re.sub("# a", "", stream.read().decode()).split()
+            self.assertEqual(text, regular(points).split())
+            with opened([files[2]]) as stream:
+                self.assertEqual(stream.read().decode(), Path(files[2]).read_text())
+
+    def test_arrays_of_numpy(self):
+        try:
+            import numpy
+        except ImportError:
+            self.skipTest("numpy is missing")
+        points = points_of(random.Random(12), 70000, 1 << 30)
+        with tempfile.TemporaryDirectory() as folder:
+            file = str(Path(folder) / "points.npy")
+            numpy.save(file, points)
+            with opened([file, file]) as stream:
+                self.assertEqual(stream.read().decode(), regular(points + points))
+            for wrong in (numpy.zeros((2, 3)), numpy.zeros((2, 2), int)):
+                numpy.save(file, wrong)
+                with self.assertRaises(Refused):
+                    opened([file])
+
+
 @unittest.skipUnless(os.path.exists(PROGRAM), "the program is not built")
 class Tests(unittest.TestCase):
     def same(self, data, *words):
@@ -85,6 +128,13 @@ class Tests(unittest.TestCase):
             file.write(data)
             file.flush()
             self.assertEqual(hullmany(b"", "--file", file.name, "--part", 100, "off").stdout, whole(data, "off").stdout)
+
+    def test_several_files(self):
+        points = points_of(random.Random(11), 500, 99)
+        with tempfile.TemporaryDirectory() as folder:
+            files = files_of(Path(folder), points)
+            got = hullmany(b"", *(word for file in files for word in ("--file", file)), "--part", 60, "Fx", "off")
+            self.assertEqual(got.stdout, whole(regular(points).encode(), "Fx", "off").stdout, got.stderr)
 
     def test_failed_parts_are_tried_again(self):
         data = regular(points_of(random.Random(7), 600, 99)).encode()

@@ -159,9 +159,19 @@ def test_the_least_power_of_ten_is_taken(words, scale, tmp_path):
     assert said.startswith("exact") and taken == scale and found[0] == list(map(Fraction, words.split()))
 
 
+@pytest.mark.parametrize("centre, scale", [("1/2,0,0", 10), ("0.125,-3,1/5", 1000), ("7,0,0", 1)])
+def test_a_given_centre_stands_on_the_grid(centre, scale, tmp_path):
+    path = tmp_path / "whole.off"
+    path.write_text(CUBE_OFF)
+    found, said, taken = put(path, f"--centre={centre}")
+    assert sorted(map(tuple, found)) == CUBE and said.startswith("exact") and taken == scale
+    assert "were rounded" in put(path, "--centre", "1/3,0,0")[1]
+
+
 def binary_ply(floats):
     head = b"ply\nformat binary_little_endian 1.0\nelement vertex %d\n" % len(floats)
-    return head + b"".join(b"property double %c\n" % axis for axis in b"xyz") + b"end_header\n" + struct.pack(f"<{3 * len(floats)}d", *sum(floats, []))
+    head += b"".join(b"property double %c\n" % axis for axis in b"xyz") + b"end_header\n"
+    return head + struct.pack(f"<{3 * len(floats)}d", *sum(floats, []))
 
 
 @pytest.mark.parametrize("case", range(12))
@@ -202,7 +212,7 @@ LACKING = {
     "cut.ply": (PLY_TEXT[:-len("9 0.0 0 0e0\n") * 6 - 1], "counts 9 rows, and 3 rows follow line 10"),
     "short.ply": (PLY_TEXT.replace("9 0.0 1 0e0", "9 0.0 1"), "line 14: a vertex has 3 numbers; its properties are 4"),
     "minus.ply": (PLY_TEXT.replace("vertex 8", "vertex -8"), "line 5: element vertex -8 is no element of a ply file"),
-    "list.ply": (PLY_TEXT.replace("uchar red", "list uchar uchar red"), "the element vertex of the ply file has a list"),
+    "list.ply": (PLY_TEXT.replace("uchar red", "list uchar uchar red"), "line 6: a vertex has a list, red"),
     "type.ply": (PLY_TEXT.replace("uchar red", "colour red"), "line 6: property colour red is no property"),
     "no-z.ply": (PLY_TEXT.replace("float z", "float w"), "has no x, y and z"),
     "cut.stl": (stl_text().decode()[:-20], "line 85: the text ends before its endsolid"),

@@ -32,16 +32,30 @@ def test_sides_are_those_of_the_inequalities(reach, shape):
         pairs = points[rng.integers(0, count, (2, 30))]
         hull, places = ConvexHull(points), np.concatenate([points, pairs.sum(axis=0) // 2, rng.integers(-reach, reach + 1, (50, 3))])
         assert hull.sides(places).tolist() == wanted(hull, places)
-        near = np.concatenate([rng.uniform(-reach, reach, (30, 3)), pairs.mean(axis=0), places + rng.choice([0, 2.0**-21, -(2.0**-60)], places.shape)])
+        beside = places + rng.choice([0, 2.0**-21, -(2.0**-60)], places.shape)
+        near = np.concatenate([rng.uniform(-reach, reach, (30, 3)), pairs.mean(axis=0), beside])
         assert hull.sides(near).tolist() == wanted(hull, near) and np.array_equal(hull.contains(near), hull.sides(near) >= 0)
         floats = ConvexHull.from_floats(points * 0.1 + [0, 1e15, -3])
         near = np.concatenate([floats.points, floats.coordinates, floats.points[rng.integers(0, count, (2, 30))].mean(axis=0)])
         assert floats.sides(near).tolist() == wanted(floats, near, Fraction(floats.scale), floats.centre)
 
 
+@pytest.mark.parametrize("seed", range(4))
+def test_a_solid_that_is_nearly_flat(seed):
+    rng, far = np.random.default_rng(seed), COORDINATE_LIMIT // 3
+    a, b = rng.integers(-far, far, (2, 3))
+    u, v = rng.integers(-9, 10, (2, 40, 1)) / 9
+    plane = np.rint(u * a + v * b).astype(int)
+    hull = ConvexHull(plane)
+    places = np.concatenate([plane, plane + [0, 0, 1], plane - [1, 0, 0], rng.integers(-far, far, (20, 3))])
+    assert hull.dimension == 3 and hull.sides(places).tolist() == wanted(hull, places)
+    assert hull.sides(places / 2).tolist() == wanted(hull, places / 2)
+
+
 def test_sides_of_other_places():
     hull = ConvexHull(CUBE)
-    assert hull.sides(np.zeros((0, 3))).shape == (0,) and hull.contains([[10**15, 0, 0], [-1e300, 0, 0], [5e-324, 0.5, 0.5]]).tolist() == [False, False, True]
+    assert hull.sides(np.zeros((0, 3))).shape == (0,)
+    assert hull.contains([[10**15, 0, 0], [-1e300, 0, 0], [5e-324, 0.5, 0.5]]).tolist() == [False, False, True]
     assert hull.sides([[0.5, 0.5, 0.5], [0.5, 0.5, 1], [0.5, 0.5, 1 + 2**-50]]).tolist() == [1, 0, -1]
     for scale in (2.0**-997, 2.0**-1070, 2.0**1000):
         far = ConvexHull.from_floats(np.array(CUBE) * scale)

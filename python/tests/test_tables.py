@@ -52,6 +52,7 @@ NO_TABLES = {
     "cut.txt": ("3\n8\n0 0 0\n", "the header counts 8 points, and 1 rows follow"),
     "long.txt": ("3\n1\n0 0 0\n1 1 1\n", "the header counts 1 points, and 2 rows follow"),
     "row.txt": ("3\n2\n0 0 0\n1 1\n", "line 4: a point has 2 numbers"),
+    "same-line.txt": ("3 1 5 6 7\n", "a point file begins with 3"),
     "head.txt": ("2\n2\n0 0\n1 1\n", "begins with 3"),
     "no.npy": ("\x93NUMPY", "no array of numpy"),
 }
@@ -73,13 +74,16 @@ def ply_of_cube(order):
     head += "element face 6\nproperty uchar red\nproperty list uchar int vertex_indices\nend_header\n"
     faces = [[int(word) for word in line.split()] for line in CUBE_OFF.splitlines() if line.startswith("4 ")]
     if order == "ascii":
-        return head.encode() + b"".join(b"%d %d %d\n" % point for point in CUBE) + b"".join(b"9 " + b"%d %d %d %d %d\n" % tuple(face) for face in faces)
+        vertices = b"".join(b"%d %d %d\n" % point for point in CUBE)
+        return head.encode() + vertices + b"".join(b"9 %d %d %d %d %d\n" % tuple(face) for face in faces)
     numpy = pytest.importorskip("numpy")
     sign = "<" if order == "binary_little_endian" else ">"
-    return head.encode() + numpy.array(CUBE, sign + "f4").tobytes() + b"".join(b"\x09\x04" + numpy.array(face[1:], sign + "i4").tobytes() for face in faces)
+    lists = b"".join(b"\x09\x04" + numpy.array(face[1:], sign + "i4").tobytes() for face in faces)
+    return head.encode() + numpy.array(CUBE, sign + "f4").tobytes() + lists
 
 
-OBJ_FACES = "".join("f " + " ".join(f"{int(word) + 1}/1/7" for word in line.split()[1:]) + "\n" for line in CUBE_OFF.splitlines() if line.startswith("4 "))
+CORNERS = [line.split()[1:] for line in CUBE_OFF.splitlines() if line.startswith("4 ")]
+OBJ_FACES = "".join("f " + " ".join(f"{int(word) + 1}/1/7" for word in corners) + "\n" for corners in CORNERS)
 HULLS = {
     "cube.off": CUBE_OFF.encode(),
     "cube.obj": MESHES["cube.obj"] + OBJ_FACES.encode(),

@@ -65,16 +65,20 @@ def map_of_vertices(vertices: Vertices, scale: Optional[Fraction] = None, centre
     """The map by the rule, with a scale or a centre that is given."""
     box = Box(vertices, centre)
     if scale is None:
-        scale = next((exact for exact in exact_scales(vertices) if box.has_room(exact)), None) or finest_scale(box)
+        scale = next((exact for exact in exact_scales(vertices, centre) if box.has_room(exact)), None) or finest_scale(box)
     return Map(scale, box.middle(scale))
 
 
-def exact_scales(vertices: Vertices) -> List[Fraction]:
-    """The least power of the base, from 1 on, at which all coordinates are whole, and the least of all powers."""
+def exact_scales(vertices: Vertices, centre: Optional[Fractions]) -> List[Fraction]:
+    """The least power of the base at which all coordinates and a given centre are whole, from 1 on and of all powers."""
     common, scale = gcd(*chain.from_iterable(vertices.axes)), Fraction(vertices.divisor)
     while common and common % vertices.base == 0:
         common, scale = common // vertices.base, scale / vertices.base
-    return [max(scale, Fraction(1)), scale] if common else [Fraction(1)]
+    scale = scale if common else Fraction(1)
+    for part in centre or ():
+        while gcd((part * scale).denominator, vertices.base) > 1:
+            scale *= vertices.base
+    return [max(scale, Fraction(1)), scale]
 
 
 def finest_scale(box: Box) -> Fraction:

@@ -6,8 +6,9 @@
     hullfacets --form polymake [FILE]      as a script of polymake that makes the polytope $p of vertices and facets,
     hullfacets --form lrs [FILE]           or as an H-representation for lrs
 
-FILE may also be the text of `Fx off`: then JSON names the corners by their indices in the input as well. All numbers are whole. The points of the hull are the points p with `normal . p <= offset` for every facet; normal and
-offset have no common divisor. The neighbours of a facet stand in the order of its sides: the first lies beyond the
+FILE may also be the text of `Fx off`: then JSON names the corners by their indices in the input as well. All numbers are
+whole. The points of the hull are the points p with `normal . p <= offset` for every facet; normal and offset have no common
+divisor. The neighbours of a facet stand in the order of its sides: the first lies beyond the
 side from its first corner to its second. Of each corner the facets are listed in their order round it, counterclockwise
 from outside. A flat hull has one facet without neighbours, and the volume 0; a line or a point has none. The forms for
 other programs describe those, too: by the equations of their plane, line or place, and what bounds them in it.
@@ -18,6 +19,7 @@ other programs describe those, too: by the equations of their plane, line or pla
 from __future__ import annotations
 
 import argparse
+import gc
 import json
 import signal
 import sys
@@ -25,6 +27,7 @@ from math import gcd
 from typing import Any, Dict, Iterable, Iterator, List, Optional, Sequence, Tuple
 
 from . import contents
+from .closed_surfaces import described_by_numpy
 from .halfspaces import FORMS
 from .off_files import COUNT, Faces, Malformed, read_off
 from .vectors import Vector, cross, dot, minus, polygon_normal
@@ -78,18 +81,22 @@ def in_order(corner: int, places: List[int], faces: Sequence[List[int]], owner: 
 def described(points: Sequence[Vector], faces: Sequence[List[int]]) -> Dict[str, Any]:
     """All that is told of a hull."""
     solid = [face for face in faces if len(face) > 2]
+    facets, around, volume = described_by_numpy(points, faces) or described_by_loops(points, faces)
+    numbers = [len(points), sum(map(len, solid)) // 2, len(solid)] if len(solid) > 1 else [len(points)] * (2 if solid else 1)
+    corners = [{"point": list(point), "facets": places} for point, places in zip(points, around)]
+    return {"six_volumes": volume, "f_vector": numbers, "facets": facets, "corners": corners}
+
+
+def described_by_loops(points: Sequence[Vector], faces: Sequence[List[int]]) -> Tuple[List[Dict[str, Any]], List[List[int]], int]:
+    """The facets, the facets round each corner, and six times the volume."""
+    solid = [face for face in faces if len(face) > 2]
     owner = {side: place for place, face in enumerate(solid) for side in sides(face)}
     facets = []
     for face in solid:
         normal, offset = plane(points, face)
         neighbours = [owner[end, start] for start, end in sides(face) if (end, start) in owner]
         facets.append({"normal": normal, "offset": offset, "corners": face, "neighbours": neighbours})
-    corners = [
-        {"point": list(point), "facets": places}
-        for point, places in zip(points, incidences(points, solid, owner))
-    ]
-    numbers = [len(points), sum(map(len, solid)) // 2, len(solid)] if len(solid) > 1 else [len(points)] * (2 if solid else 1)
-    return {"six_volumes": six_volumes(points, faces), "f_vector": numbers, "facets": facets, "corners": corners}
+    return facets, incidences(points, solid, owner), six_volumes(points, faces)
 
 
 def with_indices(told: Dict[str, Any], indices: Sequence[int]) -> Dict[str, Any]:
@@ -101,9 +108,9 @@ def with_indices(told: Dict[str, Any], indices: Sequence[int]) -> Dict[str, Any]
     return told
 
 
-def joined(numbers: Iterable[int]) -> str:
-    """Numbers with blanks between."""
-    return " ".join(map(str, numbers)) or "none"
+def joined(numbers: List[int]) -> str:
+    """Numbers with blanks between; the text of a list is the fastest way to these."""
+    return str(numbers)[1:-1].replace(",", "") or "none"
 
 
 def lines_of(hull: Dict[str, Any]) -> Iterator[str]:
@@ -159,6 +166,7 @@ def main() -> None:
     signal.signal(signal.SIGPIPE, signal.SIG_DFL)
     if hasattr(sys, "set_int_max_str_digits"):
         sys.set_int_max_str_digits(0)  # products of coordinates have more digits than newer versions write by themselves
+    gc.disable()  # what is made stays to the end
     hull, indices = read(options.file)
     points = whole_points(hull)
     if not hull.faces or points is None:

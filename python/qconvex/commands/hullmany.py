@@ -17,7 +17,8 @@ command if there is one:
 
     hullmany --run 'ssh one qconvex' --run 'ssh two qconvex' --jobs 4 off < points.txt
 
-With --engine the parts are taken by the workers of a Dask scheduler, which open the files of --file by the same names;
+With --file the points are those of files, one after the other: point files, csv with three columns of whole numbers, and arrays
+in npy. With --engine the parts are taken by the workers of a Dask scheduler, which open the files of --file by the same names;
 docs/MANY-POINTS.md says what they need. The last step, of the points that are left, is done here.
 
 A line on standard error tells how far it is, and about how long the first round still takes. Of the points only those that
@@ -41,6 +42,7 @@ from typing import BinaryIO, Deque, Iterable, Iterator, List, Optional, Tuple
 from .._limits import POINT_LIMIT
 from .part_lines import LineParts, Part, Refused, header_of, part_of_points, word_parts
 from .part_runs import Extremes, Irregular, Runs
+from .point_streams import are_one_text, opened
 
 # A point as its index and its line.
 Indexed = Tuple[int, bytes]
@@ -48,6 +50,8 @@ Pending = Deque[Tuple[Part, "Future[Extremes]"]]
 
 OUTPUTS = ["Fx", "off"]
 BUILT = Path(__file__).resolve().parents[3] / "crates" / "qconvex" / "out" / "qconvex"
+# The number of lines before a part that are not those of one file.
+NO_LINES = -(1 << 62)
 # With no --part, the first round has about PARTS_EACH parts for each that is worked at at a time, of LEAST_PART points at least.
 PARTS_EACH, LEAST_PART = 6, 1 << 16
 
@@ -133,12 +137,13 @@ def next_round(points: List[Indexed], size: int, runs: Runs, progress: Progress)
     return sorted(kept)
 
 
-def survivors(source: BinaryIO, options: argparse.Namespace, runs: Runs) -> List[Indexed]:
+def survivors(source: BinaryIO, is_file: bool, options: argparse.Namespace, runs: Runs) -> List[Indexed]:
     """Points among which all extreme points are, in the order of their indices, as many as fit one part."""
     header = header_of(source)
+    before = header.lines - bool(header.rest) if is_file else NO_LINES
     size = options.part or min(POINT_LIMIT, max(LEAST_PART, -(-header.count // (PARTS_EACH * runs.count))))
     progress = Progress(1, header.count, not options.quiet)
-    parts = LineParts(source, size, header.rest, header.lines - bool(header.rest))
+    parts = LineParts(source, size, header.rest, before)
     points, found = first_round(parts, runs, progress)
     progress.tell()
     if found != header.count:
@@ -197,7 +202,7 @@ def arguments() -> argparse.Namespace:
     parser.add_argument("--run", action="append", metavar="COMMAND", help="a shell command that runs the program somewhere")
     parser.add_argument("--retries", type=int, default=3, help="how often a part is tried again (default 3)")
     parser.add_argument("--engine", metavar="dask://ADDRESS", help="the scheduler whose workers take the parts")
-    parser.add_argument("--file", action="append", help="a file in place of standard input; with --engine several, and npy")
+    parser.add_argument("--file", action="append", help="a file in place of standard input: points, csv or npy; may be repeated")
     parser.add_argument("--quiet", action="store_true", help="no progress line")
     parser.add_argument("outputs", nargs="*", default=["Fx"], metavar="OUT", help="Fx or off (default Fx)")
     options = parser.parse_args()
@@ -207,8 +212,6 @@ def arguments() -> argparse.Namespace:
         parser.error(f"--part is 1 to {POINT_LIMIT}, --jobs 1 or more, --retries 0 or more")
     if options.engine and not (options.engine.startswith("dask://") and options.file):
         parser.error("--engine is dask://ADDRESS, and wants --file")
-    if not options.engine and len(options.file or []) > 1:
-        parser.error("without --engine there is one --file at most")
     return options
 
 
@@ -219,8 +222,8 @@ def main() -> None:
         if options.engine:
             points = by_dask(options)
         else:
-            with open(options.file[0], "rb") if options.file else sys.stdin.buffer as source:
-                points = survivors(source, options, runs)
+            with opened(options.file) if options.file else sys.stdin.buffer as source:
+                points = survivors(source, are_one_text(options.file or ["-"]), options, runs)
         if not points:
             raise Refused("there are no points")
         sys.stdout.buffer.write(answer(points, runs, options.outputs))

@@ -4,7 +4,7 @@ from __future__ import annotations
 import re
 import sys
 from fractions import Fraction
-from typing import Any, List, NamedTuple, Sequence, Tuple, Union
+from typing import Any, List, NamedTuple, Optional, Sequence, Tuple, Union
 
 from . import contents
 
@@ -51,7 +51,8 @@ def lines_of(text: str) -> List[str]:
 
 def rows_of(text: str) -> List[Row]:
     """The rows of words, without comments, empty lines and the keyword."""
-    split = ((place, line.split("#")[0].split()) for place, line in enumerate(lines_of(text), 1))
+    bare = re.sub("#[^\r\n]*", "", text) if "#" in text else text
+    split = ((place, line.split()) for place, line in enumerate(lines_of(bare), 1))
     rows = [row for row in split if row[1]]
     if not rows:
         return rows
@@ -85,10 +86,10 @@ def face_of(row: Row, count: int) -> List[int]:
     line, words = row
     try:
         size = int(words[0])
-        places = [int(word) for word in words[1 : size + 1]]
+        places = list(map(int, words[1 : size + 1]))
     except ValueError:
         size, places = 0, []
-    if size < 1 or len(places) < size or not all(0 <= place < count for place in places):
+    if size < 1 or len(places) < size or min(places) < 0 or max(places) >= count:
         raise Malformed(f"line {line}: no face of {count} points: {' '.join(words)}")
     return places
 
@@ -96,11 +97,20 @@ def face_of(row: Row, count: int) -> List[int]:
 def read_off(text: str) -> Faces:
     """The points and the faces of a text, one row each."""
     points, faces = parts_of(rows_of(text))
+    rows = [words[:3] for _, words in points]
     try:
-        found = [tuple(map(number, words[:3])) for _, words in points]
+        found = wholes_of(rows) or [tuple(map(number, words)) for words in rows]
     except (ValueError, ZeroDivisionError) as wrong:
         raise Malformed(f"no OFF text: {wrong}") from wrong
     return Faces(found, [face_of(row, len(points)) for row in faces])
+
+
+def wholes_of(rows: List[List[str]]) -> Optional[List[Tuple[Number, ...]]]:
+    """The numbers of rows of three words if all are whole, by the shortest way; else None."""
+    try:
+        return [(int(x), int(y), int(z)) for x, y, z in rows]
+    except ValueError:
+        return None
 
 
 def read_off_file(path: str) -> Faces:

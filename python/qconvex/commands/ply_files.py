@@ -38,14 +38,12 @@ class Header:
     end: int  # where the body begins
 
     def vertex(self) -> Tuple[List[Element], Element]:
-        """The elements before the vertices, and that of the vertices, which has no list, and x, y and z."""
+        """The elements before the vertices, and that of the vertices, which has x, y and z."""
         names = [element.name for element in self.elements]
         if "vertex" not in names:
             raise Malformed("the ply file has no element vertex")
         place = names.index("vertex")
         element = self.elements[place]
-        if element.has_list():
-            raise Malformed("the element vertex of the ply file has a list")
         if not {"x", "y", "z"} <= {words[-1] for words in element.properties}:
             raise Malformed("the element vertex of the ply file has no x, y and z")
         return self.elements[:place], element
@@ -69,6 +67,8 @@ def header_of(data: bytes) -> Header:
                 elements.append(Element(words[1], count_of(words[2]), []))
             elif words[:1] == ["property"]:
                 elements[-1].properties.append(property_of(words[1:]))
+                if elements[-1].name == "vertex" and words[1] == "list":
+                    raise Malformed(f"line {place}: a vertex has a list, {words[-1]}, which this reader does not read")
         except (IndexError, KeyError, ValueError):
             raise Malformed(f"line {place}: {' '.join(words)} is no {words[0]} of a ply file") from None
     if order is None:

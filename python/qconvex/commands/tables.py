@@ -43,7 +43,7 @@ def of_point_text(data: bytes) -> Vertices:
     """The points of a point file, of decimals, too, as rbox writes them; of a text without its header those of its rows."""
     rows = [(line, numbers_of(text)) for line, text in enumerate(lines_of(data.decode("utf-8", "replace")), 1)]
     rows = [row for row in rows if row[1]]
-    if rows and len(rows[0][1]) >= 3:
+    if rows and len(rows[0][1]) == 3:
         return of_table(data)
     header: List[str] = []
     while rows and len(header) < 2:
