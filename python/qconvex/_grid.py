@@ -95,6 +95,8 @@ def snap(points: Any, bits: int = BITS_LIMIT) -> Snapped:
 
 def snapped(floats: NDArray[np.float64], bits: int) -> Snapped:
     """The same of float64 that are finite."""
+    if not len(floats):
+        raise ValueError("there is no point")
     if not 1 <= bits <= BITS_LIMIT:
         raise ValueError(f"bits must be from 1 to {BITS_LIMIT}")
     lows, highs = _along_axes(np.minimum, floats), _along_axes(np.maximum, floats)
