@@ -68,7 +68,7 @@ class ConvexHull(Surface):
         If true, the attribute `points` is a copy that can't be written. If false, it is the given array itself, if that is an
         aligned, C-contiguous array of int32: leave it unchanged while you use the hull.
     workers : int, default 1
-        How many threads share the work: each takes the extreme points of a part. -1 stands for all processors. Few points, and
+        How many threads share the work: each takes the extreme points of a part. -1 means all processors. Few points, and
         those that are mostly extreme, such as points on a sphere, one thread takes.
 
     Raises
