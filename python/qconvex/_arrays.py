@@ -31,8 +31,6 @@ def floats_of(points: Any) -> NDArray[np.float64]:
         raise TypeError(f"points must be real numbers, and are {given.dtype}")
     if given.ndim != 2 or given.shape[1] != 3:
         raise ValueError(f"points must have the shape (n, 3), and have {given.shape}")
-    if not len(given):
-        raise ValueError("there is no point")
     if given.dtype == np.float64:
         return _finite(given.astype(np.float64))
     if given.dtype.kind == "O":

@@ -169,5 +169,5 @@ def check(points: WholePoints, faces: Faces) -> Verdict:
 
 
 def checks(sets: Iterable[tuple[WholePoints, Faces]], *, workers: int = 1) -> list[Verdict]:
-    """Returns what `check` says of the points and the faces of each set, by a number of threads; -1 stands for all processors."""
+    """Returns what `check` says of the points and the faces of each set, by a number of threads; -1 means all processors."""
     return shared(lambda given: check(*given), sets, count_of(workers))

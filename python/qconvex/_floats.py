@@ -96,8 +96,8 @@ class FloatHull(ConvexHull):
         """[normal, offset] of each triangle in the units of the floats, rounded."""
         return equations_of(self.normals, self._doubled_areas, self.coordinates[self.simplices[:, 0]])
 
-    def _places(self, floats: NDArray[np.float64]) -> Places:
-        return Places(floats, self._exponent, self.centre)
+    def _places(self, points: Any) -> Places:
+        return Places(floats_of(points), self._exponent, self.centre)
 
     def _coordinates(self) -> NDArray[Any]:
         return self.coordinates

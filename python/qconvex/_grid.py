@@ -79,9 +79,9 @@ def _errors(floats: NDArray[np.float64], steps: NDArray[np.float64], whole: NDAr
 def snap(points: Any, bits: int = BITS_LIMIT) -> Snapped:
     """Returns whole numbers of at most `bits` bits for floats, on a grid whose step is a power of two.
 
-    If a grid that has room holds all floats, they stand on it, and the error is 0: the step is 1, or the greatest below 1 that
-    does, or the greatest of all if 1 has no room. Else each float goes to the nearest point of the finest grid that has room,
-    so the error is at most about 2^-(bits + 1) of the longest side of the box.
+    If a grid that has room holds all floats, they become points of it exactly, and the error is 0: the step is 1, or the greatest
+    below 1 that does, or the greatest of all if 1 has no room. Else each float goes to the nearest point of the finest grid that
+    has room, so the error is at most about 2^-(bits + 1) of the longest side of the box.
 
     Raises
     ------
@@ -95,6 +95,8 @@ def snap(points: Any, bits: int = BITS_LIMIT) -> Snapped:
 
 def snapped(floats: NDArray[np.float64], bits: int) -> Snapped:
     """The same of float64 that are finite."""
+    if not len(floats):
+        raise ValueError("there is no point")
     if not 1 <= bits <= BITS_LIMIT:
         raise ValueError(f"bits must be from 1 to {BITS_LIMIT}")
     lows, highs = _along_axes(np.minimum, floats), _along_axes(np.maximum, floats)

@@ -21,6 +21,8 @@ if TYPE_CHECKING:
 WholePoints = Union[NDArray[np.integer[Any]], NDArray[np.object_], Sequence[Sequence[int]]]
 """Points that `ConvexHull` takes: an array of whole numbers, or lists of them."""
 
+_BEYOND = 2 * COORDINATE_LIMIT
+
 WHOLE_REFUSAL = (
     "points must be whole numbers, and are {}: ConvexHull.from_floats takes floats, by whole numbers near them; or multiply them "
     "by a scale that makes them whole, and convert them, as in numpy.rint(points * 1000).astype(numpy.int64)"
@@ -66,7 +68,7 @@ class ConvexHull(Surface):
         If true, the attribute `points` is a copy that can't be written. If false, it is the given array itself, if that is an
         aligned, C-contiguous array of int32: leave it unchanged while you use the hull.
     workers : int, default 1
-        How many threads share the work: each takes the extreme points of a part. -1 stands for all processors. Few points, and
+        How many threads share the work: each takes the extreme points of a part. -1 means all processors. Few points, and
         those that are mostly extreme, such as points on a sphere, one thread takes.
 
     Raises
@@ -129,8 +131,7 @@ class ConvexHull(Surface):
 
         The points are whole numbers or floats. A set in a plane, a line or a point has a surface alone.
         """
-        floats = np.empty((0, 3)) if np.shape(points) == (0, 3) else floats_of(points)
-        return sides_of(self, self._places(floats))
+        return sides_of(self, self._places(points))
 
     def contains(self, points: Any) -> NDArray[np.bool_]:
         """Returns whether each point is inside the hull or on its surface, exactly: see `sides`."""
@@ -140,9 +141,12 @@ class ConvexHull(Surface):
     def _cones(self) -> Cones:
         return Cones(self.grid_points, self.simplices, self.neighbors)
 
-    def _places(self, floats: NDArray[np.float64]) -> Places:
-        """Floats as places of the grid."""
-        return Places(floats, 0, (0, 0, 0))
+    def _places(self, points: Any) -> Places:
+        """Points as places of the grid, where whole numbers beyond all hulls may be others that are."""
+        kind = points.dtype.kind if isinstance(points, np.ndarray) else ""
+        if kind in ("i", "u"):
+            points = np.minimum(points, _BEYOND) if kind == "u" else np.clip(points, -_BEYOND, _BEYOND)
+        return Places(floats_of(points), 0, (0, 0, 0))
 
     def to_off(self) -> str:
         """Returns the hull as an OFF file, as the program's output `off` writes it."""

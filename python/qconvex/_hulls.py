@@ -130,7 +130,7 @@ def hulls(points: WholePoints, starts: ArrayLike, *, copy: bool = True, workers:
     copy : bool, default True
         As for `ConvexHull`.
     workers : int, default 1
-        How many threads share the sets; -1 stands for all processors.
+        How many threads share the sets; -1 means all processors.
 
     Raises
     ------

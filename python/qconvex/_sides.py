@@ -63,7 +63,7 @@ def normals_of_cones(corners: NDArray[Any]) -> NDArray[Any]:
 
 
 def lowest_below(triangle: NDArray[np.int64], points: NDArray[np.int64]) -> NDArray[np.int64]:
-    """A point below the plane of a triangle: the lowest, as far as floats tell, or exactly if they take another for it."""
+    """A point below the plane of a triangle: the lowest in floats, or the exact lowest if rounding chose a point that is not below."""
     ways = points - triangle[0]
     sides = triangle[1:] - triangle[0]
     lowest = (ways.astype(np.float64) @ cross(*sides.astype(np.float64))).argmin()
@@ -105,7 +105,7 @@ class Cones:
         return sides
 
     def _walk(self, cones: NDArray[np.intp], seen: NDArray[np.float64]) -> None:
-        """Moves each place to its cone, as far as floats tell."""
+        """Moves each place to its cone, except for steps that floats leave in doubt."""
         moving = np.arange(len(cones))
         for _ in range(_STEPS):
             values = np.einsum("ijk,ik->ij", self.normals[cones[moving], :3], seen[moving])

@@ -26,7 +26,7 @@ def _places(drawn: Drawn, before: str = "") -> str:
 
 
 def _faces(drawn: Drawn, before: str, first: int = 0) -> str:
-    """A line for each face: what stands before, with the number of its corners if it is asked for, and the corners."""
+    """A line for each face: a prefix, in which {} is the number of its corners, and the corners."""
     sizes = np.diff(drawn.offsets).tolist()
     forms = {size: before.format(size) + " %d" * size + "\n" for size in set(sizes)}
     return "".join([forms[size] for size in sizes]) % tuple((drawn.corners[: drawn.offsets[-1]] + first).tolist())

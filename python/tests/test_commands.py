@@ -262,7 +262,7 @@ def test_a_point_file_is_of_no_other_kind():
 
 LINES = {
     "oops": "OUT is one of", "off --workers 0": "from 1 to 64", "--block=1048577": "from 1 to 1048576", "--from obj": "FORM is",
-    "--from": "wants a value", "--workers 1 off --workers 2": "--workers stands twice", "--work 4": "no option", "-V": "no option",
+    "--from": "wants a value", "--workers 1 off --workers 2": "--workers is given twice", "--work 4": "no option", "-V": "no option",
     "o": "nearest here is off", "--workers 1_0": "from 1",
 }
 

@@ -57,6 +57,8 @@ def test_sides_of_other_places():
     assert hull.sides(np.zeros((0, 3))).shape == (0,)
     assert hull.contains([[10**15, 0, 0], [-1e300, 0, 0], [5e-324, 0.5, 0.5]]).tolist() == [False, False, True]
     assert hull.sides([[0.5, 0.5, 0.5], [0.5, 0.5, 1], [0.5, 0.5, 1 + 2**-50]]).tolist() == [1, 0, -1]
+    for kind, far in ((np.int64, 2**62 + 1), (np.uint64, 2**64 - 1), (np.uint32, 2**32 - 1), (np.int16, 2**15 - 1)):
+        assert hull.sides(np.array([[1, 0, 1], [0, far, 0]], kind)).tolist() == [0, -1]
     for scale in (2.0**-997, 2.0**-1070, 2.0**1000):
         far = ConvexHull.from_floats(np.array(CUBE) * scale)
         assert far.sides(np.array([[0.5, 0.5, 0.5], [0.5, 0.5, 1.0], [1.5, 0, 0]]) * scale).tolist() == [1, 0, -1]

@@ -35,7 +35,7 @@ def mistake_in(words: Sequence[str]) -> Optional[Mistake]:
         elif name not in OPTIONS:
             wrong = f"This is no option: the options are {', '.join(OPTIONS)} and --help."
         elif name in seen:
-            wrong = f"{name} stands twice."
+            wrong = f"{name} is given twice."
         elif not equals and place + 1 == len(words):
             wrong = f"{name} wants a value behind it."
         else:

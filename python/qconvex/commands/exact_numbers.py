@@ -52,7 +52,7 @@ def fault_of(rows: Sequence[Row]) -> str:
 
 
 def of_plain_words(words: List[str]) -> Tuple[List[int], int]:
-    """Decimals without exponents, as whole numbers, and how many of their digits stand behind the point."""
+    """Decimals without exponents, as whole numbers, and the greatest number of digits behind the point."""
     parts = [word.partition(".") for word in words]
     decimals = max((len(behind) for _, _, behind in parts), default=0)
     powers = [10**power for power in range(decimals + 1)]

@@ -93,7 +93,7 @@ def finest_scale(box: Box) -> Fraction:
 def along_axis(numbers: Sequence[int], divisor: int, offset: Fraction, scale: Fraction) -> Tuple[List[int], int, Fraction]:
     """The whole numbers of one axis, how many were rounded, and by how much at most, in units of the grid.
 
-    n / divisor * scale - offset is (n * top - start) / bottom - shift, and what is left of the division tells how to round.
+    n / divisor * scale - offset is (n * top - start) / bottom - shift, and the remainder of the division decides how to round.
     """
     shift = floor(offset)
     offset -= shift

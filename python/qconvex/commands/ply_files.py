@@ -17,7 +17,7 @@ ORDERS = {"binary_little_endian": "<", "binary_big_endian": ">", "ascii": ""}
 
 @dataclass(frozen=True)
 class Element:
-    """An element of a ply file: its name, how often it stands there, and the words of each of its properties."""
+    """An element of a ply file: its name, its count, and the words of each of its properties."""
 
     name: str
     count: int
@@ -30,7 +30,7 @@ class Element:
 
 @dataclass(frozen=True)
 class Header:
-    """What stands before the body of a ply file."""
+    """The header of a ply file."""
 
     elements: List[Element]
     order: str  # of the bytes; none for text
@@ -136,5 +136,5 @@ def of_ply_bytes(body: bytes, header: Header) -> Vertices:
 def layout_of(element: Element, order: str) -> struct.Struct:
     """How the bytes of an element are laid out."""
     if element.has_list():
-        raise Malformed(f"the element {element.name} of the ply file has a list, and stands before the vertices")
+        raise Malformed(f"the element {element.name} of the ply file has a list, and comes before the vertices")
     return struct.Struct(order + "".join(TYPES[words[0]] for words in element.properties))

@@ -13,7 +13,7 @@ NUMBER_STARTS = "0123456789+-."
 
 
 def rows_of_table(data: bytes) -> List[Row]:
-    """The rows of a table, without empty lines and comments. The first of the separators that stands in its first row parts all."""
+    """The rows of a table, without empty lines and comments. The first of SEPARATORS in its first row parts all rows."""
     lines = lines_of(data.decode("utf-8-sig", "replace"))
     numbered = [(place, text) for place, line in enumerate(lines, 1) if (text := line.split("#")[0].strip())]
     separator = next((sign for sign in SEPARATORS if numbered and sign in numbered[0][1]), None)
