@@ -1,5 +1,5 @@
 //! Files and lines that stand in for those of the system.
-ghost use Rattle.std.specs.Prelude.{None};
+ghost use Rattle.std.specs.Prelude.{◌≡◌, None};
 
 use crate::files::Files;
 use qh_read::{DeviceFault, Source};
@@ -112,7 +112,9 @@ pub struct FakeLines {
 
 impl FakeLines {
     /// Creates a device that keeps its lines.
-    pub fn kept(alloc: Global) -> FakeLines {
+    pub fn kept(alloc: Global) -> FakeLines
+        ensures { result.failures ≡ 0 }
+    {
         FakeLines {
             text: String::new(alloc),
             fails: false,
@@ -121,7 +123,9 @@ impl FakeLines {
     }
 
     /// Creates a device of which each call fails.
-    pub fn failing(alloc: Global) -> FakeLines {
+    pub fn failing(alloc: Global) -> FakeLines
+        ensures { result.failures ≡ 0 }
+    {
         FakeLines {
             text: String::new(alloc),
             fails: true,
