@@ -8,6 +8,7 @@ import subprocess
 import sys
 import threading
 import time
+from dataclasses import replace
 
 import numpy as np
 import pytest
@@ -97,7 +98,7 @@ def test_a_chunk_above_the_limit_is_cut(client):
 def test_indices_past_32_bits():
     many = 1 << 33
     corner = _parts.Part(many, np.array([many - 1]), np.array([[1, 2, 3]], np.int32))
-    found = _parts.joined([corner, corner, _parts.EMPTY, corner._replace(points=np.array([[3, 2, 1]], np.int32))])
+    found = _parts.joined([corner, corner, _parts.EMPTY, replace(corner, points=np.array([[3, 2, 1]], np.int32))])
     assert found.count == 3 * many and found.indices.tolist() == [many - 1, 3 * many - 1]
 
 
