@@ -9,12 +9,13 @@ use std::alloc::{AllocError, Global};
 use std::test::Fail;
 
 /// The number of points of a set.
-const COUNT: i32 = 5000;
+const COUNT: u16 = 5000;
 
 /// Returns points of a rod along (1, 2, 3) that is some units thick.
 fn rod(alloc: Global) -> Result<Vec<Point>, AllocError> {
     let mut points = Vec::new(alloc);
-    for k in 0..COUNT {
+    for number in 0..COUNT {
+        let k = i32::from(number);
         points.push(Point::new(k, 2 * k + k % 3, 3 * k + k % 5))?;
     }
     Ok(points)
@@ -23,7 +24,8 @@ fn rod(alloc: Global) -> Result<Vec<Point>, AllocError> {
 /// Returns the points of a grid that is as long as wide and high.
 fn grid(alloc: Global) -> Result<Vec<Point>, AllocError> {
     let mut points = Vec::new(alloc);
-    for k in 0..COUNT {
+    for number in 0..COUNT {
+        let k = i32::from(number);
         points.push(Point::new(k % 17, k / 17 % 17, k / 289))?;
     }
     Ok(points)
@@ -32,7 +34,8 @@ fn grid(alloc: Global) -> Result<Vec<Point>, AllocError> {
 /// Returns points in the plane of x and z.
 fn sheet(alloc: Global) -> Result<Vec<Point>, AllocError> {
     let mut points = Vec::new(alloc);
-    for k in 0..COUNT {
+    for number in 0..COUNT {
+        let k = i32::from(number);
         points.push(Point::new(k, 0, k % 71))?;
     }
     Ok(points)
@@ -40,7 +43,7 @@ fn sheet(alloc: Global) -> Result<Vec<Point>, AllocError> {
 
 /// Returns the images of points under the map that is found for all of them.
 fn images_of(alloc: Global, points: &[Point]) -> Result<Option<Vec<Point>>, Memory> {
-    let numbers = (0..COUNT as u32).collect::<Vec<u32>>(alloc)?;
+    let numbers = (0..u32::from(COUNT)).collect::<Vec<u32>>(alloc)?;
     let ids = ids_of(alloc, points, &numbers)?;
     if ids.is_empty() {
         return Ok(None);
@@ -49,7 +52,8 @@ fn images_of(alloc: Global, points: &[Point]) -> Result<Option<Vec<Point>>, Memo
 }
 
 /// Returns the volume of four points of a list, each about `step` behind the one before.
-fn volume(points: &[Point], step: usize) -> Option<i128> {
+fn volume(points: &[Point], step: u16) -> Option<i128> {
+    let step = usize::from(step);
     let a = points.get(1)?;
     let b = points.get(1 + step)?;
     let c = points.get(2 + 2 * step)?;
