@@ -110,15 +110,27 @@ fn surfaces_of_a_cube(rt: HostRuntime) -> Result<(), Fail> {
     assert_verdict(&rt, &TURNED_FACES, SurfaceVerdict::Right)
 }
 
+/// Returns the verdict that the first polygon is no piece of a face, for this fault.
+fn first_is_no_piece(fault: FaceFault) -> SurfaceVerdict {
+    SurfaceVerdict::NoPiece(0, fault)
+}
+
 #[test]
 fn polygons_that_are_no_pieces(rt: HostRuntime) -> Result<(), Fail> {
-    let above = SurfaceVerdict::NoPiece(0, FaceFault::Above(any()));
-    assert_verdict(&rt, &INWARD, above)?;
-    let other = SurfaceVerdict::NoPiece(0, FaceFault::OtherFace);
-    assert_verdict(&rt, &BACK_TO_A_CORNER, other)?;
-    let no_plane = SurfaceVerdict::NoPiece(0, FaceFault::NoPlane);
-    assert_verdict(&rt, &EDGE, no_plane)?;
-    assert_told(&rt, &[0, 1, 2, 4, 5, 6, 7], &CUBE_FACES[..1], no_plane)
+    assert_verdict(&rt, &INWARD, first_is_no_piece(FaceFault::Above(any())))?;
+    assert_verdict(
+        &rt,
+        &BACK_TO_A_CORNER,
+        first_is_no_piece(FaceFault::OtherFace),
+    )?;
+    assert_verdict(&rt, &EDGE, first_is_no_piece(FaceFault::NoPlane))?;
+    let few = [0, 1, 2, 4, 5, 6, 7];
+    assert_told(
+        &rt,
+        &few,
+        &CUBE_FACES[..1],
+        first_is_no_piece(FaceFault::NoPlane),
+    )
 }
 
 #[test]
