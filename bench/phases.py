@@ -25,15 +25,15 @@ PHASES = ["read", "distinct", "filter", "surface", "parts", "faces", "text", "sy
 OWNERS = [
     (r"^(qh_write|itoa)::", "text"),
     (r"^(qh_plane|rayon)::", "distinct"),
-    (r"^qh_(interior|regions)::|^qh_run::filtered::", "filter"),
-    # qh_join compares the borders of faces by qh_steps.
-    (r"^qh_(parts|division|join|seam|guess|gap|curve|places|check|steps)::|^qh_serve::threaded::", "parts"),
+    (r"^qh_block::(interior|regions)::|^qh_run::filtered::", "filter"),
+    # qh_parts_join compares the borders of faces by the steps round them.
+    (r"^qh_(parts|parts_join|parts_guess|places|check)::|^qh_bodies::(borders|closed|order)::|^qh_serve::threaded::", "parts"),
     (r"^qh_bodies::|^qh_block::(faces|hulls|plane_walk|bodies|flat_sets|segment)::", "faces"),
     (r"^qh_polygon::|^qh_surface::named_mesh::", "faces"),
-    (r"^(qh_lattice|qh_block|qh_surface|qh_outside|qh_starts|qh_mesh|qh_pred)::", "surface"),
+    (r"^(qh_lattice|qh_block|qh_surface|qh_mesh|qh_pred)::", "surface"),
     # A set is mapped before its surface is made. The tree and its workers make lists of extreme ids by surfaces of blocks. Morton order is
     # the start of a surface.
-    (r"^(qh_hull|qh_run|qh_board|qh_keys|atomic_table)::|^qh_serve::answers::hull", "surface"),
+    (r"^(qh_hull|qh_run|qh_board|atomic_table)::|^qh_serve::answers::hull", "surface"),
     # What is inlined in the calls above the crates is mostly the loop that reads.
     (r"^(qh_read|qh_serve|qconvex)::", "read"),
     # Every phase has points and ids, and claims calls by threads.

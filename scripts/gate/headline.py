@@ -38,7 +38,7 @@ BOARD = {(CRATES / "qh_board/src" / file, call)
          for file, call in (("opening.rt", "new"), ("calls.rt", "claim"), ("calls.rt", "deliver"), ("calls.rt", "leave"),
                             ("calls.rt", "give_up"), ("closing.rt", "close"))}
 SETTINGS = CRATES / "qh_serve/src/settings.rt"
-LAWS = (CRATES / "qh_model/src/laws", CRATES / "qh_laws/src", CRATES / "qh_lattice/src", CRATES / "qh_surface_laws/src")
+LAWS = (CRATES / "qh_model/src/laws", CRATES / "qh_laws/src", CRATES / "qh_lattice/src", CRATES / "qh_laws_surface/src")
 NAMED = re.compile(r"`([^`\s]+)`")
 ROW = re.compile(r"^\| \[\w+\]\(([^)]*\.antt)\) \| ([^|]*) \|", re.M)
 

@@ -161,7 +161,7 @@ class Phases(unittest.TestCase):
             ("qh_block::solids::solid_mesh", "surface"), ("qh_bodies::tallies::tally_of", "faces"),
             ("qh_run::filtered::without_interior", "filter"), ("qh_run::unions::union", "surface"),
             ("qh_serve::threaded::Threaded::finish", "parts"), ("qh_serve::serving::serve", "read"),
-            ("qh_regions::sieves::x", "filter"), ("qh_seam::rings::x", "parts"), ("memcpy", "else"),
+            ("qh_block::regions::sieves::x", "filter"), ("qh_parts::seam::rings::x", "parts"), ("memcpy", "else"),
         ]:  # fmt: skip
             with self.subTest(name=name):
                 self.assertEqual(self.phase(name), wanted)

@@ -1,3 +1,10 @@
-pub mod flats
-pub mod finished
+pub mod CellParts
+pub mod CoarsePlanes
+pub mod CornerBoxes
 pub mod GatheredSets
+pub mod InnerPoints
+pub mod KeptIds
+pub mod Numbers
+pub mod Tests
+pub mod finished
+pub mod flats

@@ -5,11 +5,11 @@ ghost use Rattle.qh_block.specs.steps.IdSets.{IsHullOf};
 
 use crate::bodies::{flat_body, polygon_of};
 use crate::normals::forward;
+use crate::regions::IdSet;
 use crate::segment::first_along;
 use qh_model::{Body, Id, Memory};
 use qh_polygon::polygon;
 use qh_pred::{cross, point_at};
-use qh_regions::IdSet;
 use std::alloc::Global;
 
 /// Returns the hull of a set in the line of its first two ids, `i` and `j`.

@@ -10,12 +10,12 @@ ghost use Rattle.qh_block.specs.steps.IdSets.{AreExtremesOf, IsHullOf};
 use crate::bodies::{flat_body, polygon_of};
 use crate::flat_sets::{polygon_hull, segment_hull};
 use crate::gathered::{ids_at, positions_below};
+use crate::interior::cull_alone;
+use crate::regions::IdSet;
 use crate::solids::{solid_body, solid_extremes, solid_mesh};
-use qh_interior::cull_alone;
 use qh_model::{Body, Id, Memory, Point};
 use qh_polygon::{Shape, rank};
-use qh_regions::IdSet;
-use qh_starts::{Simplex, points_of};
+use qh_surface::starts::{Simplex, points_of};
 use std::alloc::Global;
 
 /// Returns the extreme ids of a set, rising, by a run over all of its ids where they stand.
@@ -63,7 +63,7 @@ fn hull_of_all(alloc: Global, set: IdSet) -> Result<Body, Memory>
 }
 
 /// Returns the extreme ids of a set, as [`extremes`] gives them, by a run over all of its ids: for a
-/// set that was given to [`cull_interior`](qh_interior::cull_interior) before, or that is a part of a culled set.
+/// set that was given to [`cull_interior`](crate::interior::cull_interior) before, or that is a part of a culled set.
 ///
 /// # Errors
 ///

@@ -5,7 +5,7 @@
 //! triangles plane by plane. A set in a point, a line or a plane gets its body at once: a point, the
 //! segment between the ends of the line, or the polygon in the plane.
 //!
-//! Of a large set `qh_interior` drops most of what is inside first. `qh_surface` makes the surface. A walk
+//! Of a large set the interior filter drops most points first ([`interior`], by [`regions`]). `qh_surface` makes the surface. A walk
 //! finds the triangles of one plane (`plane_walk`), of which `faces` makes the polygon.
 //! `qh_bodies` orders the faces and counts their edges, and `solids` puts them together. `gathered` puts the points of a
 //! set next to each other.
@@ -20,13 +20,15 @@ mod faces;
 mod flat_sets;
 mod gathered;
 mod hulls;
+pub mod interior;
 mod normals;
 mod plane_walk;
+pub mod regions;
 mod segment;
 mod solids;
 
 pub use blocking::{BLOCK_ALONE, LEAST_LEFT, TELLING, WHOLE_ALONE, are_few, block_size, tree_pays};
 pub use faces::{PartedFaces, parted_faces};
 pub use hulls::{extremes, extremes_unculled, hull};
-pub use qh_interior::cull_interior;
+pub use interior::cull_interior;
 pub use qh_surface::surface;

@@ -2,9 +2,9 @@
 ghost use Rattle.std.specs.Prelude.{◌≡◌, ◌⊎◌, ◌<◌, ◌≤ℤ◌, length};
 ghost use Rattle.qh_block.specs.steps.Segments.{position, IsFirstAlong};
 
+use crate::regions::IdSet;
 use qh_model::{Id, Point};
 use qh_pred::{along, point_at};
-use qh_regions::IdSet;
 
 /// Returns the one of `k` and `l` whose point comes first along the way from the point of `a` to that
 /// of `b`.

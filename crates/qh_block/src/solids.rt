@@ -10,10 +10,10 @@ ghost use Rattle.qh_polygon.specs.contract.Shapes.{IsInLine, IsInPlane, IsFirstN
 ghost use Rattle.qh_surface.specs.contract.NamedMeshes.{named, IsNamedMesh};
 
 use crate::faces::faces;
+use crate::regions::IdSet;
 use qh_bodies::{body_of_faces, corners, sort_faces, tally_of};
 use qh_model::{Body, Id, Memory, Point};
-use qh_regions::IdSet;
-use qh_starts::Simplex;
+use qh_surface::starts::Simplex;
 use qh_surface::{NamedMesh, surface_from};
 use std::alloc::Global;
 

@@ -1,5 +1,12 @@
+pub mod AbsentValues
 pub mod ClosedBodies
 pub mod EdgeCounts
 pub mod FaceKeys
 pub mod FaceOrder
 pub mod MergedFaces
+pub mod OrderedPolygons
+pub mod RepeatedNumbers
+pub mod SortedNumbers
+pub mod StepBorders
+pub mod StepCounts
+pub mod Steps

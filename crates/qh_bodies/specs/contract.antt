@@ -1,4 +1,7 @@
 -- What the contracts of public functions cite.
 pub mod ApartPolygons
+pub mod Borders
+pub mod OpenSteps
+pub mod Order
 pub mod SolidEdges
 pub mod Tallies

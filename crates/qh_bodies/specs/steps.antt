@@ -1,2 +1,3 @@
 -- What private functions speak of: nothing to believe.
 pub mod FaceKeys
+pub mod StepKeys

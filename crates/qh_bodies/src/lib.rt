@@ -3,14 +3,24 @@
 //! [`UnsortedFaces`] keeps faces in little memory until all are there. [`sort_faces`] puts them in order (`face_order`), most
 //! of them by the numbers of `face_keys`. [`tally_of`] tells their corners and counts their edges (`solid_edges`), and
 //! [`body_of_faces`] is the hull that they are.
+//!
+//! The steps round polygons, from a corner to the next, decide whether polygons close up ([`open_step`]). Two lists of
+//! polygons have one border if the same steps keep them from closing up ([`have_one_border`]). Steps are compared by
+//! their sorted keys. [`out_of_order`] checks that polygons are in lexicographic order.
 #![tactic(auto)]
 
+mod borders;
+mod closed;
 mod face_keys;
 mod face_order;
+mod order;
 mod solid_edges;
 mod tallies;
 mod unsorted_faces;
 
+pub use borders::have_one_border;
+pub use closed::{Step, open_step, repeated_step};
 pub use face_order::sort_faces;
+pub use order::out_of_order;
 pub use tallies::{Tally, body_of_faces, corners, tally_of};
 pub use unsorted_faces::UnsortedFaces;

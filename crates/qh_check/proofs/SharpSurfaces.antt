@@ -5,7 +5,7 @@ use Rattle.qh_model.specs.headline.Predicates.{place}
 use Rattle.qh_model.specs.headline.Sets.{Members}
 use Rattle.qh_model.specs.contract.ClosedSurface.{Triple}
 use Rattle.qh_laws.specs.contract.LocallyConvex.{IsRound}
-use Rattle.qh_convex.specs.contract.SharpSurface.{IsSharpSurface, IsTriangleFace}
+use Rattle.qh_check.specs.contract.SharpSurface.{IsSharpSurface, IsTriangleFace}
 use Rattle.qh_check.specs.declared.flaw.SurfaceVerdict.TheVariants.{Right}
 use Rattle.qh_check.specs.contract.Pieces.{IsMetRound, IsPiece}
 use Rattle.qh_check.specs.contract.Surfaces.{IsHullSurface, IsSurfaceVerdictOf}

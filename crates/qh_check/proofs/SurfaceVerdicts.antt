@@ -12,7 +12,7 @@ use Rattle.qh_model.proofs.Members.{All-In, In-get_or}
 use Rattle.qh_check.specs.declared.findings.Finding.{Finding}
 use Rattle.qh_check.specs.declared.flaw.SurfaceVerdict.{SurfaceVerdict}
 use Rattle.qh_check.specs.declared.flaw.SurfaceVerdict.TheVariants.{Right, OtherPolygons, NoPiece, Open, Twice}
-use Rattle.qh_steps.specs.contract.OpenSteps.{IsOpen}
+use Rattle.qh_bodies.specs.contract.OpenSteps.{IsOpen}
 use Rattle.qh_check.specs.contract.Claims.{ArePolygonsOf}
 use Rattle.qh_check.specs.contract.Surfaces.{IsFaceSurface, IsHullSurface, IsSurfaceReason, IsSurfaceVerdictOf}
 use Rattle.qh_check.specs.steps.Faces.{IsFaceOf}

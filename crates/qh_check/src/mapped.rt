@@ -5,9 +5,9 @@ ghost use Rattle.qh_check.specs.contract.Surfaces.{IsSurfaceVerdictOf};
 ghost use Rattle.qh_check.specs.steps.Corners.{HaveCornersIn};
 
 use crate::claim::Claim;
+use crate::convex::is_sharp_surface;
 use crate::flaw::SurfaceVerdict;
 use crate::surfaces::check_surface;
-use qh_convex::is_sharp_surface;
 use qh_lattice::reduced;
 use qh_model::Memory;
 use std::alloc::Global;

@@ -13,9 +13,9 @@ use crate::claim::Claim;
 use crate::claims::are_polygons_of;
 use crate::flaw::SurfaceVerdict;
 use crate::search::find_fault;
+use qh_bodies::{open_step, repeated_step};
 use qh_model::{Memory, Polygon};
 use qh_polygon::{Shape, rank};
-use qh_steps::{open_step, repeated_step};
 use std::alloc::Global;
 
 /// Returns the verdict on polygons that are pieces of faces of a solid set: they have to close up, with two at each side.

@@ -1,4 +1,4 @@
-pub mod headline
 pub mod contract
+pub mod headline
 pub mod laws
 pub mod steps

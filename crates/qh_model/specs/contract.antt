@@ -6,6 +6,7 @@ pub mod ClosedSurface
 pub mod Cut
 pub mod FaceTriangles
 pub mod FinishedSurface
+pub mod Halves
 pub mod IdSets
 pub mod Places
 pub mod Rewired

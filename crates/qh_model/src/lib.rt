@@ -10,6 +10,7 @@ mod facet_no;
 mod fan;
 mod form;
 mod hull;
+pub mod keys;
 pub mod laws;
 mod limits;
 mod memory;

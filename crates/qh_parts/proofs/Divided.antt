@@ -6,8 +6,8 @@ use Rattle.qh_model.specs.contract.StoredSurface.{surface_of}
 use Rattle.qh_model.proofs.{Members.All-In, lists.Joined.in_flat_map}
 use Rattle.qh_surface.specs.contract.NamedMeshes.{named}
 use Rattle.qh_laws.proofs.Joined.{part_is_solid}
-use Rattle.qh_division.specs.declared.parts.Part.{Part}
-use Rattle.qh_division.specs.contract.Parts.{ids_in, IsPartOf}
+use Rattle.qh_parts_join.specs.declared.parts.Part.{Part}
+use Rattle.qh_parts_join.specs.contract.Parts.{ids_in, IsPartOf}
 
 -- is solid, as a part of it is
 pub is_solid : (pts : List Vector) (shared ids : List ℕ) (parts : List Part) → All (IsPartOf pts shared) parts → 0 < length parts

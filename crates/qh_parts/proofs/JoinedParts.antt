@@ -5,11 +5,11 @@ use Rattle.std.proofs.lemmas.List.Sorted.{IsPermutation-append_left, IsPermutati
 use Rattle.qh_model.specs.headline.{Vector.Vector, Hull.BodyValue, Hull.IsBody, Predicates.place, Sets.Members}
 use Rattle.qh_model.specs.contract.IdSets.{IsIdSet}
 use Rattle.qh_model.proofs.Members.{in_permutation}
-use Rattle.qh_steps.proofs.StepCounts.{closed_permuted}
-use Rattle.qh_division.specs.declared.parts.Part.{Part}
-use Rattle.qh_division.specs.contract.Parts.{IsPartOf}
-use Rattle.qh_join.specs.contract.{Kept.places_of, Joined.IsBodyOfJoined}
-use Rattle.qh_join.proofs.PartCorners.{corners_held}
+use Rattle.qh_bodies.proofs.StepCounts.{closed_permuted}
+use Rattle.qh_parts_join.specs.declared.parts.Part.{Part}
+use Rattle.qh_parts_join.specs.contract.Parts.{IsPartOf}
+use Rattle.qh_parts_join.specs.contract.{Kept.places_of, Joined.IsBodyOfJoined}
+use Rattle.qh_parts_join.proofs.OwnCorners.{corners_held}
 use Rattle.qh_parts.specs.steps.{Given.AreGivenOf, Kept.HaveKept}
 use Rattle.qh_parts.proofs.Divided.{is_solid}
 

@@ -1,3 +1,7 @@
 -- What private functions speak of: nothing to believe.
+pub mod Apart
 pub mod Given
 pub mod Kept
+pub mod RingKeys
+pub mod Triangles
+pub mod Witnesses

@@ -1,15 +1,15 @@
 //! What the parts of a set contribute: their faces that stay and those that go, each part's seen to be right by a thread
 //! of its own.
 ghost use Rattle.std.specs.Prelude.{All, ◌<◌, IfOk, IfSome};
-ghost use Rattle.qh_division.specs.contract.Parts.{IsPartOf};
+ghost use Rattle.qh_parts_join.specs.contract.Parts.{IsPartOf};
 ghost use Rattle.qh_parts.specs.steps.Given.{IsContribution, IsGiven};
 
+use crate::seam::staying_faces;
 use qh_bodies::UnsortedFaces;
-use qh_division::{Divided, Guess};
-use qh_guess::gap::{Border, border_of};
-use qh_guess::{Outline, marks_of, outline_of};
 use qh_model::{Id, Memory, Polygon};
-use qh_seam::staying_faces;
+use qh_parts_guess::gap::{Border, border_of};
+use qh_parts_guess::{Outline, marks_of, outline_of};
+use qh_parts_join::{Divided, Guess};
 use qh_threads::map_indices;
 use std::alloc::{AllocError, Global};
 use std::thread::Threads;

@@ -8,8 +8,8 @@ ghost use Rattle.qh_model.specs.headline.Sets.{Members};
 use crate::joining::hull_of_parts;
 use crate::pieces::parts_along_curve;
 use qh_block::{TELLING, are_few, extremes, hull};
-use qh_guess::gap::is_worth_parting;
 use qh_model::{Body, Id, Memory, Point};
+use qh_parts_guess::gap::is_worth_parting;
 use std::alloc::Global;
 use std::thread::Threads;
 

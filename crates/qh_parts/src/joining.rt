@@ -5,7 +5,7 @@ ghost use Rattle.qh_model.specs.contract.IdSets.{AreIndices, IsIdSet};
 ghost use Rattle.qh_model.specs.headline.Hull.{IsBody};
 ghost use Rattle.qh_model.specs.headline.Predicates.{place};
 ghost use Rattle.qh_model.specs.headline.Sets.{Members};
-ghost use Rattle.qh_division.specs.contract.Parts.{IsPartOf};
+ghost use Rattle.qh_parts_join.specs.contract.Parts.{IsPartOf};
 ghost use Rattle.qh_parts.specs.steps.Given.{AreGivenOf};
 ghost use Rattle.qh_parts.specs.steps.Kept.{HaveKept};
 
@@ -14,10 +14,10 @@ use crate::hulls::Seams;
 use crate::joint::{Joint, joint_of};
 use crate::pieces::{Parted, are_indices};
 use qh_block::hull;
-use qh_division::{Divided, kept_ids};
-use qh_guess::{Outline, is_worth};
-use qh_join::{Kept, corners_of, join_faces};
 use qh_model::{Body, Id, Memory, Point};
+use qh_parts_guess::{Outline, is_worth};
+use qh_parts_join::join::{Kept, corners_of, join_faces};
+use qh_parts_join::{Divided, kept_ids};
 use std::alloc::Global;
 use std::thread::Threads;
 

@@ -1,16 +1,16 @@
 //! What the parts of a set contribute, with the polygons that close the gap between them.
 ghost use Rattle.std.specs.Prelude.{IfOk, IfSome, IsPermutation};
 ghost use Rattle.std.specs.List.{All};
-ghost use Rattle.qh_division.specs.contract.Parts.{IsPartOf};
+ghost use Rattle.qh_parts_join.specs.contract.Parts.{IsPartOf};
 ghost use Rattle.qh_parts.specs.steps.Given.{AreGivenOf};
 ghost use Rattle.qh_parts.specs.steps.Kept.{HaveKept};
 
 use crate::given::{Given, given_in_threads};
 use qh_bodies::UnsortedFaces;
-use qh_division::{Divided, Part, kept_ids};
-use qh_guess::Outline;
-use qh_guess::gap::bridge_over;
 use qh_model::{Id, Memory, Polygon};
+use qh_parts_guess::Outline;
+use qh_parts_guess::gap::bridge_over;
+use qh_parts_join::{Divided, Part, kept_ids};
 use std::alloc::Global;
 use std::thread::{Threads, join};
 

@@ -1,11 +1,11 @@
 //! The parts of a set, each made by a thread of its own.
 ghost use Rattle.std.specs.Prelude.{All, ◌<◌, IfOk, IfSome, IsTrue, length};
 ghost use Rattle.qh_model.specs.contract.IdSets.{AreIndices};
-ghost use Rattle.qh_division.specs.contract.Parts.{IsPartOf};
+ghost use Rattle.qh_parts_join.specs.contract.Parts.{IsPartOf};
 
-use qh_division::Part;
-use qh_guess::curve::{along_curve, shared_ids};
 use qh_model::{Id, Memory, Point};
+use qh_parts_guess::curve::{along_curve, shared_ids};
+use qh_parts_join::Part;
 use qh_threads::map_indices;
 use std::alloc::Global;
 use std::thread::Threads;

@@ -2,8 +2,8 @@
 //!
 //! A `run` works over the points of the ids, gathered into one list: it knows each by its position there, and
 //! its mesh has positions as corners. At its end they get the ids as their names (`surfaces`). A large set is
-//! taken in an order that keeps near points together (`morton_order` of qh_starts). Each point that is not settled stands in the
-//! outside set of a facet that it is above (qh_outside), and the facets with an outside set wait for their turn
+//! taken in an order that keeps near points together (`starts::morton_order`). Each point that is not settled stands in the
+//! outside set of a facet that it is above (`outside_sets`), and the facets with an outside set wait for their turn
 //! (`waiting_facets`, `turns`). In a round the first point of the next facet's set is the apex; a walk over
 //! twins finds the facets that it sees (`walk`), and its cone replaces them. The points of the removed facets
 //! are tested against the new facets alone: a point above none of these is above no facet at all

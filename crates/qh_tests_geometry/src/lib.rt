@@ -1,4 +1,4 @@
-//! Tests of the public calls of qh_model, qh_pred, qh_lattice, qh_plane, qh_mesh, qh_starts, qh_surface, qh_interior and qh_block:
+//! Tests of the public calls of qh_model, qh_pred, qh_lattice, qh_plane, qh_mesh, qh_surface and qh_block:
 //! cuts and polygons, predicates, maps, distinct points, shapes, closed surfaces, and hulls of sets of ids.
 //!
 //! They stand apart so that the proofs of the libraries are checked without them: where a crate has tests of its

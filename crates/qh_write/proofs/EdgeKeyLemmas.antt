@@ -4,8 +4,8 @@ use Rattle.std.proofs.Common.{append_assoc, min, max, IsPermutation, Bool, true,
 use Rattle.std.proofs.lemmas.{Bool.eqb-false, Grind.flat_map-append, List.length-map, List.Kept.Contains-dedup_nat, List.Kept.Contains-from_dedup}
 use Rattle.std.proofs.lemmas.{List.Sorted.IsPermutation-sym, Map.Keys.IsStrictlyIncreasing-dedup}
 use Rattle.std.specs.{List.flat_map, List.dedup, List.AllByRecursion, List.Sorted.IsSorted, Prelude.◌==◌, Prelude.◌↔◌, Prelude.eqb}
-use Rattle.qh_keys.specs.{contract.Halves.packed, declared.packed.TheConstants.HALF_ROOM}
-use Rattle.qh_keys.proofs.PackedPairs.{packed-same}
+use Rattle.qh_model.specs.{contract.Halves.packed, declared.keys.packed.TheConstants.HALF_ROOM}
+use Rattle.qh_model.proofs.PackedPairs.{packed-same}
 use Rattle.qh_model.specs.contract.ClosedPolygons.{steps_along, steps_round}
 use Rattle.qh_model.specs.headline.{Fan.fan, Fan.fans, Fan.pairs_along, Fan.pairs_round, Fan.edge_count, Sets.In, Sets.Once}
 use Rattle.qh_model.proofs.Members.{to_contains, of_contains, in_permutation, rising_once, every_at}

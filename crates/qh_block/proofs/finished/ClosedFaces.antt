@@ -10,7 +10,7 @@ use Rattle.qh_block.specs.steps.Faces.{AreFacetFaces}
 use Rattle.qh_bodies.proofs.FaceOrder.{apart_permuted, ordered_rise}
 use Rattle.qh_bodies.proofs.MergedFaces.{UpTo, merged_ordered, merged_permutation}
 use Rattle.qh_block.proofs.finished.SolidBodies.{closed}
-use Rattle.qh_steps.proofs.StepCounts.{closed_permuted}
+use Rattle.qh_bodies.proofs.StepCounts.{closed_permuted}
 
 -- polygons in order
 in_order : List (List ℕ) → List (List ℕ)

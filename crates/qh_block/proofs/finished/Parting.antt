@@ -12,7 +12,7 @@ use Rattle.qh_surface.specs.contract.Walks.{mark_at}
 use Rattle.qh_surface.proofs.LiveFacets.{live_below}
 use Rattle.qh_block.specs.contract.MarkedFaces.{AreFacesOfMarked}
 use Rattle.qh_block.specs.steps.{Faces.AreFacetFaces, Faces.IsFacetPolygon, Faces.IsNewPlane, Faces.IsNewFace}
-use Rattle.qh_steps.proofs.StepCounts.{closed_permuted}
+use Rattle.qh_bodies.proofs.StepCounts.{closed_permuted}
 use Rattle.qh_bodies.proofs.MergedFaces.{behind_first}
 use Rattle.qh_block.proofs.finished.{ClosedFaces.facet_faces_close, FaceLists.new_plane}
 use Rattle.qh_block.proofs.finished.Gathering.{IsGathering, gathering_starts, gathering_goes, gathering_ends}

@@ -4,7 +4,7 @@ use Rattle.qh_model.specs.contract.IdSets.{IsIdSet}
 use Rattle.qh_model.specs.headline.Hull.{AreExtremes, BodyValue, IsBody}
 use Rattle.qh_model.specs.headline.Predicates.{place}
 use Rattle.qh_model.specs.headline.Sets.{Members}
-use Rattle.qh_regions.specs.declared.id_set.IdSet.{IdSet}
+use Rattle.qh_block.specs.declared.regions.id_set.IdSet.{IdSet}
 
 -- its extreme ids
 abbrev pub AreExtremesOf : IdSet → List ℕ → Type 0

@@ -7,7 +7,7 @@ use Rattle.qh_model.specs.headline.Sets.{In, Members}
 use Rattle.qh_model.specs.contract.ClosedPolygons.{AreClosed, step_count}
 use Rattle.qh_check.specs.declared.flaw.SurfaceVerdict.{SurfaceVerdict}
 use Rattle.qh_check.specs.declared.flaw.SurfaceVerdict.TheVariants.{Right, OtherPolygons, NoPiece, Open, Twice}
-use Rattle.qh_steps.specs.contract.OpenSteps.{IsOpen}
+use Rattle.qh_bodies.specs.contract.OpenSteps.{IsOpen}
 use Rattle.qh_check.specs.contract.Claims.{ArePolygonsOf, IsFaceFault}
 use Rattle.qh_check.specs.contract.Pieces.{IsPiece}
 

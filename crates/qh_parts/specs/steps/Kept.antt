@@ -4,8 +4,8 @@ use Rattle.std.specs.Prelude.{ℕ, List}
 use Rattle.std.specs.List.{All, flat_map}
 use Rattle.qh_model.specs.headline.{Vector.Vector, Predicates.place, Sets.In}
 use Rattle.qh_laws.specs.contract.Parts.{AreKept}
-use Rattle.qh_division.specs.declared.parts.Part.{Part}
-use Rattle.qh_division.specs.contract.Parts.{ids_in, IsPartOf, KeepsCorners}
+use Rattle.qh_parts_join.specs.declared.parts.Part.{Part}
+use Rattle.qh_parts_join.specs.contract.Parts.{ids_in, IsPartOf, KeepsCorners}
 
 -- the parts' ids are in the set, and their corners stand for it
 pub record HaveKept (parts : List Part) (shared ids : List ℕ) : Type 0 where

@@ -9,7 +9,7 @@ use Rattle.qh_model.proofs.algebra.Signs.{less_one_way}
 use Rattle.qh_pred.specs.contract.Planes.{PlaneValue}
 use Rattle.qh_mesh.specs.contract.SoundMesh.{IsClosedMesh}
 use Rattle.qh_mesh.proofs.Rewiring.{live_in}
-use Rattle.qh_outside.specs.contract.OutsideSets.{OutsideValue, set_of}
+use Rattle.qh_surface.specs.contract.OutsideSets.{OutsideValue, set_of}
 use Rattle.qh_surface.specs.steps.{Planes.ArePlanes}
 use Rattle.qh_surface.specs.steps.Runs.{AreDone, IsGrown, RunState, IsUnderWay, IsSettling, IsRemade}
 

@@ -10,8 +10,8 @@ use Rattle.qh_model.proofs.Members.{All-In, In-get_or}
 use Rattle.qh_model.proofs.algebra.VectorIdentities.{vol-flip_last}
 use Rattle.qh_polygon.proofs.ShapeIds.{first_two_in}
 use Rattle.qh_polygon.specs.contract.Shapes.{IsInLine, IsInPlane, IsFirstNot, AreFirstTwo}
-use Rattle.qh_starts.specs.contract.Simplexes.{IsSimplexOf}
-use Rattle.qh_outside.specs.contract.OutsideSets.{set_of}
+use Rattle.qh_surface.specs.contract.Simplexes.{IsSimplexOf}
+use Rattle.qh_surface.specs.contract.OutsideSets.{set_of}
 use Rattle.qh_mesh.specs.contract.{Replacement.IsLive, SoundMesh.IsSoundMesh, SoundMesh.IsClosedMesh, SoundMesh.simplex_facets}
 use Rattle.qh_model.proofs.surfaces.Simplex.{middle-turned}
 use Rattle.qh_model.proofs.lists.Ranges.{range_has}

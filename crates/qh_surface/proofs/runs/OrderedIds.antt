@@ -15,8 +15,8 @@ use Rattle.qh_mesh.specs.contract.{Names.name_in, Replacement.IsLive}
 use Rattle.qh_surface.specs.contract.Corners.{AreCornersBelow}
 use Rattle.qh_model.proofs.Members.{All-In, All-of, In-get_or, every_of, every_at, in_permutation}
 use Rattle.qh_polygon.proofs.KeyOrder.{eqb_flips}
-use Rattle.qh_starts.specs.declared.initial_simplex.Simplex.{Simplex}
-use Rattle.qh_starts.specs.contract.Simplexes.{IsSimplexOf}
+use Rattle.qh_surface.specs.declared.starts.initial_simplex.Simplex.{Simplex}
+use Rattle.qh_surface.specs.contract.Simplexes.{IsSimplexOf}
 use Rattle.qh_surface.specs.steps.Positions.{IsSimplexIn, IsPositionOf, ArePositionsOf}
 
 module _ {ids near : List ℕ} (p : IsPermutation ids near) where

@@ -4,7 +4,7 @@ use Rattle.std.proofs.Common.{subst, slice_set, length-set, get_or-set_same, pos
 use Rattle.std.proofs.lemmas.List.{set-get_or, set-set}
 use Rattle.qh_model.specs.headline.Sets.{In}
 use Rattle.qh_mesh.specs.contract.Replacement.{IsLive}
-use Rattle.qh_outside.specs.contract.OutsideSets.{OutsideValue, set_of, joined}
+use Rattle.qh_surface.specs.contract.OutsideSets.{OutsideValue, set_of, joined}
 use Rattle.qh_surface.specs.steps.Runs.{height_at, IsDone, AreDone, IsOutside, AreOutside, RunState, with_waiting, with_first, IsUnderWay, IsPicked}
 use Rattle.std.proofs.lemmas.List.Elements.{All-head, All-tail}
 use Rattle.std.proofs.lemmas.List.Sorted.{All-permutation}

@@ -15,7 +15,7 @@ use Rattle.qh_model.proofs.algebra.Signs.{not_less}
 use Rattle.qh_mesh.specs.contract.Replacement.{is_listed, IsLive, IsKept, IsReplacement}
 use Rattle.qh_mesh.specs.contract.SoundMesh.{facet_vol, IsSoundMesh, IsClosedMesh, AreVisible}
 use Rattle.qh_mesh.proofs.{ListedFacets.in_listed, ListedFacets.listed_in, Rewiring.live_in, Rewiring.in_live, Rewiring.rise-vol}
-use Rattle.qh_outside.specs.contract.OutsideSets.{OutsideValue, set_of}
+use Rattle.qh_surface.specs.contract.OutsideSets.{OutsideValue, set_of}
 use Rattle.qh_surface.specs.contract.Corners.{AreCornersBelow}
 use Rattle.qh_surface.specs.steps.Runs.{height_at, IsDone, RunState, with_waiting, with_first, IsUnderWay, IsPicked, IsRemade}
 use Rattle.qh_surface.specs.steps.Settling.{AreReleased}

@@ -3,7 +3,7 @@ use Rattle.std.proofs.Common.{◌≡◌, ℕ, ◌<◌, arith, refl, Bool, true, 
 use Rattle.std.proofs.Common.{set, get_or-set_same, get_or-set_other}
 use Rattle.std.proofs.lemmas.{Bool.cases_eq, Grind.common_steps, List.set_past, List.get_or_past}
 use Rattle.qh_model.specs.headline.Sets.{In}
-use Rattle.qh_outside.specs.contract.OutsideSets.{joined}
+use Rattle.qh_surface.specs.contract.OutsideSets.{joined}
 
 -- a member after a write is one of what was written, or was one
 pub of_write : (xs : List (List ℕ)) (f : ℕ) (ys : List ℕ) (g q : ℕ)

@@ -8,7 +8,7 @@ use Rattle.qh_model.proofs.Members.{All-In}
 use Rattle.qh_model.proofs.lists.Joined.{of_append, in_append}
 use Rattle.qh_pred.specs.contract.Planes.{PlaneValue, height}
 use Rattle.qh_mesh.specs.contract.Replacement.{IsLive}
-use Rattle.qh_outside.specs.contract.OutsideSets.{OutsideValue, set_of, joined}
+use Rattle.qh_surface.specs.contract.OutsideSets.{OutsideValue, set_of, joined}
 use Rattle.qh_surface.specs.steps.{Planes.plane_at, Planes.ArePlanes}
 use Rattle.qh_surface.specs.steps.Runs.{height_at, IsDone, IsOutside, IsSettling}
 use Rattle.qh_surface.specs.steps.Settling.{IsDropped, IsAssigned, IsOneSettled, AreReleased}

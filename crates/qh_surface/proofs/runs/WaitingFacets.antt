@@ -3,7 +3,7 @@ use Rattle.std.proofs.Common.{All, ◌≡◌, ℕ, ◌<◌, ap, ◌∙◌, inl, 
 use Rattle.std.proofs.lemmas.List.Elements.{All-push}
 use Rattle.qh_model.specs.headline.Sets.{In}
 use Rattle.qh_model.proofs.lists.Joined.{in_append, of_append}
-use Rattle.qh_outside.specs.contract.OutsideSets.{OutsideValue, set_of}
+use Rattle.qh_surface.specs.contract.OutsideSets.{OutsideValue, set_of}
 
 -- those that waited, and of those made the ones with an outside set
 pub record AreQueued (v : OutsideValue) (old new made : List ℕ) : Type 0 where

@@ -2,7 +2,7 @@
 use Rattle.std.specs.Prelude.{◌≡◌, ◌≢◌, ℕ, ◌<◌, pos, List, length, slice_index}
 use Rattle.qh_model.specs.headline.Vector.{Vector}
 use Rattle.qh_model.specs.headline.Predicates.{place, vol}
-use Rattle.qh_starts.specs.declared.initial_simplex.Simplex.{Simplex}
+use Rattle.qh_surface.specs.declared.starts.initial_simplex.Simplex.{Simplex}
 
 -- four positions of a list of points that are not in one plane
 pub record IsSimplexIn (points : List Vector) (s : Simplex) : Type 0 where

@@ -11,7 +11,7 @@ use Rattle.qh_mesh.specs.contract.Replacement.{IsLive}
 use Rattle.qh_mesh.specs.contract.SoundMesh.{facet_vol, IsSoundMesh, IsClosedMesh}
 use Rattle.qh_surface.specs.contract.Corners.{AreCornersBelow}
 use Rattle.qh_surface.specs.steps.Planes.{plane_at, ArePlanes}
-use Rattle.qh_outside.specs.contract.OutsideSets.{OutsideValue, set_of, joined}
+use Rattle.qh_surface.specs.contract.OutsideSets.{OutsideValue, set_of, joined}
 
 -- six times the volume of facet f and the point at position p: above 0 where the facet strictly sees it
 abbrev pub height_at : List Vector → List StoredFacet → ℕ → ℕ → ℤ

@@ -5,7 +5,7 @@ use Rattle.qh_model.specs.headline.Vector.{Vector, origin}
 use Rattle.qh_model.specs.headline.Sets.{In}
 use Rattle.qh_pred.specs.contract.Planes.{PlaneValue, height}
 use Rattle.qh_surface.specs.steps.Planes.{plane_at}
-use Rattle.qh_outside.specs.contract.OutsideSets.{OutsideValue, set_of, joined}
+use Rattle.qh_surface.specs.contract.OutsideSets.{OutsideValue, set_of, joined}
 
 -- the point at position p is above none of the facets
 abbrev pub IsAboveNone : List PlaneValue → List ℕ → Vector → Type 0

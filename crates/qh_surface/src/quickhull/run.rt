@@ -1,22 +1,22 @@
 //! A run of Quickhull: rounds in each of which one point becomes a corner.
 ghost use Rattle.std.specs.Prelude.{◌≡◌, ◌≤◌, ◌<◌, [], length, OnOk, IfOk};
-ghost use Rattle.qh_outside.specs.contract.OutsideSets.{listed};
+ghost use Rattle.qh_surface.specs.contract.OutsideSets.{listed};
 ghost use Rattle.qh_surface.specs.steps.Positions.{IsSimplexIn};
 ghost use Rattle.qh_surface.specs.steps.Cones.{IsFan};
 ghost use Rattle.qh_surface.specs.steps.Runs.{AreDone, IsGrown, IsUnderWay, IsPicked, IsRemade};
 ghost use Rattle.qh_surface.specs.steps.RunStates.{state_of};
 
+use crate::OutsideSets;
 use crate::quickhull::cone_ring::{ConeRing, SCANNED};
 use crate::quickhull::planes::{SPARE, make_room, renew};
 use crate::quickhull::settling::{release, settle_orphans};
 use crate::quickhull::turns::Turns;
 use crate::quickhull::waiting_facets::{enqueue, next_apex};
 use crate::quickhull::walk::Walk;
+use crate::starts::Simplex;
 use qh_mesh::{FacetNo, Mesh};
 use qh_model::{Id, Memory, Point};
-use qh_outside::OutsideSets;
 use qh_pred::Plane;
-use qh_starts::Simplex;
 use std::alloc::Global;
 
 /// The least number of points for which a run asks for room for all its facets at once.

@@ -6,16 +6,16 @@ ghost use Rattle.qh_model.specs.contract.StoredSurface.{StoredFacet};
 ghost use Rattle.qh_pred.specs.contract.Planes.{height};
 ghost use Rattle.qh_mesh.specs.contract.Replacement.{IsLive};
 ghost use Rattle.qh_surface.specs.steps.Planes.{plane_at, ArePlanes};
-ghost use Rattle.qh_outside.specs.contract.OutsideSets.{listed};
+ghost use Rattle.qh_surface.specs.contract.OutsideSets.{listed};
 ghost use Rattle.qh_surface.specs.steps.Runs.{IsSettling};
 ghost use Rattle.qh_surface.specs.steps.Settling.{IsAboveNone, IsOneSettled, AreReleased};
 ghost use Rattle.qh_surface.specs.steps.Cones.{AreWedges};
 
+use crate::OutsideSets;
 use crate::quickhull::cone_ring::{ConeRing, SCANNED};
 use crate::quickhull::cone_search::Visibility;
 use qh_mesh::FacetNo;
 use qh_model::{Id, Point};
-use qh_outside::OutsideSets;
 use qh_pred::Plane;
 
 /// Makes the points of the removed facets orphans.

@@ -12,15 +12,15 @@ ghost use Rattle.qh_mesh.specs.contract.Replacement.{IsLive};
 ghost use Rattle.qh_mesh.specs.contract.SoundMesh.{IsClosedMesh};
 ghost use Rattle.qh_model.specs.contract.IdSets.{AreIndices};
 ghost use Rattle.qh_surface.specs.contract.NamedMeshes.{named, IsNamedMesh};
-ghost use Rattle.qh_starts.specs.contract.Simplexes.{IsSimplexOf};
+ghost use Rattle.qh_surface.specs.contract.Simplexes.{IsSimplexOf};
 ghost use Rattle.qh_surface.specs.steps.Positions.{IsPositionOf, ArePositionsOf};
 
 use crate::named_mesh::NamedMesh;
 use crate::quickhull::run::Run;
+use crate::starts::{Simplex, ends_of, morton_order, points_of, wide_simplex};
 use qh_mesh::Mesh;
 use qh_model::{Id, Memory, Point};
 use qh_polygon::{Shape, rank};
-use qh_starts::{Simplex, ends_of, morton_order, points_of, wide_simplex};
 use std::alloc::Global;
 
 /// The least number of ids that a run takes in Morton order, which keeps near points together.

@@ -2,13 +2,13 @@
 ghost use Rattle.std.specs.Prelude.{All, ◌≡◌, ◌+◌, ◌<◌, ◌≤◌, ◌⊎◌, ℕ, [], ◌∷◌, ◌++◌, length, OnOk, IfNone, IfSome};
 ghost use Rattle.std.specs.Prelude.{vec_len, vec_capacity};
 ghost use Rattle.qh_model.specs.headline.Sets.{In};
-ghost use Rattle.qh_outside.specs.contract.OutsideSets.{set_of, listed};
+ghost use Rattle.qh_surface.specs.contract.OutsideSets.{set_of, listed};
 ghost use Rattle.qh_surface.specs.steps.Runs.{RunState, with_waiting, AreDone, IsUnderWay, IsPicked};
 
+use crate::OutsideSets;
 use crate::quickhull::turns::Turns;
 use qh_mesh::FacetNo;
 use qh_model::Id;
-use qh_outside::OutsideSets;
 use std::alloc::AllocError;
 
 /// Adds a facet if it has an outside set. It is pushed, then popped if it has none;

@@ -3,21 +3,21 @@
 ghost use Rattle.std.specs.Prelude.{IfOk, IfSome};
 ghost use Rattle.std.specs.List.{All};
 ghost use Rattle.qh_model.specs.contract.IdSets.{AreIndices};
-ghost use Rattle.qh_division.specs.contract.Parts.{IsPartOf};
+ghost use Rattle.qh_parts_join.specs.contract.Parts.{IsPartOf};
 
 mod guess;
 mod seam;
 
-use qh_division::{Part, parts_of};
 use qh_fixtures::ids::ids_of;
 use qh_model::{Id, Memory, Point};
+use qh_parts_join::Part;
 use std::alloc::Global;
 
 /// The corners of both parts.
 const SHARED: [u32; 4] = [0, 3, 5, 6];
 
-/// The other corners: two of the first part, then two of the second.
-const LISTED: [u32; 4] = [1, 2, 4, 7];
+/// The other corners of each part.
+const OWN: [[u32; 2]; 2] = [[1, 2], [4, 7]];
 
 /// All corners.
 const ALL: [u32; 8] = [0, 1, 2, 3, 4, 5, 6, 7];
@@ -29,15 +29,35 @@ struct Halves {
     shared: Vec<Id>,
 }
 
+/// Returns the part with two corners of its own, by their indices, and the shared ones; `None` if it is not solid.
+fn part_with(
+    alloc: Global,
+    pts: &[Point],
+    own: &[u32],
+    shared: &[Id],
+) -> Result<Option<Part>, Memory>
+    requires shared { AreIndices pts.now shared.now }
+    ensures { IfOk result (λ found. IfSome found (IsPartOf pts.now shared.now)) }
+{
+    let mut listed = ids_of(alloc, pts, own)?;
+    listed.extend_from_slice(shared)?;
+    Part::of(alloc, pts, &listed, shared)
+}
+
 /// Returns the cube, whose corners are these points, in its two parts; `None` if one of them is not solid.
 fn halves_of(alloc: Global, pts: &[Point]) -> Result<Option<Halves>, Memory>
     ensures parts { IfOk result (λ found. IfSome found (λ h. All (IsPartOf pts.now h.shared.items) h.parts.items)) }
     ensures shared { IfOk result (λ found. IfSome found (λ h. AreIndices pts.now h.shared.items)) }
 {
-    let listed = ids_of(alloc, pts, &LISTED)?;
     let shared = ids_of(alloc, pts, &SHARED)?;
-    match parts_of(alloc, pts, &listed, 2, &shared)? {
-        Some(parts) => Ok(Some(Halves { parts, shared })),
-        None => Ok(None),
-    }
+    let Some(low) = part_with(alloc, pts, &OWN[0], &shared)? else {
+        return Ok(None);
+    };
+    let Some(high) = part_with(alloc, pts, &OWN[1], &shared)? else {
+        return Ok(None);
+    };
+    let mut parts = Vec::new(alloc);
+    parts.push(low)?;
+    parts.push(high)?;
+    Ok(Some(Halves { parts, shared }))
 }

@@ -2,7 +2,7 @@
 use qh_fixtures::ids::{are, ids_of};
 use qh_fixtures::points::{LIMIT, point};
 use qh_model::{Id, Memory, Point};
-use qh_starts::{ends_of, morton_order};
+use qh_surface::starts::{ends_of, morton_order};
 use std::alloc::Global;
 use std::test::Fail;
 

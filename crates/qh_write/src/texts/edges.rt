@@ -4,7 +4,7 @@ ghost use Rattle.std.specs.Prelude.{◌≡◌, IfOk, OnOk, [], ◌∷◌, min, m
 ghost use Rattle.qh_model.specs.headline.Fan.{fan, fans, pairs_round, edge_count};
 ghost use Rattle.qh_write.specs.steps.EdgeKeys.{AddsPairs, pairs_of};
 
-use qh_keys::Packed;
+use qh_model::keys::Packed;
 use qh_model::{Id, Polygon, Sides};
 use std::alloc::{AllocError, Global};
 

@@ -5,7 +5,7 @@ use Rattle.qh_model.specs.headline.Sets.{In}
 use Rattle.std.proofs.lemmas.List.Sorted.{IsPermutation-sym}
 use Rattle.qh_model.proofs.Members.{in_permutation}
 use Rattle.qh_model.proofs.lists.Joined.{of_append}
-use Rattle.qh_steps.proofs.StepCounts.{closed_of_both}
+use Rattle.qh_bodies.proofs.StepCounts.{closed_of_both}
 use Rattle.qh_parts.specs.steps.Given.{IsContribution}
 use Rattle.qh_parts.proofs.Popped.{of_last, of_front}
 use Rattle.qh_parts.proofs.given.all_given.Goals as goal

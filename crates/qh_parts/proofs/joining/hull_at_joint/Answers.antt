@@ -1,6 +1,6 @@
 -- The hull of the faces that parts contribute and those between them is that of the set.
 use Rattle.std.proofs.lemmas.{Option.IfSome_then, Result.IfOk-weaker}
-use Rattle.qh_join.proofs.PartCorners.{all_placed}
+use Rattle.qh_parts_join.proofs.OwnCorners.{all_placed}
 use Rattle.qh_parts.proofs.JoinedParts.{body_of_parts}
 use Rattle.qh_parts.proofs.joining.hull_at_joint.Goals as goal
 

@@ -1,6 +1,6 @@
 -- One more part.
 use Rattle.std.specs.Prelude.{IfOk, IfSome}
-use Rattle.qh_division.specs.contract.Parts.{IsPartOf}
+use Rattle.qh_parts_join.specs.contract.Parts.{IsPartOf}
 use Rattle.qh_model.proofs.Members.{all_and, all_none}
 use Rattle.qh_parts.proofs.Popped.{of_last, of_front}
 use Rattle.qh_parts.proofs.pieces.all_parts.Goals as goal

@@ -1,7 +1,7 @@
 -- The parts so far are parts, and so are those in the answers that are left.
 use Rattle.std.proofs.Common.{All, length}
 use Rattle.std.specs.Prelude.{IfOk, IfSome}
-use Rattle.qh_division.specs.contract.Parts.{IsPartOf}
+use Rattle.qh_parts_join.specs.contract.Parts.{IsPartOf}
 use Rattle.qh_parts.proofs.pieces.all_parts.Given as goal
 
 abbrev pub invariant-loop-answer : goal.invariant-loop-answer

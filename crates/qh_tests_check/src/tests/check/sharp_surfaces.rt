@@ -1,7 +1,7 @@
 //! Worked rows: surfaces of an octahedron with points inside, and of a cube, whose triangles lie in planes by twos.
 use super::EIGHT;
 use super::surfaces::TRIANGLES;
-use qh_convex::is_sharp_surface;
+use qh_check::convex::is_sharp_surface;
 use qh_fixtures::faces::polygons_of;
 use qh_fixtures::ids::ids_of;
 use qh_fixtures::points::cube;

@@ -1,13 +1,13 @@
 //! What is guessed of the cube.
 use super::{ALL, halves_of};
-use qh_division::{Divided, Run};
 use qh_fixtures::faces::{CUBE_FACES, polygons_of};
 use qh_fixtures::ids::ids_of;
 use qh_fixtures::points::cube;
-use qh_guess::curve::{along_curve, shared_ids};
-use qh_guess::gap::{border_of, bridge_over};
-use qh_guess::{is_worth, marks_of, outline_of};
 use qh_model::{Memory, Polygon};
+use qh_parts_guess::curve::{along_curve, shared_ids};
+use qh_parts_guess::gap::{border_of, bridge_over};
+use qh_parts_guess::{is_worth, marks_of, outline_of};
+use qh_parts_join::{Divided, Run};
 use qh_polygon::rising_ids;
 use std::alloc::{AllocError, Global};
 use std::test::Fail;

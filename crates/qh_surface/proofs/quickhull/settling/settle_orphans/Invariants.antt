@@ -2,7 +2,7 @@
 use Rattle.std.proofs.Common.{ℕ, All, ◌≡◌, ◌≤◌, List, length}
 use Rattle.qh_model.specs.headline.Predicates.{place}
 use Rattle.qh_model.specs.contract.StoredSurface.{StoredFacet}
-use Rattle.qh_outside.specs.contract.OutsideSets.{listed}
+use Rattle.qh_surface.specs.contract.OutsideSets.{listed}
 use Rattle.qh_surface.specs.steps.{Planes.ArePlanes, Runs.IsSettling}
 use Rattle.qh_mesh.specs.contract.Replacement.{IsLive}
 use Rattle.qh_surface.proofs.quickhull.settling.settle_orphans.Given as goal

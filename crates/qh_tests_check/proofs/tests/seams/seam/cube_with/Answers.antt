@@ -1,5 +1,5 @@
 -- The places of the halves are those of parts.
-use Rattle.qh_join.proofs.PartCorners.{all_placed}
+use Rattle.qh_parts_join.proofs.OwnCorners.{all_placed}
 use Rattle.qh_tests_check.proofs.tests.seams.seam.cube_with.Goals as goal
 
 pub invariant_of-kept-clause-corners_in : goal.invariant_of-kept-clause-corners_in

@@ -1,0 +1,14 @@
+-- A plane of whole steps, or one that no point is below.
+use Rattle.std.proofs.Common.{◌≡◌, arith}
+use Rattle.std.proofs.lemmas.Int.{ints}
+use Rattle.std.specs.Prelude.{ℤ, pos, ◌<ℤ◌}
+use Rattle.qh_block.proofs.regions.coarse_planes.CoarsePlane.under.Goals as goal
+
+pub returns-in-Some : goal.returns-in-Some
+returns-in-Some c = c.in-Some.ensures
+
+pub returns-in-None : goal.returns-in-None
+returns-in-None c = λ p at below. absurd (not_below _ (c.below_all.ensures p) below)
+  where
+    not_below : (h : ℤ) → h ≡ pos 0 → h <ℤ pos 0 → ⊥
+    not_below h e l = omega (arith, ints)

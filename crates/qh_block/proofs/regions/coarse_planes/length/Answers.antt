@@ -1,0 +1,26 @@
+-- A product of two numbers of 64 bits has 128.
+use Rattle.std.proofs.Common.{◌^◌, ◌≤◌, arith, lit<, FitsSigned}
+use Rattle.std.proofs.lemmas.Int.{ints}
+use Rattle.std.specs.Prelude.{ℤ, unsigned_abs}
+use Rattle.qh_block.proofs.Numbers.{product_fits, product_is, product_size}
+use Rattle.qh_block.proofs.regions.coarse_planes.length.Goals as goal
+use mir.Syntax.{w64, w128}
+
+-- a number of 64 bits is no larger than 2^63
+size : (x : ℤ) → FitsSigned w64 x → unsigned_abs x ≤ 2 ^ 63
+size x h = omega (arith, ints)
+
+pub overflow_mul-result : goal.overflow_mul-result
+overflow_mul-result c =
+    product_fits w64 w128 c.args.steps c.args.step c.from.result c.from-2.result (2 ^ 63) c.from.ensures c.from-2.ensures
+    c.ranges.steps c.ranges.step (lit< tt) (lit< tt) (size _ c.ranges.steps) (size _ c.ranges.step)
+
+pub returns-clause-value : goal.returns-clause-value
+returns-clause-value c =
+    product_is w64 w128 c.args.steps c.args.step c.from.result c.from-2.result (2 ^ 63) c.from.ensures c.from-2.ensures
+    c.ranges.steps c.ranges.step (lit< tt) (lit< tt) (size _ c.ranges.steps) (size _ c.ranges.step)
+
+pub returns-clause-limit : goal.returns-clause-limit
+returns-clause-limit c =
+    product_size w64 w128 c.args.steps c.args.step c.from.result c.from-2.result (2 ^ 63) c.from.ensures c.from-2.ensures
+    c.ranges.steps c.ranges.step (lit< tt) (lit< tt) (size _ c.ranges.steps) (size _ c.ranges.step)

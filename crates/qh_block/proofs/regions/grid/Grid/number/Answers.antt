@@ -1,0 +1,10 @@
+-- Numbers of 32 bits joined bit by bit have no more.
+use Rattle.std.proofs.Common.{ℕ, ◌^◌, ◌<◌, Fits, w64, arith}
+use Rattle.std.proofs.lemmas.Nat.{or_of_32}
+use Rattle.qh_block.proofs.regions.grid.Grid.number.Goals as goal
+
+fits : (n : ℕ) → n < 2 ^ 32 → Fits w64 n
+fits n h = omega arith
+
+pub overflow_cast-result : goal.overflow_cast-result
+overflow_cast-result c = fits _ (or_of_32 c.spread-halves.result c.wrapping_shr.result c.spread-halves.type_inv c.wrapping_shr.type_inv)

@@ -1,0 +1,11 @@
+-- The cells so far are cells between planes if those of all parts are, and so are those of the parts that are left.
+use Rattle.std.proofs.Common.{List, All}
+use Rattle.std.specs.Prelude.{IfOk}
+use Rattle.std.specs.Vec.Iter.{into_iter_items}
+use Rattle.qh_pred.specs.contract.Planes.{PlaneValue}
+use Rattle.qh_block.specs.contract.Cells.{IsCellOf}
+use Rattle.qh_block.proofs.regions.sieves.joined_cells.Given as goal
+
+abbrev pub invariant-loop-part : goal.invariant-loop-part
+invariant-loop-part l = (planes : List PlaneValue) → All (λ r. IfOk r (λ part. All (IsCellOf planes) part.items)) l.fn.parts.items
+    → All (IsCellOf planes) l.cells.items × All (λ r. IfOk r (λ part. All (IsCellOf planes) part.items)) (into_iter_items l.part-iterator)

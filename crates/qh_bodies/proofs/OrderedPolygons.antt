@@ -1,0 +1,111 @@
+-- Polygons in order, two by two.
+use Rattle.std.proofs.Common.{◌≡◌, ◌≢◌, ℕ, zero, suc, ◌+◌, ◌-◌, ◌<◌, ◌≤◌, arith, sym, subst, ◌∙◌, inl, inr, List, [], ◌∷◌}
+use Rattle.std.proofs.Common.{length, get_or, take, min}
+use Rattle.std.proofs.lemmas.List.{get_or_default}
+use Rattle.std.proofs.lemmas.Bool.{cases_lt}
+use Rattle.std.specs.Prelude.{◌↔◌}
+use Rattle.qh_model.specs.headline.Polygons.{ComesBefore, RisesFrom, RiseStrictly}
+use Rattle.qh_bodies.specs.contract.Order.{IsOutOfOrder}
+
+-- each list that comes before the next rises
+pub rises : (qs : List (List ℕ))
+    → ((n : ℕ) → n + 1 < length qs → ComesBefore (get_or qs n []) (get_or qs (n + 1) [])) → RiseStrictly qs
+rises [] h = tt
+rises (q ∷ qs) h = from q qs h
+  where
+    from : (p : List ℕ) (ps : List (List ℕ))
+        → ((n : ℕ) → n + 1 < length (p ∷ ps) → ComesBefore (get_or (p ∷ ps) n []) (get_or (p ∷ ps) (n + 1) []))
+        → RisesFrom p ps
+    from p [] h = tt
+    from p (r ∷ ps) h = (
+      h 0 (omega arith),
+      from r ps (λ n l. (let e : suc n + 1 ≡ suc (n + 1) = omega arith in
+          subst (λ m. ComesBefore (get_or (r ∷ ps) n []) (get_or (p ∷ r ∷ ps) m [])) e (h (suc n) (omega arith)))),
+    )
+
+-- in a rising list each comes before the next
+pub rises_at : (qs : List (List ℕ)) → RiseStrictly qs → (n : ℕ) → n + 1 < length qs
+    → ComesBefore (get_or qs n []) (get_or qs (n + 1) [])
+rises_at [] h n l = absurd (omega arith)
+rises_at (q ∷ qs) h n l = from q qs h n l
+  where
+    from : (p : List ℕ) (ps : List (List ℕ)) → RisesFrom p ps → (n : ℕ) → n + 1 < length (p ∷ ps)
+        → ComesBefore (get_or (p ∷ ps) n []) (get_or (p ∷ ps) (n + 1) [])
+    from p [] h n l = absurd (omega arith)
+    from p (r ∷ ps) h zero l = h.0
+    from p (r ∷ ps) h (suc n) l = let e : suc (n + 1) ≡ suc n + 1 = omega arith in
+        subst (λ m. ComesBefore (get_or (r ∷ ps) n []) (get_or (p ∷ r ∷ ps) m [])) e (from r ps h.1 n (omega arith))
+
+-- ---- two lists that are the same so far
+-- the numbers at the first difference tell
+pub before_at : (k : ℕ) (p q : List ℕ) → take k p ≡ take k q → k < length p → k < length q → get_or p k 0 ≢ get_or q k 0
+    → (get_or p k 0 < get_or q k 0) ↔ ComesBefore p q
+before_at k [] q same l m n = absurd (omega arith)
+before_at k (u ∷ p) [] same l m n = absurd (omega arith)
+before_at zero (u ∷ p) (v ∷ q) same l m n = (λ h. inl h, back)
+  where
+    back : ComesBefore (u ∷ p) (v ∷ q) → u < v
+    back (inl h) = h
+    back (inr h) = absurd (n h.0)
+before_at (suc k) (u ∷ p) (v ∷ q) same l m n =
+    next (cc (same)) (before_at k p q (cc (same)) (omega arith) (omega arith) n)
+  where
+    next : u ≡ v → (get_or p k 0 < get_or q k 0) ↔ ComesBefore p q
+        → (get_or p k 0 < get_or q k 0) ↔ ComesBefore (u ∷ p) (v ∷ q)
+    next e h = (λ x. inr (e, h.0 x), back)
+      where
+        back : ComesBefore (u ∷ p) (v ∷ q) → get_or p k 0 < get_or q k 0
+        back (inl x) = absurd (omega (arith, e, x))
+        back (inr x) = h.1 x.1
+
+-- where one of them has ended, the lengths tell
+pub before_end : (k : ℕ) (p q : List ℕ) → take k p ≡ take k q → k ≡ min (length p) (length q)
+    → (length p < length q) ↔ ComesBefore p q
+before_end k [] [] same e = (λ h. absurd (omega arith), λ h. absurd h)
+before_end k [] (v ∷ q) same e = (λ h. tt, λ h. omega arith)
+before_end k (u ∷ p) [] same e = (λ h. absurd (omega arith), λ h. absurd h)
+before_end zero (u ∷ p) (v ∷ q) same e = absurd (omega arith)
+before_end (suc k) (u ∷ p) (v ∷ q) same e = next (cc (same)) (before_end k p q (cc (same)) (omega arith))
+  where
+    next : u ≡ v → (length p < length q) ↔ ComesBefore p q
+        → (length (u ∷ p) < length (v ∷ q)) ↔ ComesBefore (u ∷ p) (v ∷ q)
+    next e h = (λ x. inr (e, h.0 (omega (arith, x))), back)
+      where
+        longer : length p < length q → length (u ∷ p) < length (v ∷ q)
+        longer x = omega (arith, x)
+
+        back : ComesBefore (u ∷ p) (v ∷ q) → length (u ∷ p) < length (v ∷ q)
+        back (inl x) = absurd (omega (arith, e, x))
+        back (inr x) = longer (h.1 x.1)
+
+-- ---- one more pair
+module _ (qs : List (List ℕ)) (k : ℕ) (p q : List ℕ) (some : 1 ≤ k) (l : k < length qs) (e : p ≡ get_or qs (k - 1) p)
+    (f : q ≡ get_or qs k q) where
+  before : p ≡ get_or qs (k - 1) []
+  before = e ∙ get_or_default qs (k - 1) p [] (omega arith)
+
+  own : q ≡ get_or qs k []
+  own = f ∙ get_or_default qs k q [] l
+
+  abbrev Rises : ℕ → ℕ → Type 0
+  Rises i j = ComesBefore (get_or qs i []) (get_or qs j [])
+
+  pub ordered_more : ComesBefore p q → ((n : ℕ) → n + 1 < k → Rises n (n + 1)) → (n : ℕ) → n + 1 < k + 1 → Rises n (n + 1)
+  ordered_more b h n m = elim (cases_lt (n + 1) k) [
+    | inl x ↦ h n x
+    | inr x ↦ (
+        let here : k - 1 ≡ n = omega arith in let next : k ≡ n + 1 = omega arith in
+        subst (Rises n) next (subst (λ i. Rises i k) here (subst (ComesBefore (get_or qs (k - 1) [])) own
+        (subst (λ r. ComesBefore r q) before b)))
+        )
+  ]
+
+  pub unordered : ¬ (ComesBefore p q) → IsOutOfOrder qs (k - 1)
+  unordered n = (
+    omega arith,
+    λ b. n (subst (λ r. ComesBefore r q) (sym before)
+        (subst (ComesBefore (get_or qs (k - 1) [])) (sym own) (subst (Rises (k - 1)) next b))),
+  )
+    where
+      next : k - 1 + 1 ≡ k
+      next = omega arith

@@ -1,0 +1,55 @@
+-- Sorted keys of steps and of steps back: polygons whose keys are the same have one border, and close up alike.
+use Rattle.std.proofs.Common.{◌≡◌, ◌∙◌, ℕ, ◌+◌, Bool, List, ◌++◌, IsPermutation, ap, arith, cond, map, sym}
+use Rattle.std.proofs.lemmas.List.{Sorted.sum_by-IsPermutation, Sums.sum_by-append}
+use Rattle.std.specs.Prelude.{count_by}
+use Rattle.std.specs.List.{flat_map}
+use Rattle.qh_model.specs.contract.Halves.{halves, high_of, low_of}
+use Rattle.qh_model.specs.contract.{ClosedPolygons.AreClosed, ClosedPolygons.steps_round, ClosedPolygons.step_count, ClosedSurface.is_edge}
+use Rattle.qh_model.proofs.closed_surfaces.SignedVolume.{is_edge-back}
+use Rattle.qh_model.proofs.lists.Counts.{count-map}
+use Rattle.qh_bodies.proofs.StepCounts.{steps_of_both}
+use Rattle.qh_bodies.specs.contract.Borders.{HaveOneBorder}
+use Rattle.qh_bodies.specs.steps.StepKeys.{back, AreStepsAndBack, CountOtherwise}
+use Rattle.qh_bodies.proofs.Steps.{key_counts}
+
+-- the keys of the ones and the keys of the others, turned back, in any order
+pub steps_and_back : (ps qs : List (List ℕ)) (keys others turned sorted : List ℕ) → map halves keys ≡ flat_map steps_round ps
+    → map halves others ≡ flat_map steps_round qs → map halves turned ≡ map back (map halves others)
+    → IsPermutation (keys ++ turned) sorted → AreStepsAndBack ps qs sorted
+steps_and_back ps qs keys others turned sorted steps other_steps turns same u v =
+    sum_by-IsPermutation (λ key. cond (on key) 1 0) (keys ++ turned) sorted same ∙ sum_by-append (λ key. cond (on key) 1 0) keys turned
+    ∙ ap (λ n. n + count_by on turned) own ∙ ap (λ n. step_count ps u v + n) turned_back
+  where
+    on : ℕ → Bool
+    on key = is_edge (u, v) (halves key)
+
+    own : count_by on keys ≡ step_count ps u v
+    own = sym (count-map halves (is_edge (u, v)) keys) ∙ ap (count_by (is_edge (u, v))) steps
+
+    turned_back : count_by on turned ≡ step_count qs v u
+    turned_back =
+        sym (count-map halves (is_edge (u, v)) turned) ∙ ap (count_by (is_edge (u, v))) turns
+        ∙ count-map back (is_edge (u, v)) (map halves others)
+        ∙ ap (λ (f : ℕ × ℕ → Bool). count_by f (map halves others)) (λ i s. is_edge-back (u, v) s i)
+        ∙ ap (count_by (is_edge (v, u))) other_steps
+
+-- where the keys are the same either way
+pub one_border : (ps qs : List (List ℕ)) (keys others : List ℕ) → AreStepsAndBack ps qs keys → AreStepsAndBack qs ps others
+    → keys ≡ others → HaveOneBorder ps qs
+one_border ps qs keys others f g same u v =
+    let e = f u v in let d = g u v in
+    let one = ap (count_by (λ key. is_edge (u, v) (halves key))) same in omega (arith, e, d, one)
+
+-- where one has a key more often, they have not
+pub other_border : (ps qs : List (List ℕ)) (keys others : List ℕ) (z : ℕ) → AreStepsAndBack ps qs keys
+    → AreStepsAndBack qs ps others → CountOtherwise keys others z → HaveOneBorder ps qs → ⊥
+other_border ps qs keys others z f g otherwise border =
+    let e = f (high_of z) (low_of z) in let d = g (high_of z) (low_of z) in let b = border (high_of z) (low_of z) in
+    let k = key_counts z keys in let l = key_counts z others in otherwise (omega (arith, e, d, b, k, l))
+
+-- polygons that close up with the ones close up with the others
+pub closed_by_border : (rest ps qs : List (List ℕ)) → AreClosed (rest ++ ps) → HaveOneBorder ps qs → AreClosed (rest ++ qs)
+closed_by_border rest ps qs closed border u v =
+    let c = closed u v in let b = border u v in
+    let there = steps_of_both u v rest ps in let back = steps_of_both v u rest ps in
+    let to = steps_of_both u v rest qs in let fro = steps_of_both v u rest qs in omega (arith, c, b, there, back, to, fro)

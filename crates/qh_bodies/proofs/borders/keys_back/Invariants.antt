@@ -1,0 +1,8 @@
+-- The keys so far, turned back.
+use Rattle.std.proofs.Common.{◌≡◌, map, take}
+use Rattle.qh_model.specs.contract.Halves.{halves}
+use Rattle.qh_bodies.specs.steps.StepKeys.{back}
+use Rattle.qh_bodies.proofs.borders.keys_back.Given as goal
+
+abbrev pub invariant-loop-key : goal.invariant-loop-key
+invariant-loop-key l = map halves l.back.items ≡ map back (map halves (take l.key-index l.keys))

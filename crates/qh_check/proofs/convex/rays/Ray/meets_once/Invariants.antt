@@ -1,0 +1,13 @@
+-- The triangles so far, and the number of those that the ray meets.
+use Rattle.std.proofs.Common.{◌≡◌, ◌⊎◌, take, true}
+use Rattle.std.specs.Prelude.{count_by}
+use Rattle.qh_model.specs.{headline.Predicates.place, headline.Sets.In, contract.ClosedSurface.Triple}
+use Rattle.qh_laws.specs.contract.LocallyConvex.{is_met, IsMissed}
+use Rattle.qh_check.specs.steps.Rays.{IsInside}
+use Rattle.qh_check.proofs.convex.rays.Ray.meets_once.Given as goal
+
+abbrev pub invariant-loop-triangle : goal.invariant-loop-triangle
+invariant-loop-triangle l = (l.met ≡ count_by (is_met (place l.pts) l.self.from l.self.through) (take l.triangle-index l.triangles))
+    × ((t : Triple) → In t (take l.triangle-index l.triangles) → IsInside (place l.pts) l.self.from t)
+    × ((t : Triple) → In t (take l.triangle-index l.triangles) →
+    (is_met (place l.pts) l.self.from l.self.through t ≡ true) ⊎ IsMissed (place l.pts) l.self.from l.self.through t)

@@ -1,8 +1,0 @@
--- The corners of the triangles so far are marked.
-use Rattle.std.proofs.Common.{ℕ, take}
-use Rattle.qh_model.specs.laws.ClosedSurfaceLaws.{IsCornerOf}
-use Rattle.qh_convex.specs.steps.Corners.{IsMarked}
-use Rattle.qh_convex.proofs.corners.are_all_marked.Given as goal
-
-abbrev pub invariant-loop-t : goal.invariant-loop-t
-invariant-loop-t l = (k : ℕ) → IsCornerOf (take l.t-index l.triangles) k → IsMarked l.marks k

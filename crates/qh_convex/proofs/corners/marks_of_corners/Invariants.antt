@@ -1,9 +1,0 @@
--- What is marked is a corner of one of the triangles so far.
-use Rattle.std.proofs.Common.{ℕ, ◌≡◌, length, take}
-use Rattle.qh_model.specs.laws.ClosedSurfaceLaws.{IsCornerOf}
-use Rattle.qh_convex.specs.steps.Corners.{IsMarked}
-use Rattle.qh_convex.proofs.corners.marks_of_corners.Given as goal
-
-abbrev pub invariant-loop-t : goal.invariant-loop-t
-invariant-loop-t l =
-    (length l.marks.items ≡ length l.pts) × ((k : ℕ) → IsMarked l.marks.items k → IsCornerOf (take l.t-index l.triangles) k)

@@ -1,9 +1,0 @@
--- What is marked is one of the ids so far.
-use Rattle.std.proofs.Common.{ℕ, ◌≡◌, length, take}
-use Rattle.qh_model.specs.headline.Sets.{In}
-use Rattle.qh_convex.specs.steps.Corners.{IsMarked}
-use Rattle.qh_convex.proofs.corners.marks_of_ids.Given as goal
-
-abbrev pub invariant-loop-id : goal.invariant-loop-id
-invariant-loop-id l =
-    (length l.marks.items ≡ length l.pts) × ((k : ℕ) → IsMarked l.marks.items k → In k (take l.id-index l.ids))

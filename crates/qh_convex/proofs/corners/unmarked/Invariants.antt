@@ -1,7 +1,0 @@
--- The ids so far that are not marked.
-use Rattle.std.proofs.Common.{◌≡◌, filter, take}
-use Rattle.qh_convex.specs.steps.Corners.{is_unmarked}
-use Rattle.qh_convex.proofs.corners.unmarked.Given as goal
-
-abbrev pub invariant-loop-id : goal.invariant-loop-id
-invariant-loop-id l = l.left.items ≡ filter (is_unmarked l.marks) (take l.id-index l.ids)

@@ -1,2 +1,0 @@
--- What public clauses cite.
-pub mod SharpSurface

@@ -1,9 +1,0 @@
--- The ids and the shared ones are indices.
-use Rattle.std.proofs.Common.{◌<◌, length}
-use Rattle.std.proofs.lemmas.List.Elements.{All-append}
-use Rattle.qh_division.proofs.chunks.part_with.Goals as goal
-
-pub of-requires : goal.of-requires
-of-requires c =
-    rw (c.deref.ensures.value, c.in_ok-extend_from_slice.ensures.items, c.in_ok-listed.ensures.items)
-    (All-append (λ i. i < length c.args.pts.now) c.args.own.now c.args.shared.now c.requires.own c.requires.shared)

@@ -1,7 +1,0 @@
--- The test of lists tells.
-use Rattle.std.proofs.Common.{◌∙◌, sym}
-use Rattle.std.specs.Cmp.Lexicographic.{same_text}
-use Rattle.qh_division.proofs.kept.are_same.Goals as goal
-
-pub returns : goal.returns
-returns c = λ same. same_text _ _ (sym same ∙ c.eq.ensures)

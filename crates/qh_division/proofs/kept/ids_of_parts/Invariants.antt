@@ -1,8 +1,0 @@
--- The ids of the parts so far.
-use Rattle.std.proofs.Common.{◌≡◌, take}
-use Rattle.std.specs.List.{flat_map}
-use Rattle.qh_division.specs.contract.Parts.{ids_in}
-use Rattle.qh_division.proofs.kept.ids_of_parts.Given as goal
-
-abbrev pub invariant-loop-part : goal.invariant-loop-part
-invariant-loop-part l = l.ids.items ≡ flat_map ids_in (take l.part-index l.parts)

@@ -1,8 +1,0 @@
--- The corners of the facets so far.
-use Rattle.qh_model.specs.contract.StoredSurface.{surface_of}
-use Rattle.qh_surface.specs.contract.NamedMeshes.{named}
-use Rattle.qh_division.proofs.ListedCorners.{AreListed}
-use Rattle.qh_division.proofs.parts.corners_of.Given as goal
-
-abbrev pub invariant-loop-f : goal.invariant-loop-f
-invariant-loop-f l = AreListed (surface_of (named l.surface)) l.f-iterator l.corners.items

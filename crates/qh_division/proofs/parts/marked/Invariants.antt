@@ -1,8 +1,0 @@
--- The marked ids so far.
-use Rattle.std.proofs.Common.{◌≡◌, true}
-use Rattle.qh_surface.specs.contract.Walks.{mark_at}
-use Rattle.qh_division.proofs.LeftIds.{AreLeftOf}
-use Rattle.qh_division.proofs.parts.marked.Given as goal
-
-abbrev pub invariant-loop-id : goal.invariant-loop-id
-invariant-loop-id l = AreLeftOf (λ i. ¬ (mark_at l.marks i ≡ true)) l.ids l.found.items l.id-index

@@ -1,9 +1,0 @@
--- Each id is marked in its turn.
-use Rattle.std.proofs.Common.{◌≡◌, true, arith}
-use Rattle.qh_surface.specs.contract.Walks.{mark_at}
-use Rattle.qh_places.proofs.Listed.{each_listed}
-use Rattle.qh_division.proofs.parts.marks_of.Goals as goal
-
-pub returns : goal.returns
-returns c = λ l i.
-    each_listed (λ j. mark_at c.loop-id.marks.items j ≡ true) c.args.ids.now c.loop-id.id-index (omega arith) c.loop-id.invariant.1 l i

@@ -1,2 +1,0 @@
--- What private functions speak of: nothing to believe.
-pub mod InnerPoints

@@ -1,4 +1,0 @@
-pub mod JoinedLists
-pub mod LevelPlanes
-pub mod PartCorners
-pub mod BridgeLevels

@@ -1,8 +1,0 @@
--- The answers so far are yes.
-use Rattle.std.proofs.Common.{◌≡◌, true, take}
-use Rattle.std.specs.Prelude.{Ok}
-use Rattle.std.specs.List.{All}
-use Rattle.qh_join.proofs.bridges.are_all.Given as goal
-
-abbrev pub invariant-loop-answer : goal.invariant-loop-answer
-invariant-loop-answer l = All (λ a. a ≡ Ok true) (take l.answer-index l.answers)

@@ -1,8 +1,0 @@
--- The polygons so far are faces.
-use Rattle.std.proofs.Common.{take}
-use Rattle.std.specs.List.{All}
-use Rattle.qh_join.specs.steps.Bridges.{IsBridge}
-use Rattle.qh_join.proofs.bridges.is_group.Given as goal
-
-abbrev pub invariant-loop-claimed : goal.invariant-loop-claimed
-invariant-loop-claimed l = All (IsBridge l.kept.pts.now l.kept.corners.now l.kept.shared.now) (take l.claimed-index l.group)

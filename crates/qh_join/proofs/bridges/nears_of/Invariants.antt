@@ -1,7 +1,0 @@
--- The parts so far.
-use Rattle.std.proofs.Common.{◌≡◌, map, take}
-use Rattle.qh_join.specs.steps.Bridges.{places_in}
-use Rattle.qh_join.proofs.bridges.nears_of.Given as goal
-
-abbrev pub invariant-loop-places : goal.invariant-loop-places
-invariant-loop-places l = map places_in l.nears.items ≡ take l.places-index l.corners

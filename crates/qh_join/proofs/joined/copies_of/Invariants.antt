@@ -1,6 +1,0 @@
--- The polygons so far are copied.
-use Rattle.std.proofs.Common.{◌≡◌, take}
-use Rattle.qh_join.proofs.joined.copies_of.Given as goal
-
-abbrev pub invariant-loop-polygon : goal.invariant-loop-polygon
-invariant-loop-polygon l = l.copies.items ≡ take l.polygon-index l.polygons

@@ -1,7 +1,0 @@
--- The test of members tells.
-use Rattle.std.proofs.Common.{◌∙◌, sym}
-use Rattle.qh_places.proofs.ListMembers.{any_in}
-use Rattle.qh_join.proofs.three.has.Goals as goal
-
-pub returns : goal.returns
-returns c = λ found. any_in c.args.id c.args.ids.now (sym c.contains.ensures.value ∙ found)

@@ -1,3 +1,0 @@
--- What the contracts of public functions cite.
-pub mod Kept
-pub mod Joined

@@ -1,0 +1,24 @@
+//! The laws of surfaces in pieces: the polygons of a right hull are a surface, each surface measures as much as the hull, and
+//! covers each of its faces once ([`cover`]).
+//!
+//! They stand above `qh_check`, whose definition of a surface they speak of. No program rests on them.
+#![tactic(auto)]
+
+pub mod cover;
+
+ghost use Rattle.qh_laws_surface.specs.laws.SurfaceLaws.{BodyIsSurface, FansAreSurface};
+ghost use Rattle.qh_laws_surface.specs.laws.MeasureLaws.{AreasAddUp, VolumesAddUp};
+
+/// The polygons of a right body are a surface of its hull, in every dimension. In a solid so are their fans. So the
+/// check of surfaces accepts each right hull.
+pub fn hull_is_surface()
+    ensures faces { BodyIsSurface }
+    ensures fans { FansAreSurface }
+{}
+
+/// The areas of the pieces in the plane of a face add up to the area of the face, and the surface encloses the volume
+/// of the hull.
+pub fn surface_measures_hull()
+    ensures areas { AreasAddUp }
+    ensures volume { VolumesAddUp }
+{}

@@ -1,0 +1,14 @@
+-- A packed pair tells its halves, and its halves tell it.
+use Rattle.std.proofs.Common.{◌≡◌, ◌<◌, ◌∙◌, ℕ, arith, ap, sym}
+use Rattle.qh_model.specs.{contract.Halves.packed, contract.Halves.halves, declared.keys.packed.TheConstants.HALF_ROOM}
+
+-- pairs with one number are the same
+pub packed-same : (a b u v : ℕ) → b < HALF_ROOM → v < HALF_ROOM → packed a b ≡ packed u v → (a ≡ u) × (b ≡ v)
+packed-same a b u v h k e = (omega arith, omega arith)
+
+-- keys with the same halves are the same
+pub halves-same : (z k : ℕ) → halves z ≡ halves k → z ≡ k
+halves-same z k e = sym (whole z) ∙ ap (λ (q : ℕ × ℕ). packed q.0 q.1) e ∙ whole k
+  where
+    whole : (n : ℕ) → packed (halves n).0 (halves n).1 ≡ n
+    whole n = omega arith

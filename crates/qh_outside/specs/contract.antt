@@ -1,2 +1,0 @@
--- What the contracts of public functions cite.
-pub mod OutsideSets

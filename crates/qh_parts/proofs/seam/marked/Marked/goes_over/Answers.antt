@@ -1,0 +1,20 @@
+-- The neighbour is that over the side.
+use Rattle.std.proofs.Common.{◌≡◌, ◌∙◌, ap, sym, false, Bool, refl}
+use Rattle.std.proofs.lemmas.Bool.{not-true}
+use Rattle.std.specs.Prelude.{IsTrue, not}
+use Rattle.qh_model.specs.contract.StoredSurface.{surface_of}
+use Rattle.qh_mesh.specs.contract.Edges.{facet_of, nth_side}
+use Rattle.qh_mesh.proofs.Rewiring.{over-twin}
+use Rattle.qh_surface.specs.contract.Walks.{mark_at}
+use Rattle.qh_parts.proofs.seam.marked.Marked.goes_over.Goals as goal
+
+pub returns : goal.returns
+returns c = (λ g. ap (mark_at c.args.self.stay.now) (sym same) ∙ not-true _ g, λ e. turned _ (ap (mark_at c.args.self.stay.now) same ∙ e))
+  where
+    same : c.index.result ≡ (surface_of c.args.self.surface.now.mesh).over c.args.f (nth_side c.args.side)
+    same =
+        c.index.ensures ∙ c.facet_of-next.ensures ∙ ap facet_of c.across.ensures.twin
+        ∙ sym (over-twin c.args.self.surface.now.mesh c.args.f (nth_side c.args.side))
+
+    turned : (b : Bool) → b ≡ false → IsTrue (not b)
+    turned b e = rw e refl

@@ -1,0 +1,15 @@
+-- The key of the facet is listed, or the facet is not in the ring.
+use Rattle.std.proofs.Common.{◌∙◌, ◌++◌, inl, inr, ap, map, refl, [], ◌∷◌, true}
+use Rattle.std.proofs.lemmas.Bool.{both_ways}
+use Rattle.std.proofs.lemmas.List.{map-append}
+use Rattle.qh_parts.specs.steps.RingKeys.{facet_in}
+use Rattle.qh_parts.proofs.seam.marked.Marked.list_ring.Goals as goal
+
+pub returns-then-not-is_ring : goal.returns-then-not-is_ring
+returns-then-not-is_ring c = inr (λ r. both_ways _ c.if-not-is_ring.true (c.is_ring.ensures r), refl)
+
+pub returns : goal.returns
+returns c =
+    let keys = c.args.keys.now.items in let key = c.ring_key.result in
+    inl (ap (map facet_in) c.in_ok-push.ensures.items ∙ map-append facet_in keys (key ∷ [])
+    ∙ ap (λ f. map facet_in keys ++ f ∷ []) c.ring_key.ensures)

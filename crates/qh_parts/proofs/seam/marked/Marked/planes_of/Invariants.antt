@@ -1,0 +1,11 @@
+-- The facets so far have their planes.
+use Rattle.std.proofs.Common.{ℕ, ◌<◌, slice_index}
+use Rattle.qh_model.specs.headline.Predicates.{place}
+use Rattle.qh_model.specs.contract.StoredSurface.{surface_of}
+use Rattle.qh_surface.specs.contract.NamedMeshes.{named}
+use Rattle.qh_parts.specs.steps.Witnesses.{HasPlane}
+use Rattle.qh_parts.proofs.seam.marked.Marked.planes_of.Given as goal
+
+abbrev pub invariant-loop-f : goal.invariant-loop-f
+invariant-loop-f l = (n : ℕ) → n < l.f-index
+    → HasPlane (place l.self.pts.now) (surface_of (named l.self.surface.now)) l.planes.items (slice_index l.facets n)

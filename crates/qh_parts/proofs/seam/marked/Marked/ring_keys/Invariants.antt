@@ -1,0 +1,12 @@
+-- The keys of the facets of the ring so far.
+use Rattle.std.proofs.Common.{map}
+use Rattle.qh_model.specs.contract.StoredSurface.{surface_of}
+use Rattle.qh_surface.specs.contract.Walks.{mark_at}
+use Rattle.qh_laws.specs.contract.Seam.{IsRing}
+use Rattle.qh_parts.specs.steps.RingKeys.{facet_in}
+use Rattle.qh_parts.proofs.RingFacets.{AreRing}
+use Rattle.qh_parts.proofs.seam.marked.Marked.ring_keys.Given as goal
+
+abbrev pub invariant-loop-f : goal.invariant-loop-f
+invariant-loop-f l = AreRing (IsRing (surface_of l.self.surface.now.mesh) (mark_at l.self.stay.now))
+    (surface_of l.self.surface.now.mesh).live l.f-iterator (map facet_in l.keys.items)

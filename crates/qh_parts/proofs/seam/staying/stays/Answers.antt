@@ -1,0 +1,55 @@
+-- The part is asked for each other part in its turn.
+use Rattle.std.proofs.Common.{◌≡◌, ◌<◌, ◌⊎◌, inl, inr, length, get_or, sym, subst, arith}
+use Rattle.std.proofs.lemmas.Bool.{cases_lt}
+use Rattle.qh_model.specs.headline.{Predicates.place, Sets.In}
+use Rattle.qh_model.specs.contract.StoredSurface.{surface_of}
+use Rattle.qh_surface.specs.contract.{NamedMeshes.named, Walks.mark_at}
+use Rattle.qh_parts_join.specs.declared.parts.Part.{Part}
+use Rattle.qh_parts_join.specs.contract.Parts.{own_in}
+use Rattle.qh_parts.specs.steps.{Apart.IsApart, Witnesses.IsRingOver}
+use Rattle.qh_parts.proofs.Answers.{apart_of}
+use Rattle.qh_parts.proofs.StayingParts.{shared_indices, apart_at, staying_part}
+use Rattle.qh_parts.proofs.seam.staying.stays.Goals.{then-other-number+in_ok-apart+else-not-apart, else-other-number}
+use Rattle.qh_parts.proofs.seam.staying.stays.Goals as goal
+
+pub four_of-requires : goal.four_of-requires
+four_of-requires c = shared_indices (c.requires.parts c.args.number c.index-set-number.result c.requires.number)
+
+pub is_apart-requires : goal.is_apart-requires
+is_apart-requires c = record { live = rw c.deref.ensures.value c.in_ok-ring.ensures.live }
+
+pub loop-other-preserved : goal.loop-other-preserved
+loop-other-preserved c = λ j h d e. elim (cases_lt j c.loop-other.other) [
+  | inl l ↦ c.loop-other.invariant j l d e
+  | inr g ↦ (let same : c.loop-other.other ≡ j = omega (arith, g, h) in
+      subst (λ k. (k ≡ c.args.number) ⊎ IsApart c.args.set.pts.now (get_or c.args.set.parts.now c.args.number d)
+      (mark_at c.args.guess.stay.now) (own_in (get_or c.args.set.parts.now k e))) same (at_other d e))
+]
+  where
+    within : c.loop-other.other < length c.args.set.parts.now
+    within = c.loop-other-test.true
+
+    at_other : (d e : Part) → (c.loop-other.other ≡ c.args.number) ⊎ IsApart c.args.set.pts.now
+        (get_or c.args.set.parts.now c.args.number d) (mark_at c.args.guess.stay.now)
+        (own_in (get_or c.args.set.parts.now c.loop-other.other e))
+    at_other d e =
+        let pts = c.args.set.pts.now in let shared = c.args.set.shared.now in let parts = c.args.set.parts.now in
+        let stay = mark_at c.args.guess.stay.now in let own = c.index-set-number.result in
+        elim c.if-other-number.branch [
+          | then-other-number+in_ok-apart+else-not-apart w ↦ (
+              let other = w.index-set-other.result in let ids = own_in (get_or parts c.loop-other.other other) in
+              let held = (c.requires.parts c.loop-other.other other within).places in
+              let ring : IsRingOver (place pts) (surface_of (named (get_or parts c.args.number own).surface)) stay ids =
+              λ f r. w.in_ok-apart.ensures.ring w.if-not-apart.false ids held f
+              (subst (In f) (sym w.deref.ensures.value) (c.in_ok-ring.ensures.all f r)) in
+              inr (apart_at pts parts stay c.args.number c.loop-other.other own other d e c.requires.number within
+              (apart_of pts shared c.in-Some.four c.in-Some.ensures (get_or parts c.args.number own)
+              (c.requires.parts c.args.number own c.requires.number) stay ids
+              (w.in_ok-apart.ensures.answers w.if-not-apart.false ids held) ring)))
+          | else-other-number w ↦ inl (let same = w.if-other-number.false in omega (arith, same))
+        ]
+
+pub returns-clause-part : goal.returns-clause-part
+returns-clause-part c = λ _ d.
+    staying_part c.args.set.pts.now c.args.set.shared.now c.args.set.parts.now c.args.number d (mark_at c.args.guess.stay.now)
+    c.requires.parts c.requires.number (λ j e h. c.loop-other.invariant j (omega (arith, h)) d e)

@@ -1,0 +1,12 @@
+-- The other parts so far were asked.
+use Rattle.std.proofs.Common.{◌≡◌, ℕ, ◌<◌, ◌⊎◌, get_or}
+use Rattle.qh_surface.specs.contract.Walks.{mark_at}
+use Rattle.qh_parts_join.specs.declared.parts.Part.{Part}
+use Rattle.qh_parts_join.specs.contract.Parts.{own_in}
+use Rattle.qh_parts.specs.steps.Apart.{IsApart}
+use Rattle.qh_parts.proofs.seam.staying.stays.Given as goal
+
+abbrev pub invariant-loop-other : goal.invariant-loop-other
+invariant-loop-other l = (j : ℕ) → j < l.other → (d e : Part)
+    → (j ≡ l.fn.number) ⊎ IsApart l.set.pts.now (get_or l.set.parts.now l.fn.number d) (mark_at l.guess.stay.now)
+    (own_in (get_or l.set.parts.now j e))

@@ -1,0 +1,135 @@
+//! The numbers of cells along a curve: that of Hilbert through the larger cells, and within each of these that of
+//! Morton.
+//!
+//! Source: Skilling 2004 (Hilbert's order from places, by exchanges and turns of their bits).
+use qh_model::Point;
+use qh_model::keys::morton_number;
+use qh_surface::starts::Axes;
+use std::alloc::{AllocError, Global};
+
+/// The bits of a place along an axis. Three of them fit a cell's number.
+const PLACE_BITS: u32 = 10;
+
+/// The bits of a larger cell's place along an axis.
+const LARGE_BITS: u32 = 5;
+
+/// How many larger cells there are: 2^15.
+const LARGE_CELLS: u32 = 32768;
+
+/// The bits of a cell's number that tell it from others of its larger cell: three times 5.
+const INNER_BITS: u32 = 15;
+
+/// The greatest place of a larger cell along an axis.
+const LARGE_PLACES: u32 = 31;
+
+/// A cell: its places along the three axes of a set.
+#[derive(Clone, Copy, Drop)]
+pub struct Cell {
+    x: u32,
+    y: u32,
+    z: u32,
+}
+
+/// For each larger cell, by its number in Morton's order, its number in Hilbert's.
+#[derive(Drop)]
+pub(crate) struct Cells {
+    turned: Vec<u32>,
+}
+
+impl Cell {
+    /// Returns the cell of a point.
+    pub fn of(axes: &Axes, point: Point) -> Cell {
+        let [x, y, z] = axes.places(point, PLACE_BITS);
+        Cell { x, y, z }
+    }
+
+    /// Returns the number in Morton's order.
+    pub fn interleaved(self) -> u32 {
+        morton_number(self.x, self.y, self.z)
+    }
+
+    /// Returns the cell after the turns that a bit of its places asks for. `below` has the bits
+    /// below it.
+    fn turned_below(self, bit: u32, below: u32) -> Cell {
+        let mut cell = self;
+        if cell.x & bit != 0 {
+            cell.x ^= below;
+        }
+        if cell.y & bit != 0 {
+            cell.x ^= below;
+        } else {
+            let change = (cell.x ^ cell.y) & below;
+            cell.x ^= change;
+            cell.y ^= change;
+        }
+        if cell.z & bit != 0 {
+            cell.x ^= below;
+        } else {
+            let change = (cell.x ^ cell.z) & below;
+            cell.x ^= change;
+            cell.z ^= change;
+        }
+        cell
+    }
+
+    /// Returns the cell whose number in Morton's order is that of this larger cell in Hilbert's.
+    fn turned(self) -> Cell {
+        let mut cell = self;
+        for level in 1..LARGE_BITS {
+            let bit = 1u32.wrapping_shl(LARGE_BITS - level);
+            cell = cell.turned_below(bit, bit.wrapping_sub(1));
+        }
+        cell.y ^= cell.x;
+        cell.z ^= cell.y;
+        let change = parities(cell.z);
+        Cell {
+            x: cell.x ^ change,
+            y: cell.y ^ change,
+            z: cell.z ^ change,
+        }
+    }
+}
+
+/// Returns for each bit of a larger place whether the number of bits set above it is odd.
+fn parities(place: u32) -> u32 {
+    let mut change = 0;
+    for level in 1..LARGE_BITS {
+        let bit = 1u32.wrapping_shl(level);
+        if place & bit != 0 {
+            change ^= bit.wrapping_sub(1);
+        }
+    }
+    change
+}
+
+impl Cells {
+    /// Returns the larger cells in Hilbert's order.
+    ///
+    /// # Errors
+    ///
+    /// `AllocError` where an allocation failed.
+    pub fn in_order(alloc: Global) -> Result<Cells, AllocError> {
+        let mut turned = vec![in alloc; 0; LARGE_CELLS as usize]?;
+        for number in 0..LARGE_CELLS {
+            let large = Cell {
+                x: number & LARGE_PLACES,
+                y: number >> LARGE_BITS & LARGE_PLACES,
+                z: number >> (2 * LARGE_BITS) & LARGE_PLACES,
+            };
+            if let Some(cell) = turned.get_mut(large.interleaved() as usize) {
+                *cell = large.turned().interleaved();
+            }
+        }
+        Ok(Cells { turned })
+    }
+
+    /// Returns the number of a cell along the curve.
+    pub fn number(&self, cell: Cell) -> u32 {
+        let number = cell.interleaved();
+        let large = match self.turned.get((number >> INNER_BITS) as usize) {
+            Some(turned) => *turned,
+            None => 0,
+        };
+        large << INNER_BITS | number & (LARGE_CELLS - 1)
+    }
+}

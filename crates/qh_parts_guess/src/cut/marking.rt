@@ -1,0 +1,239 @@
+//! Marks of the facets of a part that stay, with witnesses.
+use crate::cut::cover::Cover;
+use crate::cut::cutting::{Cutting, Others};
+use crate::cut::facets::Facets;
+use crate::cut::rays::Rays;
+use crate::outlines::{FACING_TOGETHER, Outline, piece};
+use crate::vector::Vector;
+use qh_mesh::FacetNo;
+use qh_model::{Id, Memory, Point};
+use qh_parts_join::{Divided, Part, Run};
+use qh_places::Budget;
+use std::alloc::{AllocError, Global};
+
+/// The number of facets that all walks for the directions of an outline pass for each facet of a part. Directions that are
+/// wrong from there on make questions longer, and these have a budget of their own.
+const STEPS_FOR_EACH: u32 = 4;
+
+/// A guess of what stays of a part.
+#[derive(Drop)]
+pub struct Marks {
+    /// For each place of the mesh whether the facet there stays.
+    pub stay: Vec<bool>,
+    /// For each part witnesses for its own corners, in their order; none for the part itself.
+    pub runs: Vec<Vec<Run>>,
+    /// The ids of the corners of the facets that go. An id may stand several times.
+    pub seam: Vec<Id>,
+}
+
+impl Marks {
+    /// Returns marks that say nothing.
+    fn none(alloc: Global) -> Marks {
+        Marks {
+            stay: Vec::new(alloc),
+            runs: Vec::new(alloc),
+            seam: Vec::new(alloc),
+        }
+    }
+
+    /// Returns the marks of facets that were tested, with the witnesses that were found.
+    fn made(
+        alloc: Global,
+        facets: Facets,
+        cutting: &Cutting,
+        runs: Vec<Vec<Run>>,
+    ) -> Result<Marks, AllocError> {
+        let stay = cutting.marks(alloc)?;
+        let seam = corners_of(alloc, facets, cutting.gone())?;
+        Ok(Marks { stay, runs, seam })
+    }
+}
+
+/// Returns the points of ids. An id of no point is passed over.
+fn points_of(alloc: Global, pts: &[Point], ids: &[Id]) -> Result<Vec<Point>, AllocError> {
+    let mut points = Vec::with_capacity(alloc, ids.len())?;
+    for id in ids {
+        if let Some(point) = pts.get(id.index()) {
+            points.push(*point)?;
+        }
+    }
+    Ok(points)
+}
+
+/// Returns the point of an id, if it has one.
+fn point_of(pts: &[Point], id: Id) -> Option<Point> {
+    pts.get(id.index()).copied()
+}
+
+/// Returns the points of the first four shared ids. Their middle is inside of every part.
+fn four_of(set: Divided) -> Option<[Point; 4]> {
+    let [i, j, k, l, ..] = set.shared else {
+        return None;
+    };
+    let (a, b) = (point_of(set.pts, *i)?, point_of(set.pts, *j)?);
+    let (c, d) = (point_of(set.pts, *k)?, point_of(set.pts, *l)?);
+    Some([a, b, c, d])
+}
+
+/// Returns for each `FACING_TOGETHER` points the direction in which the surface faces at the one in their middle.
+fn ways_out(
+    alloc: Global,
+    facets: Facets,
+    four: [Point; 4],
+    points: &[Point],
+) -> Result<Vec<Vector>, AllocError> {
+    let mut ways = Vec::new(alloc);
+    let mut budget = Budget::for_each(facets.places(), STEPS_FOR_EACH);
+    let Some(mut rays) = Rays::from_middle(facets, four) else {
+        return Ok(ways);
+    };
+    for number in 0..points.len() {
+        let own = piece(points, FACING_TOGETHER, number);
+        let Some(point) = own.get(own.len() / 2) else {
+            break;
+        };
+        let way = match facets.sight(rays.leaves(*point, &mut budget)) {
+            Some(sight) => sight.way(),
+            None => Vector::NONE,
+        };
+        ways.push(way)?;
+    }
+    Ok(ways)
+}
+
+/// Returns the outline of the part of a number: what the marks of the other parts ask of it.
+///
+/// # Errors
+///
+/// `Memory` where an allocation failed.
+pub fn outline_of(alloc: Global, set: Divided, number: usize) -> Result<Outline, Memory> {
+    let Some(part) = set.parts.get(number) else {
+        return Ok(Outline::over(alloc, Vec::new(alloc), &[])?);
+    };
+    let points = points_of(alloc, set.pts, &part.own)?;
+    let ways = match four_of(set) {
+        Some(four) => ways_out(alloc, Facets::of(&part.surface), four, &points)?,
+        None => Vec::new(alloc),
+    };
+    Ok(Outline::over(alloc, points, &ways)?)
+}
+
+/// Returns for each of some ids whether it is shared.
+fn marks_of_shared(alloc: Global, ids: &[Id], shared: &[Id]) -> Result<Vec<bool>, AllocError> {
+    let mut marks = Vec::with_capacity(alloc, ids.len())?;
+    for id in ids {
+        marks.push(shared.contains(id))?;
+    }
+    Ok(marks)
+}
+
+/// Returns true if a position is marked.
+fn is_marked_at(marks: &[bool], position: Id) -> bool {
+    match marks.get(position.index()) {
+        Some(mark) => *mark,
+        None => false,
+    }
+}
+
+/// Returns true if all corners of a facet are marked.
+fn is_marked(facets: Facets, marks: &[bool], f: FacetNo) -> bool {
+    let Some(positions) = facets.positions(f) else {
+        return false;
+    };
+    let [a, b, c] = positions;
+    is_marked_at(marks, a) && is_marked_at(marks, b) && is_marked_at(marks, c)
+}
+
+/// Lets the facets go all of whose corners are shared: each part may have them.
+fn drop_shared(
+    alloc: Global,
+    part: &Part,
+    shared: &[Id],
+    cutting: &mut Cutting,
+) -> Result<(), AllocError> {
+    let facets = Facets::of(&part.surface);
+    let marks = marks_of_shared(alloc, &part.surface.ids, shared)?;
+    for place in 0..facets.places() {
+        let f = FacetNo::new(place);
+        if is_marked(facets, &marks, f) {
+            cutting.drop_facet(f)?;
+        }
+    }
+    Ok(())
+}
+
+/// Witnesses for the corners of each other part.
+fn all_witnesses(
+    alloc: Global,
+    facets: Facets,
+    four: [Point; 4],
+    others: Others,
+    cutting: &mut Cutting,
+) -> Result<Vec<Vec<Run>>, AllocError> {
+    let mut runs = Vec::new(alloc);
+    let Some(mut cover) = Cover::start(alloc, facets, four) else {
+        return Ok(runs);
+    };
+    for other in 0..others.outlines.len() {
+        let own = if other == others.number {
+            Vec::new(alloc)
+        } else {
+            cover.witnesses(cutting, &others.outlines[other])?
+        };
+        runs.push(own)?;
+    }
+    Ok(runs)
+}
+
+/// Returns the ids of the corners of facets.
+fn corners_of(alloc: Global, facets: Facets, listed: &[FacetNo]) -> Result<Vec<Id>, AllocError> {
+    let mut ids = Vec::new(alloc);
+    for f in listed {
+        if let Some(corners) = facets.ids(*f) {
+            ids.extend_from_slice(&corners)?;
+        }
+    }
+    Ok(ids)
+}
+
+/// Guesses what stays of a part where the corners of the others come in, and gives up where the budget does not last. The
+/// middle of the four points is inside of the part.
+fn marks_against<'a>(
+    alloc: Global,
+    part: &'a Part,
+    shared: &[Id],
+    four: [Point; 4],
+    others: Others<'a>,
+) -> Result<Marks, AllocError> {
+    let facets = Facets::of(&part.surface);
+    let mut cutting = Cutting::start(alloc, facets, others)?;
+    drop_shared(alloc, part, shared, &mut cutting)?;
+    let runs = all_witnesses(alloc, facets, four, others, &mut cutting)?;
+    cutting.ask_waiting()?;
+    if cutting.budget.is_spent() {
+        return Ok(Marks::none(alloc));
+    }
+    Marks::made(alloc, facets, &cutting, runs)
+}
+
+/// Guesses what stays of the part of a number where the corners of the other parts come in. `outlines` has
+/// the outline of each part. Where too much would have to be looked at, the marks say nothing.
+///
+/// # Errors
+///
+/// `Memory` where an allocation failed.
+pub fn marks_of<'a>(
+    alloc: Global,
+    set: Divided<'a>,
+    outlines: &'a [Outline],
+    number: usize,
+) -> Result<Marks, Memory> {
+    let Some(part) = set.parts.get(number) else {
+        return Ok(Marks::none(alloc));
+    };
+    let Some(four) = four_of(set) else {
+        return Ok(Marks::none(alloc));
+    };
+    let others = Others { outlines, number };
+    Ok(marks_against(alloc, part, set.shared, four, others)?)
+}

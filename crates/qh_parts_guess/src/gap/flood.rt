@@ -1,0 +1,184 @@
+//! Polygons of a hull that open edges lead to.
+ghost use Rattle.std.specs.Prelude.{IfOk};
+ghost use Rattle.qh_model.specs.contract.IdSets.{AreIndices};
+
+use crate::gap::edges::{Border, list_edges, open_edges};
+use qh_block::hull;
+use qh_model::keys::Packed;
+use qh_model::{Id, Memory, Point, Polygon};
+use qh_polygon::rising_ids;
+use std::alloc::{AllocError, Global};
+
+/// The room of a position in a side's key: 2^64.
+const POSITION_ROOM: u128 = 18446744073709551616;
+
+/// The edges of polygons, sorted, each with the position of its polygon.
+#[derive(Drop)]
+struct Sides {
+    keys: Vec<u128>,
+}
+
+/// Returns an edge and the position of a polygon in one.
+fn side_key(edge: Packed, position: u64) -> u128 {
+    u128::from(edge.high()) << 96 | u128::from(edge.low()) << 64 | u128::from(position)
+}
+
+impl Sides {
+    /// Returns the edges of polygons.
+    fn of(alloc: Global, polygons: &[Polygon]) -> Result<Sides, AllocError> {
+        let mut keys = Vec::new(alloc);
+        let mut edges = Vec::new(alloc);
+        for position in 0..polygons.len() {
+            edges.clear();
+            list_edges(&polygons[position], &mut edges)?;
+            for edge in &edges {
+                keys.push(side_key(*edge, position as u64))?;
+            }
+        }
+        keys.sort_unstable();
+        Ok(Sides { keys })
+    }
+
+    /// Returns the position of a polygon that has an edge.
+    fn polygon_of(&self, edge: Packed) -> Option<usize> {
+        let least = side_key(edge, 0);
+        let place = self.keys.partition_point(|key| *key < least);
+        let key = *self.keys.get(place)?;
+        if key >> 64 == least >> 64 {
+            Some((key % POSITION_ROOM) as usize)
+        } else {
+            None
+        }
+    }
+}
+
+/// A hull that open edges are led to, with marks of its polygons that are taken, and their positions in the order
+/// in which they were.
+#[derive(Drop)]
+struct Flood<'a> {
+    polygons: &'a [Polygon],
+    sides: Sides,
+    open: &'a [Packed],
+    taken: Vec<bool>,
+    order: Vec<usize>,
+    /// Edges that a polygon has to take.
+    wanted: Vec<Packed>,
+}
+
+impl Flood<'_> {
+    /// Takes the polygon at a position, if it is not taken yet: the edges against its own are wanted, unless its own
+    /// are open.
+    fn take(&mut self, position: usize, edges: &mut Vec<Packed>) -> Result<(), AllocError> {
+        let Some(taken) = self.taken.get_mut(position) else {
+            return Ok(());
+        };
+        if *taken {
+            return Ok(());
+        }
+        *taken = true;
+        self.order.push(position)?;
+        let Some(polygon) = self.polygons.get(position) else {
+            return Ok(());
+        };
+        edges.clear();
+        list_edges(polygon, edges)?;
+        for edge in &*edges {
+            if self.open.binary_search(edge).is_err() {
+                self.wanted.push(edge.swapped())?;
+            }
+        }
+        Ok(())
+    }
+
+    /// Takes polygons until none is wanted. False where no polygon has an edge that is wanted.
+    fn run(&mut self, alloc: Global) -> Result<bool, AllocError> {
+        let mut edges = Vec::new(alloc);
+        let most = self.open.len().saturating_add(self.sides.keys.len());
+        for _ in 0..most {
+            let Some(edge) = self.wanted.pop() else {
+                return Ok(true);
+            };
+            let Some(position) = self.sides.polygon_of(edge) else {
+                return Ok(false);
+            };
+            self.take(position, &mut edges)?;
+        }
+        Ok(self.wanted.is_empty())
+    }
+}
+
+/// Returns the positions of the polygons that the open edges lead to, mostly neighbours one after the other; none
+/// where they lead to an edge that no polygon has.
+fn reached(
+    alloc: Global,
+    polygons: &[Polygon],
+    open: &[Packed],
+) -> Result<Option<Vec<usize>>, AllocError> {
+    let mut flood = Flood {
+        polygons,
+        sides: Sides::of(alloc, polygons)?,
+        open,
+        taken: vec![in alloc; false; polygons.len()]?,
+        order: Vec::new(alloc),
+        wanted: Vec::from_slice(alloc, open)?,
+    };
+    let is_closed = flood.run(alloc)?;
+    Ok(if is_closed { Some(flood.order) } else { None })
+}
+
+/// Returns the ids of a list that are indices of points.
+pub(crate) fn indices_among(alloc: Global, pts: &[Point], ids: &[Id]) -> Result<Vec<Id>, AllocError>
+    ensures { IfOk result (λ v. AreIndices pts.now v.items) }
+{
+    let mut indices = Vec::with_capacity(alloc, ids.len())?;
+    for id in ids {
+        if id.index() < pts.len() {
+            indices.push(*id)?;
+        }
+    }
+    Ok(indices)
+}
+
+/// Copies of the polygons at positions, in the order of these.
+fn polygons_at(
+    alloc: Global,
+    polygons: &[Polygon],
+    order: &[usize],
+) -> Result<Vec<Polygon>, AllocError> {
+    let mut copies = Vec::with_capacity(alloc, order.len())?;
+    for position in order {
+        if let Some(polygon) = polygons.get(*position) {
+            copies.push(Polygon::of(Vec::from_slice(alloc, polygon.ids())?))?;
+        }
+    }
+    Ok(copies)
+}
+
+/// Returns the polygons that close the gap between borders, by the hull of the ids of the seam: all corners beside
+/// the gap. They begin at their least ids, and mostly neighbours follow each other. Returns `None` if the open edges lead to
+/// an edge that no polygon of that hull has. Where no border has a polygon, all polygons of that hull are taken.
+///
+/// # Errors
+///
+/// `Memory` where an allocation failed.
+pub fn bridge_over(
+    alloc: Global,
+    pts: &[Point],
+    borders: &[Border],
+    seam: &[Id],
+) -> Result<Option<Vec<Polygon>>, Memory> {
+    let rising = rising_ids(alloc, seam)?;
+    let ids = indices_among(alloc, pts, &rising)?;
+    if ids.is_empty() {
+        return Ok(Some(Vec::new(alloc)));
+    }
+    let polygons = hull(alloc, pts, &ids)?.polygons;
+    if borders.iter().all(|border| border.is_empty()) {
+        return Ok(Some(polygons));
+    }
+    let open = open_edges(alloc, borders)?;
+    let Some(order) = reached(alloc, &polygons, &open)? else {
+        return Ok(None);
+    };
+    Ok(Some(polygons_at(alloc, &polygons, &order)?))
+}

@@ -1,0 +1,202 @@
+//! The rule that decides whether it pays to make parts of a set at all, by a sample of it.
+//!
+//! The sample is cut into parts along a curve, as the set would be, and has one hull. The ends of the set are in each
+//! part. A corner is at a seam if a face there has corners in several parts. Large faces, and long ones, put most corners
+//! at seams. A thin set aslant has planes that come near most points (`nearness`).
+ghost use Rattle.qh_model.specs.contract.IdSets.{AreIndices};
+
+use crate::curve::Cell;
+use crate::gap::flood::indices_among;
+use crate::gap::nearness::{come_near_few, ways_out};
+use qh_block::hull;
+use qh_model::keys::Packed;
+use qh_model::{Id, Memory, Point, Polygon};
+use qh_places::Outward;
+use qh_polygon::rising_ids;
+use qh_surface::starts::{Axes, ends_of};
+use std::alloc::{AllocError, Global};
+
+/// The most ids of a sample.
+const SAMPLE: usize = 1_024;
+
+/// Ids of a set, rising, each with the number of its part. Those of each part have none.
+#[derive(Drop)]
+struct Sample {
+    ids: Vec<Id>,
+    parts: Vec<Option<usize>>,
+}
+
+/// Returns a number below a limit, so that those of consecutive numbers have no rhythm. A limit of zero has 0.
+///
+/// Source: Knuth 1998, 6.4 (multiplication by the golden section).
+fn scattered(number: usize, limit: usize) -> usize {
+    let product = (number as u64).wrapping_mul(0x9e37_79b9_7f4a_7c15);
+    let high = (product >> 32) as usize;
+    high.checked_rem(limit).unwrap_or(0)
+}
+
+/// Returns the ends of a set, and ids spread over all of it.
+fn spread_with(alloc: Global, ids: &[Id], ends: &[Id; 6]) -> Result<Vec<Id>, AllocError> {
+    let step = ids.len() / SAMPLE + 1;
+    let mut spread = Vec::from_slice(alloc, ends)?;
+    for number in 0..ids.len() / step {
+        let place = step
+            .saturating_mul(number)
+            .saturating_add(scattered(number, step));
+        if let Some(id) = ids.get(place) {
+            spread.push(*id)?;
+        }
+    }
+    Ok(spread)
+}
+
+/// Returns sorted keys of the ids that are no ends: the cell of the point, then the place of the id in the list.
+fn keys_by_cell(
+    alloc: Global,
+    pts: &[Point],
+    ids: &[Id],
+    ends: &[Id; 6],
+) -> Result<Vec<Packed>, AllocError>
+    requires { AreIndices pts.now ends.now }
+{
+    let axes = Axes::of(pts, ends);
+    let mut keys = Vec::with_capacity(alloc, ids.len())?;
+    for (place, id) in (0..u32::MAX).zip(ids) {
+        if ends.contains(id) {
+            continue;
+        }
+        if let Some(point) = pts.get(id.index()) {
+            keys.push(Packed::new(Cell::of(&axes, *point).interleaved(), place))?;
+        }
+    }
+    keys.sort_unstable();
+    Ok(keys)
+}
+
+/// Returns the ids of a sample along a curve, by sorted keys of their places.
+fn along_keys(alloc: Global, ids: &[Id], keys: &[Packed]) -> Result<Vec<Id>, AllocError> {
+    let mut listed = Vec::with_capacity(alloc, keys.len())?;
+    for key in keys {
+        if let Some(id) = ids.get(key.low() as usize) {
+            listed.push(*id)?;
+        }
+    }
+    Ok(listed)
+}
+
+/// Returns true if the planes of the faces of a sample come near few of its points. `keys` has its ids along a curve.
+fn are_planes_apart(
+    alloc: Global,
+    pts: &[Point],
+    sampled: &[Id],
+    keys: &[Packed],
+    polygons: &[Polygon],
+) -> Result<bool, Memory> {
+    let ways = ways_out(alloc, pts, sampled, polygons)?;
+    let mut outward = Vec::with_capacity(alloc, keys.len())?;
+    for key in keys {
+        let way = ways.get(key.low() as usize);
+        outward.push(*way.unwrap_or(&Outward::NONE))?;
+    }
+    let listed = along_keys(alloc, sampled, keys)?;
+    let ids = indices_among(alloc, pts, &listed)?;
+    come_near_few(alloc, pts, &ids, &outward, polygons)
+}
+
+/// Returns for each of `places` places the number of its part, where sorted keys are cut into `count` parts.
+fn parts_of_places(
+    alloc: Global,
+    keys: &[Packed],
+    places: usize,
+    count: usize,
+) -> Result<Vec<Option<usize>>, AllocError> {
+    let mut parts = vec![in alloc; None; places]?;
+    for position in 0..keys.len() {
+        if let Some(part) = parts.get_mut(keys[position].low() as usize) {
+            *part = Some(position.saturating_mul(count) / keys.len());
+        }
+    }
+    Ok(parts)
+}
+
+impl Sample {
+    /// Returns the place of an id.
+    fn place(&self, id: Id) -> usize {
+        self.ids
+            .partition_point(|other| other.number() < id.number())
+    }
+
+    /// Returns the number of an id's part, if it is in one alone.
+    fn part(&self, id: Id) -> Option<usize> {
+        *self.parts.get(self.place(id))?
+    }
+
+    /// Returns true if a polygon has corners in several parts.
+    fn is_split(&self, polygon: &Polygon) -> bool {
+        let mut found = None;
+        for id in polygon.ids() {
+            let part = self.part(*id);
+            if part.is_some() && found.is_some() && part != found {
+                return true;
+            }
+            found = part.or(found);
+        }
+        false
+    }
+
+    /// Marks the corners of a polygon.
+    fn mark(&self, polygon: &Polygon, marks: &mut [bool]) {
+        for id in polygon.ids() {
+            if let Some(mark) = marks.get_mut(self.place(*id)) {
+                *mark = true;
+            }
+        }
+    }
+
+    /// Returns the number of corners of polygons that are at a seam.
+    fn corners_at_seams(&self, alloc: Global, polygons: &[Polygon]) -> Result<usize, AllocError> {
+        let mut marks = vec![in alloc; false; self.ids.len()]?;
+        for polygon in polygons {
+            if self.is_split(polygon) {
+                self.mark(polygon, &mut marks);
+            }
+        }
+        Ok(marks.iter().filter(|mark| **mark).count())
+    }
+}
+
+/// Returns true if it seems to pay to take a set by `count` parts: of the corners of a sample at most five in
+/// eight are at seams, and the planes of its faces come near few of its points.
+///
+/// # Errors
+///
+/// `Memory` where an allocation failed.
+pub fn is_worth_parting(
+    alloc: Global,
+    pts: &[Point],
+    ids: &[Id],
+    count: usize,
+) -> Result<bool, Memory>
+    requires { AreIndices pts.now ids.now }
+{
+    if ids.is_empty() {
+        return Ok(true);
+    }
+    let ends = ends_of(pts, ids);
+    let rising = rising_ids(alloc, &spread_with(alloc, ids, &ends)?)?;
+    let sampled = indices_among(alloc, pts, &rising)?;
+    if sampled.is_empty() {
+        return Ok(true);
+    }
+    let body = hull(alloc, pts, &sampled)?;
+    let keys = keys_by_cell(alloc, pts, &sampled, &ends)?;
+    if !are_planes_apart(alloc, pts, &sampled, &keys, &body.polygons)? {
+        return Ok(false);
+    }
+    let sample = Sample {
+        parts: parts_of_places(alloc, &keys, sampled.len(), count)?,
+        ids: sampled,
+    };
+    let at_seams = sample.corners_at_seams(alloc, &body.polygons)?;
+    Ok(at_seams.saturating_mul(8) <= body.extremes.len().saturating_mul(5))
+}

@@ -1,0 +1,83 @@
+//! The rule that decides whether joining the hulls of parts at their seams pays.
+use crate::cut::{Facets, Others};
+use crate::outlines::Outline;
+use crate::sights::Sight;
+use qh_parts_join::{Divided, Part};
+use qh_places::Budget;
+
+/// The greatest number of corners of all parts whose hull is made so quickly that joining at seams does not pay.
+const FEW_CORNERS: usize = 40_000;
+
+/// The least number of facets of which one goes, on the mean, where joining pays. Those that go have one more hull, by one
+/// thread.
+const GONE_SHARE: usize = 4;
+
+/// The number of facets of each part that are tested, spread over all.
+const ASKED: usize = 64;
+
+/// The greatest number of blocks and points that the test of a facet looks at, on the mean, for joining to pay. A round set
+/// looks at 50, an ellipsoid of the axes 9, 6 and 2 at 210, and a thin plate aslant at most of its corners.
+const LOOKED_FOR_EACH: u32 = 384;
+
+/// The number of facets that were tested, and of those among them that are removed.
+#[derive(Clone, Copy, Drop)]
+struct Tally {
+    asked: usize,
+    gone: usize,
+}
+
+/// Returns the plane of the first facet from a place on.
+fn first_sight(facets: Facets, place: usize) -> Option<Sight> {
+    facets.sight(facets.first_from(place)?)
+}
+
+impl Tally {
+    /// Returns the tally after a test of some facets of a part, while the budget lasts.
+    fn with(self, part: &Part, others: Others, budget: &mut Budget) -> Tally {
+        let facets = Facets::of(&part.surface);
+        let step = facets.places() / ASKED + 1;
+        let mut tally = self;
+        for number in 0..ASKED {
+            let place = step.wrapping_mul(number);
+            let Some(sight) = first_sight(facets, place) else {
+                break;
+            };
+            tally.asked = tally.asked.saturating_add(1);
+            if !others.are_below(&sight, budget) {
+                tally.gone = tally.gone.saturating_add(1);
+            }
+        }
+        tally
+    }
+}
+
+/// Returns the number of corners of all parts.
+fn corner_count(set: Divided) -> usize {
+    let mut count = set.shared.len();
+    for part in set.parts {
+        count = count.saturating_add(part.own.len());
+    }
+    count
+}
+
+/// Returns true if it seems to pay to join the hulls of parts where they have more than `few` corners. It
+/// does not where many facets go, or where a test of one takes long.
+pub(crate) fn is_worth_above(few: usize, set: Divided, outlines: &[Outline]) -> bool {
+    if corner_count(set) <= few {
+        return false;
+    }
+    let mut tally = Tally { asked: 0, gone: 0 };
+    let mut budget = Budget::for_each(set.parts.len().saturating_mul(ASKED), LOOKED_FOR_EACH);
+    for number in 0..set.parts.len() {
+        let others = Others { outlines, number };
+        tally = tally.with(&set.parts[number], others, &mut budget);
+    }
+    !budget.is_spent() && tally.gone <= tally.asked / GONE_SHARE
+}
+
+/// Returns true if it seems to pay to join the hulls of the parts of a set at their seams: they have many
+/// corners, most of their facets are likely to stay, and few blocks tell this of a facet. `outlines` has the outline of
+/// each part.
+pub fn is_worth(set: Divided, outlines: &[Outline]) -> bool {
+    is_worth_above(FEW_CORNERS, set, outlines)
+}

@@ -1,0 +1,10 @@
+pub mod Asked
+pub mod BridgeLevels
+pub mod JoinedLists
+pub mod LeftIds
+pub mod LevelPlanes
+pub mod ListedCorners
+pub mod OnceListed
+pub mod OwnCorners
+pub mod PartCorners
+pub mod Runs

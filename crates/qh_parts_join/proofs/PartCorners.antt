@@ -1,0 +1,41 @@
+-- The corners of parts have all extreme ids.
+use Rattle.std.proofs.Common.{ℕ, ◌⊎◌, inl, inr, List, All}
+use Rattle.std.specs.Prelude.{◌↔◌}
+use Rattle.std.specs.List.{flat_map}
+use Rattle.qh_model.specs.headline.{Vector.Vector, Predicates.place, Sets.In, Sets.Members, Extreme.Extreme}
+use Rattle.qh_model.specs.contract.StoredSurface.{surface_of}
+use Rattle.qh_model.proofs.{Members.All-In, lists.Joined.in_flat_map, lists.Joined.of_flat_map}
+use Rattle.qh_surface.specs.contract.NamedMeshes.{named}
+use Rattle.qh_laws.specs.contract.Parts.{AreKept}
+use Rattle.qh_laws.proofs.Parts.{extremes_are_kept}
+use Rattle.qh_parts_join.specs.declared.parts.Part.{Part}
+use Rattle.qh_parts_join.specs.contract.Parts.{ids_in, own_in, IsPartOf}
+
+module _ (pts : List Vector) (ids shared kept : List ℕ) (parts : List Part) (are : All (IsPartOf pts shared) parts)
+    (all : (l : ℕ) → In l (flat_map ids_in parts) ↔ In l ids) (some : (l : ℕ) → In l shared → In l ids)
+    (members : (l : ℕ) → In l kept ↔ (In l (flat_map own_in parts) ⊎ In l shared)) where
+  part : (p : Part) → In p parts → IsPartOf pts shared p
+  part p i = All-In (IsPartOf pts shared) parts p are i
+
+  -- the ids of a part are of the set
+  pub part_inside : (p : Part) → In p parts → (l : ℕ) → In l p.ids.items → In l ids
+  part_inside p i l m = (all l).0 (in_flat_map ids_in parts p l i m)
+
+  inside : (l : ℕ) → In l kept → In l ids
+  inside l m = elim ((members l).0 m) [
+    | inr s ↦ some l s
+    | inl o ↦ (let (p, i, h) = of_flat_map own_in parts l o in part_inside p i l ((part p i).inside l h))
+  ]
+
+  extremes : (l : ℕ) → Extreme (place pts) (Members ids) l → In l kept
+  extremes l x =
+      let (p, i, h) = of_flat_map ids_in parts l ((all l).1 x.0) in
+      let m = surface_of (named p.surface) in
+      let (f, live, k) = extremes_are_kept (place pts) ids p.ids.items m (part p i).finished (part_inside p i) l x h in
+      (members l).1 (elim ((part p i).corners f live l k) [
+        | inl o ↦ inl (in_flat_map own_in parts p l i o)
+        | inr s ↦ inr s
+      ])
+
+  pub are_kept : AreKept (place pts) ids kept
+  are_kept = record { inside = inside; extremes = extremes }

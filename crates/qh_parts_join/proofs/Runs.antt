@@ -1,0 +1,40 @@
+-- A list that is gone through in pieces.
+use Rattle.std.proofs.Common.{◌≡◌, ℕ, ◌≤◌, ◌⊎◌, inl, inr, List, [], ◌∷◌, length, take, drop, sym, subst, arith}
+use Rattle.qh_model.specs.headline.Sets.{In}
+use Rattle.qh_places.proofs.ListMembers.{in_either, in_front, in_back}
+
+-- what is left is of the list, and P holds of the others
+pub record AreLeft {X : Type 0} (P : X → Type 0) (ids left : List X) : Type 0 where
+  pub inside : (l : X) → In l left → In l ids
+  pub done : (l : X) → In l ids → In l left ⊎ P l
+
+-- at the start all are left
+pub left_at_start : {X : Type 0} (P : X → Type 0) (ids : List X) → AreLeft P ids ids
+left_at_start P ids = record { inside = λ l i. i; done = λ l i. inl i }
+
+module _ {X : Type 0} (P : X → Type 0) (ids left front back : List X) (n : ℕ) (a : AreLeft P ids left)
+    (is_front : front ≡ take n left) (is_back : back ≡ drop n left) where
+  -- the next piece
+  pub front_inside : (l : X) → In l front → In l ids
+  front_inside l i = a.inside l (in_front n left l (subst (In l) is_front i))
+
+  -- of which P holds
+  pub left_behind : ((l : X) → In l front → P l) → AreLeft P ids back
+  left_behind own = record {
+    inside = λ l i. a.inside l (in_back n left l (subst (In l) is_back i));
+    done = λ l i. elim (a.done l i) [
+      | inr p ↦ inr p
+      | inl m ↦ elim (in_either n left l m) [
+        | inl f ↦ inr (own l (subst (In l) (sym is_front) f))
+        | inr b ↦ inl (subst (In l) (sym is_back) b)
+      ]
+    ];
+  }
+
+-- at the end none are left
+pub all_done : {X : Type 0} (P : X → Type 0) (ids left : List X) → AreLeft P ids left → length left ≤ 0 → (l : X) → In l ids → P l
+all_done {X} P ids left a short l i = elim (a.done l i) [ inl m ↦ absurd (none left short m) | inr p ↦ p ]
+  where
+    none : (xs : List X) → length xs ≤ 0 → In l xs → ⊥
+    none [] h m = m
+    none (x ∷ xs) h m = absurd (omega (arith, h))

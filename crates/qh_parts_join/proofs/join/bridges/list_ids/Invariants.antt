@@ -1,0 +1,8 @@
+-- What of the ids so far is in the plane is listed.
+use Rattle.std.proofs.Common.{ℕ, List, ◌++◌, take}
+use Rattle.qh_places.specs.contract.Places.{AreLevel}
+use Rattle.qh_parts_join.proofs.join.bridges.list_ids.Given as goal
+
+abbrev pub invariant-loop-id : goal.invariant-loop-id
+invariant-loop-id l = (ids : List ℕ) → AreLevel l.pts ids l.plane l.initial.level.items
+    → AreLevel l.pts (ids ++ take l.id-index l.others) l.plane l.level.items

@@ -1,0 +1,30 @@
+-- What one more part has in the plane is listed.
+use Rattle.std.proofs.Common.{◌<◌, ◌++◌, length, map, sym, subst, arith}
+use Rattle.std.proofs.lemmas.List.{append-nil, take_all}
+use Rattle.std.specs.List.{flat_map}
+use Rattle.qh_model.proofs.{Members.All-In, Members.In-get_or, lists.Images.in_map}
+use Rattle.qh_model.specs.headline.Sets.{In}
+use Rattle.qh_places.specs.contract.Places.{AreLevel}
+use Rattle.qh_parts_join.specs.contract.Kept.{held_in, ArePlaced}
+use Rattle.qh_parts_join.specs.steps.Bridges.{places_in}
+use Rattle.qh_parts_join.proofs.LevelPlanes.{level_both, flat_next}
+use Rattle.qh_parts_join.proofs.join.bridges.list_own.Goals as goal
+
+pub loop-part-init : goal.loop-part-init
+loop-part-init c = λ pts placed ids start. rw (append-nil ids) start
+
+pub loop-part-preserved : goal.loop-part-preserved
+loop-part-preserved c = λ pts placed ids start.
+    let nears = c.args.nears.now in let k = c.loop-part.part-index in let n = c.part-item.result in
+    let within : k < length nears = omega arith in
+    let member = subst (λ x. In x nears) (sym c.part-item.is) (In-get_or nears k n within) in
+    let own = All-In (ArePlaced pts) (map places_in nears) (places_in n) placed (in_map places_in nears n member) in
+    let level = rw c.in_default.is at (c.in_ok-above.ensures pts (held_in (places_in n)) (record { same = λ l. (λ i. i, λ i. i); points = own.points })) in
+    rw (flat_next held_in places_in ids nears k n within c.part-item.is, c.in_ok-extend_from_slice.ensures.items, c.deref.ensures.value)
+    (level_both pts c.args.plane.now _ _ _ _ (c.loop-part.invariant pts placed ids start) level)
+
+pub returns : goal.returns
+returns c = λ _ pts placed ids start.
+    let nears = c.args.nears.now in
+    subst (λ ns. AreLevel pts (ids ++ flat_map held_in (map places_in ns)) c.args.plane.now c.loop-part.level.items)
+    (take_all c.loop-part.part-index nears c.loop-part-test.false) (c.loop-part.invariant pts placed ids start)

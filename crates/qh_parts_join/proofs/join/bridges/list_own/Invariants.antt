@@ -1,0 +1,13 @@
+-- What the parts so far have in the plane is listed.
+use Rattle.std.proofs.Common.{ℕ, List, ◌++◌, map, take}
+use Rattle.std.specs.List.{All, flat_map}
+use Rattle.qh_model.specs.headline.Vector.{Vector}
+use Rattle.qh_places.specs.contract.Places.{AreLevel}
+use Rattle.qh_parts_join.specs.contract.Kept.{held_in, ArePlaced}
+use Rattle.qh_parts_join.specs.steps.Bridges.{places_in}
+use Rattle.qh_parts_join.proofs.join.bridges.list_own.Given as goal
+
+abbrev pub invariant-loop-part : goal.invariant-loop-part
+invariant-loop-part l = (pts : List Vector) → All (ArePlaced pts) (map places_in l.nears) → (ids : List ℕ)
+    → AreLevel pts ids l.plane l.initial.level.items
+    → AreLevel pts (ids ++ flat_map held_in (map places_in (take l.part-index l.nears))) l.plane l.level.items

@@ -1,0 +1,8 @@
+-- The corners of the parts so far.
+use Rattle.std.proofs.Common.{◌≡◌, take}
+use Rattle.std.specs.List.{flat_map}
+use Rattle.qh_parts_join.specs.contract.Parts.{own_in}
+use Rattle.qh_parts_join.proofs.kept.corners_of_parts.Given as goal
+
+abbrev pub invariant-loop-part : goal.invariant-loop-part
+invariant-loop-part l = l.ids.items ≡ flat_map own_in (take l.part-index l.parts)

@@ -1,0 +1,10 @@
+-- The test of members tells.
+use Rattle.std.proofs.Common.{◌∙◌, sym}
+use Rattle.qh_places.proofs.ListMembers.{any_in, in_any}
+use Rattle.qh_parts_join.proofs.parts.has.Goals as goal
+
+pub returns : goal.returns
+returns c = (
+  λ found. any_in c.args.id c.args.ids.now (sym c.contains.ensures.value ∙ found),
+  λ m. c.contains.ensures.value ∙ in_any c.args.id c.args.ids.now m,
+)

@@ -1,0 +1,137 @@
+//! Faces of parts, and polygons that close the gap between them: the hull of the set.
+ghost use Rattle.std.specs.Prelude.{◌≡◌, ◌↔◌, ◌++◌, IfOk, IfSome, IsPermutation, IsTrue};
+ghost use Rattle.std.specs.List.{All};
+ghost use Rattle.qh_model.specs.headline.Polygons.{RiseStrictly};
+ghost use Rattle.qh_bodies.specs.contract.Borders.{HaveOneBorder};
+ghost use Rattle.qh_parts_join.specs.contract.Joined.{IsBodyOfJoined};
+ghost use Rattle.qh_parts_join.specs.steps.Bridges.{IsBridge};
+ghost use Rattle.qh_parts_join.specs.steps.JoinedFaces.{IsBodyOfFaces};
+
+use crate::join::bridges::are_bridges;
+use crate::join::kept::Kept;
+use qh_bodies::{UnsortedFaces, body_of_faces, have_one_border, out_of_order, tally_of};
+use qh_model::{Body, Memory, Polygon};
+use std::alloc::{AllocError, Global};
+use std::thread::{Threads, join};
+
+/// Returns true if polygons are in order.
+fn are_in_order(polygons: &[Polygon]) -> bool
+    ensures { IsTrue result → RiseStrictly polygons.now }
+{
+    out_of_order(polygons).is_none()
+}
+
+/// Returns true if bridges have the border of the faces that are gone, and each is a face of what is kept of a set. With two
+/// workers or more one of them looks at the border, and the others at the bridges.
+fn close_gap<R: Threads>(
+    rt: &R,
+    alloc: Global,
+    kept: Kept,
+    gone: &[Polygon],
+    bridges: &[Polygon],
+    workers: usize,
+) -> Result<bool, Memory>
+    ensures border { IfOk result (λ yes. IsTrue yes → HaveOneBorder gone.now bridges.now) }
+    ensures faces { IfOk result (λ yes. IsTrue yes → All
+        (IsBridge kept.entry.pts.now kept.entry.corners.now kept.entry.shared.now) bridges.now) }
+{
+    if workers < 2 {
+        let closes = have_one_border(alloc, gone, bridges)?;
+        if !closes {
+            return Ok(false);
+        }
+        return are_bridges(rt, alloc, kept, bridges, workers);
+    }
+    let others = workers - 1;
+    let border = move || -> Result<bool, Memory>
+        ensures { IfOk result (λ yes. IsTrue yes ↔ HaveOneBorder gone.entry.now bridges.entry.now) }
+    { have_one_border(alloc, gone, bridges) };
+    let look = move || -> Result<bool, Memory>
+        ensures { IfOk result (λ yes. IsTrue yes → All
+            (IsBridge kept.entry.pts.now kept.entry.corners.now kept.entry.shared.now) bridges.entry.now) }
+    { are_bridges(rt, alloc, kept, bridges, others) };
+    let (closes, are_faces) = join(rt, border, look);
+    let (closes, are_faces) = (closes?, are_faces?);
+    Ok(closes && are_faces)
+}
+
+/// Returns copies of polygons.
+fn copies_of(alloc: Global, polygons: &[Polygon]) -> Result<Vec<Polygon>, AllocError>
+    ensures { IfOk result (λ v. v.items ≡ polygons.now) }
+{
+    let mut copies = Vec::with_capacity(alloc, polygons.len())?;
+    for polygon in polygons {
+        copies.push(Polygon::of(Vec::from_slice(alloc, polygon.ids())?))?;
+    }
+    Ok(copies)
+}
+
+/// Returns faces and bridges together.
+fn with_bridges(
+    alloc: Global,
+    given: UnsortedFaces,
+    bridges: &[Polygon],
+) -> Result<UnsortedFaces, AllocError>
+    ensures { IfOk result (IsPermutation (given ++ bridges.now)) }
+{
+    let more = UnsortedFaces::of(alloc, copies_of(alloc, bridges)?)?;
+    given.and(more)
+}
+
+/// Returns the hull of a set from faces, if there is one and no two are the same.
+///
+/// The caller promises that the faces close up, and that each is the polygon of a facet that stays in a part and has a
+/// clear plane, or a face of the kept ids. So they are all faces of the set (`qh_laws::seam::joined_faces_are_hull`).
+fn body_of_joined(alloc: Global, faces: UnsortedFaces) -> Result<Option<Body>, Memory>
+    ensures { IfOk result (λ found. IfSome found (IsBodyOfFaces faces)) }
+{
+    let polygons = faces.sorted(alloc)?;
+    if polygons.len() == 0 {
+        return Ok(None);
+    }
+    if !are_in_order(&polygons) {
+        return Ok(None);
+    }
+    let tally = tally_of(alloc, &polygons)?;
+    Ok(Some(body_of_faces(polygons, tally)))
+}
+
+/// Returns the hull of a set from faces that its parts contribute and polygons that close the gap between them; `None` if
+/// one of the latter is no face of what is kept of the set, they do not have the border of the faces that are gone, or two
+/// faces are the same. One worker makes the hull while the others ask about the bridges.
+///
+/// The caller promises what `given` is, that it closes up with the faces that are `gone`, and that the set is solid;
+/// `bridges` may be any polygons. No `workers` means one, and then a second thread runs.
+///
+/// # Errors
+///
+/// `Memory` where an allocation failed.
+pub fn join_faces<R: Threads>(
+    rt: &R,
+    alloc: Global,
+    kept: Kept,
+    given: UnsortedFaces,
+    gone: &[Polygon],
+    bridges: &[Polygon],
+    workers: usize,
+) -> Result<Option<Body>, Memory>
+    ensures { IfOk result (λ found. IfSome found
+        (IsBodyOfJoined kept.entry.pts.now kept.entry.corners.now kept.entry.shared.now given gone.now)) }
+{
+    let faces = with_bridges(alloc, given, bridges)?;
+    let others = workers.saturating_sub(1);
+    let make = move || -> Result<Option<Body>, Memory>
+        ensures { IfOk result (λ found. IfSome found (IsBodyOfFaces faces)) }
+    { body_of_joined(alloc, faces) };
+    let ask = move || -> Result<bool, Memory>
+        ensures border { IfOk result (λ yes. IsTrue yes → HaveOneBorder gone.entry.now bridges.entry.now) }
+        ensures faces { IfOk result (λ yes. IsTrue yes → All
+            (IsBridge kept.entry.pts.now kept.entry.corners.now kept.entry.shared.now) bridges.entry.now) }
+    { close_gap(rt, alloc, kept, gone, bridges, others) };
+    let (body, closes) = join(rt, make, ask);
+    let closes = closes?;
+    if !closes {
+        return Ok(None);
+    }
+    body
+}

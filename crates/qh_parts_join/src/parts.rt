@@ -1,0 +1,236 @@
+//! Parts of a set: the finished mesh of some of its ids, and the corners of the mesh.
+ghost use Rattle.std.specs.Prelude.{All, ◌≡◌, ◌<◌, ◌⊎◌, ◌↔◌, ℕ, IfOk, IfSome, IsTrue, List, length, true};
+ghost use Rattle.qh_model.specs.headline.Predicates.{place};
+ghost use Rattle.qh_model.specs.headline.Sets.{In, Once};
+ghost use Rattle.qh_model.specs.contract.IdSets.{AreIndices};
+ghost use Rattle.qh_model.specs.contract.StoredSurface.{surface_of};
+ghost use Rattle.qh_model.specs.laws.CompletenessLaws.{IsLiveCorner};
+ghost use Rattle.qh_surface.specs.contract.Corners.{AreCornersBelow};
+ghost use Rattle.qh_surface.specs.contract.NamedMeshes.{named};
+ghost use Rattle.qh_surface.specs.contract.Simplexes.{IsSimplexOf};
+ghost use Rattle.qh_surface.specs.contract.Walks.{mark_at};
+ghost use Rattle.std.specs.List.Sorted.{IsStrictlyIncreasing};
+ghost use Rattle.qh_parts_join.specs.contract.Parts.{IsPartOf};
+
+use qh_mesh::FacetNo;
+use qh_model::{Id, Memory, Point};
+use qh_places::{Outward, Places};
+use qh_polygon::rising_ids;
+use qh_pred::{point_at, vol};
+use qh_surface::starts::Simplex;
+use qh_surface::{NamedMesh, surface_along};
+use std::alloc::{AllocError, Global};
+
+/// A part of a set: its ids, rising, their finished mesh, and the corners of the mesh that are no shared ids,
+/// in the order in which the ids were listed, with their points by blocks.
+#[derive(Drop)]
+pub struct Part {
+    pub ids: Vec<Id>,
+    pub surface: NamedMesh,
+    pub own: Vec<Id>,
+    pub places: Places,
+}
+
+/// Returns the first four of the shared ids, if their points do not lie in one plane.
+fn simplex_of(pts: &[Point], shared: &[Id]) -> Option<Simplex>
+    requires { AreIndices pts.now shared.now }
+    ensures { IfSome result (λ s. (ids : List ℕ) → ((l : ℕ) → In l shared.now → In l ids) → IsSimplexOf pts.now ids s) }
+{
+    let [i, j, k, l, ..] = shared else {
+        return None;
+    };
+    let (a, b) = (point_at(pts, *i), point_at(pts, *j));
+    let (c, d) = (point_at(pts, *k), point_at(pts, *l));
+    if vol(a, b, c, d) == 0 {
+        return None;
+    }
+    Some(Simplex {
+        i: *i,
+        j: *j,
+        k: *k,
+        l: *l,
+    })
+}
+
+/// Returns the ids that are not shared in their order, then the shared ones, each once; where one that is not shared
+/// is listed twice, they rise instead. `rising` has the same ids.
+fn each_once(
+    alloc: Global,
+    unshared: &[Id],
+    shared: &[Id],
+    rising: &[Id],
+) -> Result<Vec<Id>, AllocError>
+    requires rising { IsStrictlyIncreasing rising.now }
+    requires all { (l : ℕ) → In l rising.now → In l unshared.now ⊎ In l shared.now }
+    requires unshared { (l : ℕ) → In l unshared.now → In l rising.now }
+    requires shared { (l : ℕ) → In l shared.now → In l rising.now }
+    ensures once { IfOk result (λ v. Once v.items) }
+    ensures same { IfOk result (λ v. (l : ℕ) → In l v.items ↔ In l rising.now) }
+{
+    let mut ids = Vec::from_slice(alloc, unshared)?;
+    ids.extend_from_slice(shared)?;
+    if ids.len() > rising.len() {
+        return Vec::from_slice(alloc, rising);
+    }
+    Ok(ids)
+}
+
+/// Returns the ids of a list that are not in another, in their order.
+fn without(alloc: Global, ids: &[Id], others: &[Id]) -> Result<Vec<Id>, AllocError>
+    ensures all { IfOk result (λ v. (l : ℕ) → In l ids.now → In l v.items ⊎ In l others.now) }
+    ensures only { IfOk result (λ v. (l : ℕ) → In l v.items → In l ids.now) }
+{
+    let mut left = Vec::new(alloc);
+    for id in ids {
+        if !has(others, *id) {
+            left.push(*id)?;
+        }
+    }
+    Ok(left)
+}
+
+/// Returns for each position of a mesh the way out there, by the facets that begin at it. No answer depends on it.
+fn ways_out(alloc: Global, surface: &NamedMesh) -> Result<Vec<Outward>, AllocError> {
+    let points = &surface.points;
+    let mut ways = vec![in alloc; Outward::NONE; points.len()]?;
+    for place in 0..surface.mesh.places() {
+        let f = FacetNo::new(place);
+        if surface.mesh.is_live(f) {
+            let [i, j, k] = surface.mesh.facet(f);
+            let corners = (
+                points.get(i.index()),
+                points.get(j.index()),
+                points.get(k.index()),
+            );
+            if let (Some(a), Some(b), Some(c)) = corners {
+                if let Some(way) = ways.get_mut(i.index()) {
+                    *way = way.plus(Outward::of_triangle(*a, *b, *c));
+                }
+            }
+        }
+    }
+    Ok(ways)
+}
+
+/// Returns the ways out at those ids of a mesh that stand in a list, in the same order. No answer
+/// depends on it.
+fn outward_of(alloc: Global, surface: &NamedMesh, own: &[Id]) -> Result<Vec<Outward>, AllocError> {
+    let ways = ways_out(alloc, surface)?;
+    let mut outward = Vec::with_capacity(alloc, own.len())?;
+    for position in 0..surface.ids.len().min(ways.len()) {
+        if own.get(outward.len()) == Some(&surface.ids[position]) {
+            outward.push(ways[position])?;
+        }
+    }
+    Ok(outward)
+}
+
+/// Returns the ids of the corners of the live facets, as they come.
+fn corners_of(alloc: Global, surface: &NamedMesh) -> Result<Vec<Id>, AllocError>
+    requires { AreCornersBelow (length surface.now.ids.items) surface.now.mesh }
+    ensures all { IfOk result (λ v. (l : ℕ) → IsLiveCorner (surface_of (named surface.now)) l → In l v.items) }
+    ensures only { IfOk result (λ v. (l : ℕ) → In l v.items → IsLiveCorner (surface_of (named surface.now)) l) }
+{
+    let mut corners = Vec::new(alloc);
+    for f in surface.mesh.live() {
+        corners.extend_from_slice(&surface.corners(f))?;
+    }
+    Ok(corners)
+}
+
+/// Returns true if an id is one of a list.
+fn has(ids: &[Id], id: Id) -> bool
+    ensures { IsTrue result ↔ In id ids.now }
+{
+    ids.contains(&id)
+}
+
+/// Returns true if all of some ids are in a list.
+pub(crate) fn are_in(some: &[Id], ids: &[Id]) -> bool
+    ensures { IsTrue result → (l : ℕ) → In l some.now → In l ids.now }
+{
+    for id in some {
+        if !has(ids, *id) {
+            return false;
+        }
+    }
+    true
+}
+
+/// Marks for the first `count` ids, by which those of a list are marked.
+fn marks_of(alloc: Global, count: usize, ids: &[Id]) -> Result<Vec<bool>, AllocError>
+    requires { All (λ i. i < count) ids.now }
+    ensures { IfOk result (λ v. (l : ℕ) → In l ids.now → mark_at v.items l ≡ true) }
+{
+    let mut marks = vec![in alloc; false; count]?;
+    for id in ids {
+        marks[id.index()] = true;
+    }
+    Ok(marks)
+}
+
+/// Returns true if an id is marked.
+fn is_marked(marks: &[bool], id: Id) -> bool
+    ensures { mark_at marks.now id ≡ true → IsTrue result }
+{
+    let Some(marked) = marks.get(id.index()) else {
+        return false;
+    };
+    *marked
+}
+
+/// Returns the marked ids of a list, in their order.
+fn marked(alloc: Global, ids: &[Id], marks: &[bool]) -> Result<Vec<Id>, AllocError>
+    ensures all { IfOk result (λ v. (l : ℕ) → In l ids.now → mark_at marks.now l ≡ true → In l v.items) }
+    ensures only { IfOk result (λ v. (l : ℕ) → In l v.items → In l ids.now) }
+{
+    let mut found = Vec::new(alloc);
+    for id in ids {
+        if is_marked(marks, *id) {
+            found.push(*id)?;
+        }
+    }
+    Ok(found)
+}
+
+impl Part {
+    /// Returns the part of listed ids, if the shared ids, those of every part, are among them, and the points of the
+    /// first four of these do not lie in one plane. The ids may stand in any order, and more than once; near ones
+    /// best stand near each other.
+    ///
+    /// # Errors
+    ///
+    /// `Memory` where an allocation failed.
+    pub fn of(
+        alloc: Global,
+        pts: &[Point],
+        listed: &[Id],
+        shared: &[Id],
+    ) -> Result<Option<Part>, Memory>
+        requires { AreIndices pts.now listed.now }
+        ensures part { IfOk result (λ found. IfSome found (IsPartOf pts.now shared.now)) }
+        ensures members { IfOk result (λ found. IfSome found (λ p. (l : ℕ) → In l p.ids.items ↔ In l listed.now)) }
+    {
+        let ids = rising_ids(alloc, listed)?;
+        if ids.len() == 0 || !are_in(shared, &ids) {
+            return Ok(None);
+        }
+        let Some(first) = simplex_of(pts, shared) else {
+            return Ok(None);
+        };
+        let unshared = without(alloc, listed, shared)?;
+        let order = each_once(alloc, &unshared, shared, &ids)?;
+        let surface = surface_along(alloc, pts, order, first)?;
+        let corners = corners_of(alloc, &surface)?;
+        let marks = marks_of(alloc, pts.len(), &corners)?;
+        let own = marked(alloc, &unshared, &marks)?;
+        let outward = outward_of(alloc, &surface, &own)?;
+        let places = Places::in_order(alloc, pts, &own, &outward)?;
+        Ok(Some(Part {
+            ids,
+            surface,
+            own,
+            places,
+        }))
+    }
+}

@@ -1,6 +1,0 @@
--- All planes are near.
-use Rattle.qh_regions.proofs.CellParts.{all_near}
-use Rattle.qh_regions.proofs.cells.Cell.whole.Goals as goal
-
-pub returns : goal.returns
-returns c = all_near _ c.args.count _ c.in_ok-numbers_below.ensures

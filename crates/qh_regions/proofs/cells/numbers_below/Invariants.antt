@@ -1,7 +1,0 @@
--- The numbers so far, of which there is one for each turn.
-use Rattle.std.proofs.Common.{◌≡◌, ◌≤◌, vec_len, vec_capacity}
-use Rattle.std.specs.List.{range_with_len}
-use Rattle.qh_regions.proofs.cells.numbers_below.Given as goal
-
-abbrev pub invariant-loop-number : goal.invariant-loop-number
-invariant-loop-number l = (l.numbers.items ≡ range_with_len 0 l.number) × (vec_len l.numbers ≡ l.number) × (l.end ≤ vec_capacity l.numbers)

@@ -1,5 +1,0 @@
--- The cells that the sieve makes.
-use Rattle.qh_regions.proofs.columns.Columns.between.Goals as goal
-
-pub returns-clause-cells : goal.returns-clause-cells
-returns-clause-cells g c = rw c.deref.ensures.value at c.in_ok-cells.ensures

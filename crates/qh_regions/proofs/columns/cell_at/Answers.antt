@@ -1,5 +1,0 @@
--- No cell, or a part.
-use Rattle.qh_regions.proofs.columns.cell_at.Goals as goal
-
-pub returns-then-is_empty : goal.returns-then-is_empty
-returns-then-is_empty c cell = c.none.ensures c.args.planes.now

@@ -1,8 +1,0 @@
--- The ids kept so far and those to come have all extreme ids.
-use Rattle.std.proofs.Common.{◌++◌, drop}
-use Rattle.qh_regions.specs.contract.KeptIds.{KeepsExtremes}
-use Rattle.qh_regions.proofs.sieves.ids_outside.Given as goal
-
-abbrev pub invariant-loop-id : goal.invariant-loop-id
-invariant-loop-id g l =
-    KeepsExtremes l.set.pts.now (g.R.Region.held l.region) l.set.ids.now (l.kept.items ++ drop l.id-index l.set.ids.now)

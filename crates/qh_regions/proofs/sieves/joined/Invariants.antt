@@ -1,9 +1,0 @@
--- What is kept of the parts so far is kept of all their ids.
-use Rattle.std.proofs.Common.{◌*◌, take}
-use Rattle.qh_regions.specs.contract.Cells.{HoldsPoint}
-use Rattle.qh_regions.specs.contract.KeptIds.{KeepsExtremes}
-use Rattle.qh_regions.proofs.sieves.joined.Given as goal
-
-abbrev pub invariant-loop-part : goal.invariant-loop-part
-invariant-loop-part l =
-    KeepsExtremes l.set.pts.now (HoldsPoint l.columns) (take (l.part-index * l.size) l.set.ids.now) l.kept.items

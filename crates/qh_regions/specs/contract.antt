@@ -1,5 +1,0 @@
--- What the contracts of public functions cite.
-pub mod Cells
-pub mod CoarsePlanes
-pub mod CornerBoxes
-pub mod KeptIds

@@ -1,3 +1,0 @@
--- What private functions speak of: nothing to believe.
-pub mod CoarsePlanes
-pub mod CornerBoxes

@@ -1,4 +1,0 @@
-pub mod RingsBefore
-pub mod Answers
-pub mod RingFacets
-pub mod StayingParts

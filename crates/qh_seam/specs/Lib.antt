@@ -1,2 +1,0 @@
-pub mod contract
-pub mod steps

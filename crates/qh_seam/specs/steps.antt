@@ -1,5 +1,0 @@
--- What private functions speak of: nothing to believe.
-pub mod Apart
-pub mod RingKeys
-pub mod Triangles
-pub mod Witnesses

@@ -1,8 +1,0 @@
--- The keys by which the facets of a ring are put in an order.
--- This project's own.
-use Rattle.std.specs.Prelude.{ℕ, ◌%◌}
-use Rattle.qh_seam.specs.declared.rings.TheConstants.{PLACE}
-
--- the facet of a key
-abbrev pub facet_in : ℕ → ℕ
-facet_in key = key % PLACE

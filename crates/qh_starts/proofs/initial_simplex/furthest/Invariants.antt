@@ -1,7 +1,0 @@
--- The furthest id so far is one of the set.
-use Rattle.qh_model.specs.headline.Sets.{Members}
-use Rattle.qh_starts.proofs.initial_simplex.furthest.Given as goal
-
--- what was found is one of the ids
-abbrev pub invariant-loop-part : goal.invariant-loop-part
-invariant-loop-part l = Members l.ids l.found

@@ -1,7 +1,0 @@
--- The ids so far are those of their keys.
-use Rattle.std.proofs.Common.{◌≡◌, map, take}
-use Rattle.qh_keys.specs.contract.Halves.{low_of}
-use Rattle.qh_starts.proofs.morton.keys_of.Given as goal
-
-abbrev pub invariant-loop-id : goal.invariant-loop-id
-invariant-loop-id l = map low_of l.keys.items ≡ take l.id-index l.ids

@@ -1,8 +1,0 @@
--- The keys so far, turned back.
-use Rattle.std.proofs.Common.{◌≡◌, map, take}
-use Rattle.qh_keys.specs.contract.Halves.{halves}
-use Rattle.qh_steps.specs.steps.StepKeys.{back}
-use Rattle.qh_steps.proofs.borders.keys_back.Given as goal
-
-abbrev pub invariant-loop-key : goal.invariant-loop-key
-invariant-loop-key l = map halves l.back.items ≡ map back (map halves (take l.key-index l.keys))

@@ -1,7 +1,0 @@
--- The keys so far that go up.
-use Rattle.std.proofs.Common.{◌≡◌, filter, take}
-use Rattle.qh_steps.specs.steps.StepKeys.{goes_up}
-use Rattle.qh_steps.proofs.closed.keys_up.Given as goal
-
-abbrev pub invariant-loop-key : goal.invariant-loop-key
-invariant-loop-key l = l.up.items ≡ filter goes_up (take l.key-index l.keys)

@@ -1,9 +1,0 @@
--- The steps so far, and the sides that are left.
-use Rattle.std.proofs.Common.{◌≡◌, ◌++◌, map}
-use Rattle.qh_keys.specs.contract.Halves.{halves}
-use Rattle.qh_model.specs.contract.ClosedPolygons.{steps_round}
-use Rattle.qh_steps.proofs.closed.list_steps.Given as goal
-
-abbrev pub invariant-loop-from : goal.invariant-loop-from
-invariant-loop-from l =
-    map halves l.keys.items ++ l.from-iterator ≡ map halves l.initial.keys.items ++ steps_round l.polygon

@@ -1,6 +1,0 @@
--- The lists are the same so far.
-use Rattle.std.proofs.Common.{◌≡◌, take}
-use Rattle.qh_steps.proofs.closed.other_key.Given as goal
-
-abbrev pub invariant-loop-k : goal.invariant-loop-k
-invariant-loop-k l = take l.k l.up ≡ take l.k l.down

@@ -1,6 +1,0 @@
--- The lists are the same so far.
-use Rattle.std.proofs.Common.{◌≡◌, take}
-use Rattle.qh_steps.proofs.order.comes_before.Given as goal
-
-abbrev pub invariant-loop-k : goal.invariant-loop-k
-invariant-loop-k l = take l.k l.p ≡ take l.k l.q

@@ -1,0 +1,10 @@
+-- Ids of keys that are sorted are the same ids.
+use Rattle.std.proofs.Common.{ℕ, List, map, sym, subst, IsPermutation}
+use Rattle.std.proofs.lemmas.List.Sorted.{IsPermutation-map}
+use Rattle.qh_model.specs.contract.Halves.{low_of}
+use Rattle.qh_surface.proofs.starts.morton.morton_order.Goals as goal
+
+pub returns : goal.returns
+returns c = subst (λ (v : List ℕ). IsPermutation c.args.ids.now v) (sym c.in_ok-ids_of.ensures)
+    (subst (λ (v : List ℕ). IsPermutation v (map low_of c.sort_unstable.new.self.items)) c.in_ok-keys.ensures
+    (IsPermutation-map low_of c.in_ok-keys.keys.items c.sort_unstable.new.self.items c.sort_unstable.ensures.permutation))

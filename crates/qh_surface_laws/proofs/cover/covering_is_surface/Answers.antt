@@ -1,5 +1,0 @@
-use Rattle.qh_surface_laws.proofs.CoveredSurfaces.{covering_is_surface as law}
-use Rattle.qh_surface_laws.proofs.cover.covering_is_surface.Goals as goal
-
-pub returns : goal.returns
-returns c = law

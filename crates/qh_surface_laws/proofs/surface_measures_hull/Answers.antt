@@ -1,6 +1,0 @@
-use Rattle.qh_surface_laws.proofs.Areas.{areas_add_up}
-use Rattle.qh_surface_laws.proofs.Volumes.{volumes_add_up}
-use Rattle.qh_surface_laws.proofs.surface_measures_hull.Goals as goal
-
-pub returns : goal.returns
-returns c = record { areas = areas_add_up; volume = volumes_add_up }
