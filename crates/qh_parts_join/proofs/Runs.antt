@@ -1,6 +1,7 @@
 -- A list that is gone through in pieces.
-use Rattle.std.proofs.Common.{◌≡◌, ℕ, ◌≤◌, ◌⊎◌, inl, inr, List, [], ◌∷◌, length, take, drop, sym, subst, arith}
+use Rattle.std.proofs.Common.{◌≡◌, ℕ, ◌≤◌, ◌⊎◌, inl, inr, List, [], ◌∷◌, length, take, drop, All, sym, subst, arith}
 use Rattle.qh_model.specs.headline.Sets.{In}
+use Rattle.qh_model.proofs.Members.{All-In, All-of}
 use Rattle.qh_places.proofs.ListMembers.{in_either, in_front, in_back}
 
 -- what is left is of the list, and P holds of the others
@@ -38,3 +39,7 @@ all_done {X} P ids left a short l i = elim (a.done l i) [ inl m ↦ absurd (none
     none : (xs : List X) → length xs ≤ 0 → In l xs → ⊥
     none [] h m = m
     none (x ∷ xs) h m = absurd (omega (arith, h))
+
+-- all of a part of a list
+pub all_of_part : (P : ℕ → Type 0) (ids own : List ℕ) → All P ids → ((l : ℕ) → In l own → In l ids) → All P own
+all_of_part P ids own all inside = All-of P own (λ l i. All-In P ids l all (inside l i))

@@ -1,37 +1,37 @@
-//! A job without the points that the interior filter finds inside.
+//! The blocks of a job without the points that the interior filter finds inside.
 ghost use Rattle.std.specs.Prelude.{◌≡◌, ◌≤◌, ◌<◌, IfOk, IfSome, length};
 ghost use Rattle.qh_model.specs.contract.Cut.{positions};
 ghost use Rattle.qh_run.specs.steps.Parts.{StandsFor};
 
-use crate::job::Job;
+use crate::blocks::Blocks;
 use qh_block::{LEAST_LEFT, cull_interior};
 use qh_model::{Cut, Id, Memory};
 use std::alloc::{AllocError, Global};
 use std::thread::Threads;
 
-/// What the interior filter leaves of a job.
+/// What the interior filter leaves of a set.
 #[derive(Drop)]
 pub(crate) struct Filtered {
     /// The ids that are left, rising.
     pub ids: Vec<Id>,
-    /// The job's blocks without the ids that were removed. A block with few ids left is joined to those after it.
+    /// The set's blocks without the ids that were removed. A block with few ids left is joined to those after it.
     pub cut: Cut,
     ghost whole: { positions cut ≡ length ids.items },
 }
 
-/// Returns where the blocks of a job begin among the ids that are left of its own, and the end of the last. A block with
+/// Returns where the blocks of a set begin among the ids that are left of it, and the end of the last. A block with
 /// fewer than `LEAST_LEFT` ids is joined to those after it.
-fn bounds_among(alloc: Global, job: &Job, left: &[Id]) -> Result<Vec<u32>, AllocError>
+fn bounds_among(alloc: Global, set: &Blocks, left: &[Id]) -> Result<Vec<u32>, AllocError>
     requires some { 0 < length left.now }
-    requires few { length left.now ≤ positions job.now.cut.now }
+    requires few { length left.now ≤ positions set.now.cut.now }
     ensures { IfOk result (λ b. positions b.items ≡ length left.now) }
 {
     let mut bounds = Vec::new(alloc);
     let mut last = 0;
     bounds.push(0)?;
-    for block in 1..job.cut.blocks() {
-        let (from, _) = job.cut.block(block);
-        let first = job.ids[from as usize];
+    for block in 1..set.cut.blocks() {
+        let (from, _) = set.cut.block(block);
+        let first = set.ids[from as usize];
         let at = left.partition_point(|id| *id < first);
         if at.saturating_sub(last) >= LEAST_LEFT && at < left.len() {
             bounds.push(at as u32)?;
@@ -42,7 +42,7 @@ fn bounds_among(alloc: Global, job: &Job, left: &[Id]) -> Result<Vec<u32>, Alloc
     Ok(bounds)
 }
 
-/// Filters a job by at most `threads` threads: returns what is left of its ids and blocks, or `None` where
+/// Filters a set by at most `threads` threads: returns what is left of its ids and blocks, or `None` where
 /// no filter pays.
 ///
 /// # Errors
@@ -51,17 +51,17 @@ fn bounds_among(alloc: Global, job: &Job, left: &[Id]) -> Result<Vec<u32>, Alloc
 pub(crate) fn without_interior<R: Threads + Sync>(
     rt: &R,
     alloc: Global,
-    job: &Job,
+    set: &Blocks,
     threads: u32,
 ) -> Result<Option<Filtered>, Memory>
-    requires { 0 < length job.now.ids.now }
-    ensures part { IfOk result (λ found. IfSome found (λ c. StandsFor job.now.pts.now job.now.ids.now c.ids.items)) }
+    requires { 0 < length set.now.ids.now }
+    ensures part { IfOk result (λ found. IfSome found (λ c. StandsFor set.now.pts.now set.now.ids.now c.ids.items)) }
     ensures some { IfOk result (λ found. IfSome found (λ c. 0 < length c.ids.items)) }
 {
-    let Some(ids) = cull_interior(rt, alloc, job.pts, job.ids, threads)? else {
+    let Some(ids) = cull_interior(rt, alloc, set.pts, set.ids, threads)? else {
         return Ok(None);
     };
-    match Cut::from_bounds(bounds_among(alloc, job, &ids)?) {
+    match Cut::from_bounds(bounds_among(alloc, set, &ids)?) {
         Ok(cut) => Ok(Some(Filtered { ids, cut })),
         Err(_) => Ok(None),
     }

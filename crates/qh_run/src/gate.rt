@@ -12,6 +12,9 @@ use std::alloc::Global;
 
 /// Learns of the blocks of a run, from the workers' threads, and takes the hull at its end.
 ///
+/// The blocks are those of the cut after the interior filter: blocks with few ids left are put together. A pass that gives
+/// up claims no more of them.
+///
 /// A gate may hold back the thread that calls it. No other worker waits for that thread.
 pub trait Gate: Sync {
     /// Learns that a pass has claimed a block, before the pass works at it.

@@ -1,90 +1,44 @@
-//! What the workers' board keeps: the points, and how they are cut into blocks.
-ghost use Rattle.std.specs.Prelude.{◌≡◌, ◌<◌, ◌+◌, IfOk, length};
-ghost use Rattle.std.specs.List.Sorted.{IsStrictlyIncreasing};
-ghost use Rattle.qh_model.specs.contract.BoardMachine.{InSpan};
+//! What the workers' board keeps: the points, their distinct ids, and how these are cut into blocks.
+ghost use Rattle.std.specs.Prelude.{◌≡◌, length};
 ghost use Rattle.qh_model.specs.contract.Cut.{block_count, positions};
-ghost use Rattle.qh_model.specs.contract.IdSets.{HasDistinctPoints, IsIdSet};
 ghost use Rattle.qh_model.specs.contract.RightValue.{RightValue};
-ghost use Rattle.qh_model.specs.headline.Hull.{AreExtremes};
-ghost use Rattle.qh_model.specs.headline.Predicates.{place};
-ghost use Rattle.qh_model.specs.headline.Sets.{Members};
-ghost use Rattle.qh_model.specs.contract.IdSets.{AreIndices};
+ghost use Rattle.qh_model.specs.headline.DistinctIds.{AreDistinctIds};
 
+use crate::blocks::{Blocks, Extremes};
 use crate::reduction::{Claimed, GivesUp, Reduction};
-use crate::unions::union;
-use qh_block::{TELLING, extremes_unculled, tree_pays};
 use qh_board::Spans;
 use qh_model::{Cut, Id, Point};
 use std::alloc::Global;
 
-/// The points, their distinct ids, rising, and a cut of their positions.
+/// The points, their distinct ids, rising, as `qh_plane::distinct` returns them, and a cut of the ids' positions.
 #[derive(Drop)]
 pub struct Job<'a> {
     pub pts: &'a [Point],
     pub ids: &'a [Id],
     pub cut: &'a Cut,
-    ghost indices: { AreIndices pts.now ids.now },
-    ghost rising: { IsStrictlyIncreasing ids.now },
-    ghost distinct: { HasDistinctPoints (place pts.now) (Members ids.now) },
+    ghost distinct: { AreDistinctIds pts.now ids.now },
     ghost whole: { positions cut.now ≡ length ids.now },
 }
 
-/// What is found for some blocks.
-#[derive(Drop)]
-pub struct Extremes {
-    /// The extreme ids of the blocks' ids, rising.
-    pub ids: Vec<Id>,
-    /// The number of ids that these blocks have.
-    pub among: usize,
-    ghost some: { 0 < length ids.items },
+impl<'a> Job<'a> {
+    /// Returns the blocks of the job.
+    pub(crate) fn blocks_of(&self) -> Blocks<'a>
+        ensures pts { result.pts.now ≡ self.now.pts.now }
+        ensures ids { result.ids.now ≡ self.now.ids.now }
+        ensures cut { result.cut.now ≡ self.now.cut.now }
+    {
+        Blocks {
+            pts: self.pts,
+            ids: self.ids,
+            cut: self.cut,
+        }
+    }
 }
 
 impl<'a> Spans for Job<'a> {
     type Value = Extremes;
 
     ghost right = { λ job span found. RightValue job.pts.now job.ids.now job.cut.now span found.ids.items };
-}
-
-impl<'a> Job<'a> {
-    /// Asks the first ids of a large block whether the tree pays, before a pass works at its first block.
-    fn ask_sample(&self, alloc: Global, block: &[Id]) -> Result<(), GivesUp>
-        requires { AreIndices self.now.pts.now block.now }
-    {
-        if block.len() > TELLING {
-            let (sample, _) = block.split_at(TELLING);
-            let found = extremes_unculled(alloc, self.pts, sample)?;
-            if !tree_pays(found.len(), TELLING) {
-                return Err(GivesUp);
-            }
-        }
-        Ok(())
-    }
-
-    /// Returns the extreme ids of a part of the ids, which has all that are extreme among `among` ids. Gives up if
-    /// their number shows that a tree does not pay.
-    fn extremes_among(&self, alloc: Global, part: &[Id], among: usize) -> Result<Extremes, GivesUp>
-        requires some { 0 < length part.now }
-        requires indices { AreIndices self.now.pts.now part.now }
-        requires set { IsIdSet self.now.pts.now part.now }
-        ensures { IfOk result (λ found. AreExtremes (place self.now.pts.now) (Members part.now) found.ids.items) }
-    {
-        let ids = extremes_unculled(alloc, self.pts, part)?;
-        if !tree_pays(ids.len(), among) {
-            return Err(GivesUp);
-        }
-        Ok(Extremes { ids, among })
-    }
-
-    /// Returns the extreme ids of a block. Gives up if their number shows that a tree does not pay.
-    fn reduced(&self, alloc: Global, block: u32) -> Result<Extremes, GivesUp>
-        requires { block < block_count self.now.cut.now }
-        ensures { IfOk result (λ found. RightValue self.now.pts.now self.now.ids.now self.now.cut.now
-            (InSpan (block_count self.now.cut.now) (block_count self.now.cut.now + block)) found.ids.items) }
-    {
-        let (from, to) = self.cut.block(block);
-        let ids = &self.ids[from as usize..to as usize];
-        self.extremes_among(alloc, ids, ids.len())
-    }
 }
 
 impl<'a> Reduction for Job<'a> {
@@ -95,21 +49,16 @@ impl<'a> Reduction for Job<'a> {
     }
 
     fn reduce(&self, alloc: Global, block: u32, claimed: Claimed) -> Result<Extremes, GivesUp> {
-        if claimed == Claimed::First {
-            let (from, to) = self.cut.block(block);
-            self.ask_sample(alloc, &self.ids[from as usize..to as usize])?;
-        }
-        self.reduced(alloc, block)
+        self.blocks_of().reduce(alloc, block, claimed)
     }
 
     fn combine(
         &self,
         alloc: Global,
-        _node: u32,
+        node: u32,
         even: Extremes,
         odd: Extremes,
     ) -> Result<Extremes, GivesUp> {
-        let both = union(alloc, &even.ids, &odd.ids)?;
-        self.extremes_among(alloc, &both, even.among.saturating_add(odd.among))
+        self.blocks_of().combine(alloc, node, even, odd)
     }
 }

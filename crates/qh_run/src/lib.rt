@@ -11,6 +11,7 @@
 //! Source: Preparata and Hong 1977 (the hull of a set from the hulls of its parts).
 #![tactic(auto)]
 
+mod blocks;
 mod filtered;
 mod gate;
 mod job;
@@ -22,7 +23,8 @@ mod turn;
 mod unions;
 mod worker;
 
+pub use blocks::Extremes;
 pub use gate::{Gate, NoGate};
-pub use job::{Extremes, Job};
+pub use job::Job;
 pub use run::{RunError, run_hull};
 pub use worker::work;

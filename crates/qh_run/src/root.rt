@@ -1,4 +1,4 @@
-//! The ids at the root of a tree over the blocks of a job.
+//! The ids at the root of a tree over blocks.
 ghost use Rattle.std.specs.Prelude.{◌≡◌, ◌↔◌, ◌<◌, All, IfOk, IfSome, IsSome, Some, length};
 ghost use Rattle.qh_model.specs.contract.BoardMachine.{InSpan};
 ghost use Rattle.qh_board.specs.declared.view.Mark.TheVariants as marks;
@@ -7,9 +7,9 @@ ghost use Rattle.qh_model.specs.contract.IdSets.{AreIndices, IsIdSet};
 ghost use Rattle.qh_run.specs.steps.Parts.{StandsFor};
 ghost use Rattle.qh_run.specs.steps.Turns.{IsWorked};
 
+use crate::blocks::Blocks;
 use crate::filtered::{Filtered, without_interior};
 use crate::gate::Gate;
-use crate::job::Job;
 use crate::passes::run_passes;
 use crate::reduction::Reduction;
 use qh_board::{Board, BoardError, Left, Spans};
@@ -48,21 +48,21 @@ fn reduced<S: Reduction, R: Threads + Sync, G: Gate>(
     Ok(root_of(board, lefts))
 }
 
-/// Returns the extreme ids of a job, as the workers find them in its blocks, or `None` where one gave up. No more
+/// Returns the extreme ids of a set, as the workers find them in its blocks, or `None` where one gave up. No more
 /// workers than blocks work.
 fn root_ids<R: Threads + Sync, G: Gate>(
     rt: &R,
     alloc: Global,
-    job: Job,
+    set: Blocks,
     workers: u32,
     gate: &G,
 ) -> Result<Option<Vec<Id>>, BoardError>
     requires { 0 < workers }
     ensures some { IfOk result (λ r. IfSome r (λ ids. 0 < length ids.items)) }
-    ensures stand { IfOk result (λ r. IfSome r (λ ids. StandsFor job.entry.pts.now job.entry.ids.now ids.items)) }
+    ensures stand { IfOk result (λ r. IfSome r (λ ids. StandsFor set.entry.pts.now set.entry.ids.now ids.items)) }
 {
-    let passes = workers.min(job.cut.blocks());
-    match reduced(rt, alloc, job, passes, gate)? {
+    let passes = workers.min(set.cut.blocks());
+    match reduced(rt, alloc, set, passes, gate)? {
         Some(root) => Ok(Some(root.ids)),
         None => Ok(None),
     }
@@ -85,38 +85,38 @@ fn ids_of_left<R: Threads + Sync, G: Gate>(
     ensures some { IfSome result (λ ids. 0 < length ids.items) }
     ensures stand { IfSome result (λ ids. StandsFor pts.now left.ids.items ids.items) }
 {
-    let job = Job {
+    let set = Blocks {
         pts,
         ids: &left.ids,
         cut: &left.cut,
     };
-    match root_ids(rt, alloc, job, workers, gate) {
+    match root_ids(rt, alloc, set, workers, gate) {
         Ok(Some(ids)) => Some(ids),
         Ok(None) => Some(left.ids),
         Err(_) => None,
     }
 }
 
-/// Returns ids that stand for a job's: the extreme ones, as the workers find them in its blocks, each without the
+/// Returns ids that stand for those of a set: the extreme ones, as the workers find them in its blocks, each without the
 /// points that the interior filter removes; where a worker gave up, all that the filter leaves.
 ///
-/// `None` says that a worker gave up and the filter removes nothing, or that an allocation for the filter, the board
-/// or a thread failed.
+/// `None` says that a worker gave up and the filter removes nothing, or that an allocation for the filter, the board or a
+/// thread failed.
 pub(crate) fn ids_by_tree<R: Threads + Sync, G: Gate>(
     rt: &R,
     alloc: Global,
-    job: Job,
+    set: Blocks,
     workers: u32,
     gate: &G,
 ) -> Option<Vec<Id>>
-    requires some { 0 < length job.ids.now }
+    requires some { 0 < length set.ids.now }
     requires workers { 0 < workers }
     ensures some { IfSome result (λ ids. 0 < length ids.items) }
-    ensures stand { IfSome result (λ ids. StandsFor job.entry.pts.now job.entry.ids.now ids.items) }
+    ensures stand { IfSome result (λ ids. StandsFor set.entry.pts.now set.entry.ids.now ids.items) }
 {
-    match without_interior(rt, alloc, &job, workers) {
-        Ok(Some(left)) => ids_of_left(rt, alloc, job.pts, left, workers, gate),
-        Ok(None) => match root_ids(rt, alloc, job, workers, gate) {
+    match without_interior(rt, alloc, &set, workers) {
+        Ok(Some(left)) => ids_of_left(rt, alloc, set.pts, left, workers, gate),
+        Ok(None) => match root_ids(rt, alloc, set, workers, gate) {
             Ok(ids) => ids,
             Err(_) => None,
         },

@@ -59,7 +59,8 @@ fn finished<G: Gate>(
     }
 }
 
-/// Returns the hull of a list of points.
+/// Returns the hull of a list of points. Blocks with few ids left after the interior filter are put together, and a pass
+/// gives up where the tree does not pay.
 ///
 /// `ids` are its distinct ids, rising, as `qh_plane::distinct` gives them, and `cut` a cut of their
 /// positions, whose number is that of the ids; the list has at most `POINT_LIMIT` points. These are the caller's
@@ -97,7 +98,7 @@ pub fn run_hull<R: Threads + Sync, G: Gate>(
         return Err(RunError::BadWorkers);
     }
     let job = Job { pts, ids, cut };
-    let found = ids_by_tree(rt, alloc, job, workers, gate);
+    let found = ids_by_tree(rt, alloc, job.blocks_of(), workers, gate);
     let body = finished(alloc, pts, ids, &found, gate)?;
     Ok(hull_of_body(pts, ids, body))
 }

@@ -1,25 +1,16 @@
 -- States that events lead to.
-use Rattle.std.proofs.Common.{◌≡◌, ℕ, ◌+◌, ◌-◌, ◌*◌, ◌<◌, ◌≤◌, List, [], ◌∷◌, ◌++◌, length, sym, refl, ap, ◌∙◌, subst, arith}
+use Rattle.std.proofs.Common.{◌≡◌, ℕ, ◌+◌, ◌-◌, ◌*◌, ◌<◌, ◌≤◌, List, [], ◌∷◌, ◌++◌, length, refl, subst, arith}
 use Rattle.qh_model.specs.contract.BoardMachine.{Machine, start, Event, Can, after, run, CanRun, Reachable, settled, sum_to}
 use Rattle.qh_model.specs.steps.Endings.{ended}
 use Rattle.qh_model.proofs.board.Counts.{Counts, all_counts, counts_start, bounded, few_claims, counted}
 use Rattle.qh_model.proofs.board.{Grown.Consistent, Grown.starts, Histories.Ended, Histories.run_ended, Kept.all_good}
 
 module _ (B W : ℕ) where
-  more_runs : (m : Machine) (es : List Event) (e : Event) → CanRun B W m es → Can B W (run B W m es) e → CanRun B W m (es ++ e ∷ [])
-  more_runs m [] e ok can = (can, tt)
-  more_runs m (x ∷ es) e ok can = (ok.0, more_runs (after B W m x) es e ok.1 can)
-
-  more_run : (m : Machine) (es : List Event) (e : Event) → run B W m (es ++ e ∷ []) ≡ after B W (run B W m es) e
-  more_run m [] e = refl
-  more_run m (x ∷ es) e = more_run (after B W m x) es e
-
-  pub reach_more : (m : Machine) (e : Event) → Reachable B W m → Can B W m e → Reachable B W (after B W m e)
-  reach_more m e r can = (
-    r.0 ++ e ∷ [],
-    more_runs start r.0 e r.1 (subst (λ (z : Machine). Can B W z e) (sym r.2) can),
-    more_run start r.0 e ∙ ap (λ (z : Machine). after B W z e) r.2,
-  )
+  -- one event more, where it is possible
+  pub run_more : (m : Machine) (es : List Event) (e : Event) → CanRun B W m es → Can B W (run B W m es) e
+      → CanRun B W m (es ++ e ∷ []) × (run B W m (es ++ e ∷ []) ≡ after B W (run B W m es) e)
+  run_more m [] e ok can = ((can, tt), refl)
+  run_more m (x ∷ es) e ok can = let t = run_more (after B W m x) es e ok.1 can in ((ok.0, t.0), t.1)
 
   pub reach_good : (some : 0 < B) (m : Machine) → Reachable B W m → Consistent B W m
   reach_good some m r = subst (Consistent B W) r.2 (all_good B W some start r.0 (starts B W some) r.1)

@@ -4,7 +4,7 @@ ghost use Rattle.std.specs.List.{All};
 ghost use Rattle.qh_model.specs.contract.IdSets.{AreIndices};
 ghost use Rattle.qh_parts_join.specs.contract.Kept.{places_of, ArePlaced};
 
-use crate::Part;
+use crate::parts::Part;
 use qh_model::{Id, Point};
 use qh_places::Places;
 use std::alloc::{AllocError, Global};

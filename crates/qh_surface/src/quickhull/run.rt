@@ -6,7 +6,7 @@ ghost use Rattle.qh_surface.specs.steps.Cones.{IsFan};
 ghost use Rattle.qh_surface.specs.steps.Runs.{AreDone, IsGrown, IsUnderWay, IsPicked, IsRemade};
 ghost use Rattle.qh_surface.specs.steps.RunStates.{state_of};
 
-use crate::OutsideSets;
+use crate::outside_sets::OutsideSets;
 use crate::quickhull::cone_ring::{ConeRing, SCANNED};
 use crate::quickhull::planes::{SPARE, make_room, renew};
 use crate::quickhull::settling::{release, settle_orphans};

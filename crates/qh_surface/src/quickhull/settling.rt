@@ -11,7 +11,7 @@ ghost use Rattle.qh_surface.specs.steps.Runs.{IsSettling};
 ghost use Rattle.qh_surface.specs.steps.Settling.{IsAboveNone, IsOneSettled, AreReleased};
 ghost use Rattle.qh_surface.specs.steps.Cones.{AreWedges};
 
-use crate::OutsideSets;
+use crate::outside_sets::OutsideSets;
 use crate::quickhull::cone_ring::{ConeRing, SCANNED};
 use crate::quickhull::cone_search::Visibility;
 use qh_mesh::FacetNo;

@@ -5,7 +5,7 @@ ghost use Rattle.qh_model.specs.headline.Sets.{In};
 ghost use Rattle.qh_surface.specs.contract.OutsideSets.{set_of, listed};
 ghost use Rattle.qh_surface.specs.steps.Runs.{RunState, with_waiting, AreDone, IsUnderWay, IsPicked};
 
-use crate::OutsideSets;
+use crate::outside_sets::OutsideSets;
 use crate::quickhull::turns::Turns;
 use qh_mesh::FacetNo;
 use qh_model::Id;

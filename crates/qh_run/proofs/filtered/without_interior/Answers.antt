@@ -1,4 +1,4 @@
--- What the filter leaves stands for the job's ids, and is no longer.
+-- What the filter leaves stands for the set's ids, and is no longer.
 use Rattle.std.proofs.Common.{◌≤◌, length, ap, subst, sym}
 use Rattle.qh_model.specs.contract.Cut.{positions}
 use Rattle.qh_model.specs.headline.Predicates.{place}
@@ -9,18 +9,18 @@ use Rattle.qh_run.proofs.filtered.without_interior.Goals as goal
 
 pub bounds_among-requires-clause-few : goal.bounds_among-requires-clause-few
 bounds_among-requires-clause-few g c =
-    let job = c.args.job.now in
-    let rising = (rw (c.in-Some.is) at c.in_ok-ids.ensures.rising) job.rising in
-    let no_longer = once_within c.in-Some.ids.items job.ids.now (rising_once c.in-Some.ids.items rising) (rw (c.in-Some.is) at c.in_ok-ids.ensures.within) in
-    subst (λ n. n ≤ positions job.cut.now) (sym (ap length c.deref.ensures.value)) (subst (λ n. length c.in-Some.ids.items ≤ n) (sym job.whole) no_longer)
+    let set = c.args.set.now in
+    let rising = (rw (c.in-Some.is) at c.in_ok-ids.ensures.rising) set.rising in
+    let no_longer = once_within c.in-Some.ids.items set.ids.now (rising_once c.in-Some.ids.items rising) (rw (c.in-Some.is) at c.in_ok-ids.ensures.within) in
+    subst (λ n. n ≤ positions set.cut.now) (sym (ap length c.deref.ensures.value)) (subst (λ n. length c.in-Some.ids.items ≤ n) (sym set.whole) no_longer)
 
 pub returns-in-Ok-clause-part : goal.returns-in-Ok-clause-part
 returns-in-Ok-clause-part g c =
-    let job = c.args.job.now in
+    let set = c.args.set.now in
     let within = rw (c.in-Some.is) at c.in_ok-ids.ensures.within in
     record {
-      rising = (rw (c.in-Some.is) at c.in_ok-ids.ensures.rising) job.rising;
+      rising = (rw (c.in-Some.is) at c.in_ok-ids.ensures.rising) set.rising;
       within = within;
-      hull = λ b h. body_of_part (place job.pts.now) job.ids.now c.in-Some.ids.items b job.distinct within
+      hull = λ b h. body_of_part (place set.pts.now) set.ids.now c.in-Some.ids.items b set.distinct within
           (rw (c.in-Some.is) at c.in_ok-ids.ensures.extremes) h;
     }

@@ -1,5 +1,5 @@
 use Rattle.qh_model.proofs.hulls.ExtremeParts.{part_some}
-use Rattle.qh_run.proofs.job.Job.extremes_among.Goals as goal
+use Rattle.qh_run.proofs.blocks.Blocks.extremes_among.Goals as goal
 
 pub invariant_of-result : goal.invariant_of-result
 invariant_of-result c =

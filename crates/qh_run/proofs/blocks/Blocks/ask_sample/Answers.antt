@@ -1,7 +1,7 @@
 use Rattle.std.proofs.Common.{arith, subst, sym}
 use Rattle.std.proofs.lemmas.Grind.{common_steps}
 use Rattle.qh_model.specs.contract.IdSets.{AreIndices}
-use Rattle.qh_run.proofs.job.Job.ask_sample.Goals as goal
+use Rattle.qh_run.proofs.blocks.Blocks.ask_sample.Goals as goal
 
 pub extremes_unculled-requires-clause-indices : goal.extremes_unculled-requires-clause-indices
 extremes_unculled-requires-clause-indices c =

@@ -1,0 +1,115 @@
+//! Ids of distinct points that are cut into blocks, and their extreme ids.
+ghost use Rattle.std.specs.Prelude.{◌≡◌, ◌<◌, ◌+◌, IfOk, length};
+ghost use Rattle.std.specs.List.Sorted.{IsStrictlyIncreasing};
+ghost use Rattle.qh_model.specs.contract.BoardMachine.{InSpan};
+ghost use Rattle.qh_model.specs.contract.Cut.{block_count, positions};
+ghost use Rattle.qh_model.specs.contract.IdSets.{HasDistinctPoints, IsIdSet};
+ghost use Rattle.qh_model.specs.contract.RightValue.{RightValue};
+ghost use Rattle.qh_model.specs.headline.Hull.{AreExtremes};
+ghost use Rattle.qh_model.specs.headline.Predicates.{place};
+ghost use Rattle.qh_model.specs.headline.Sets.{Members};
+ghost use Rattle.qh_model.specs.contract.IdSets.{AreIndices};
+
+use crate::reduction::{Claimed, GivesUp, Reduction};
+use crate::unions::union;
+use qh_block::{TELLING, extremes_unculled, tree_pays};
+use qh_board::Spans;
+use qh_model::{Cut, Id, Point};
+use std::alloc::Global;
+
+/// Rising ids of distinct points, such as those that the interior filter leaves, and a cut of their positions.
+#[derive(Drop)]
+pub(crate) struct Blocks<'a> {
+    pub pts: &'a [Point],
+    pub ids: &'a [Id],
+    pub cut: &'a Cut,
+    ghost indices: { AreIndices pts.now ids.now },
+    ghost rising: { IsStrictlyIncreasing ids.now },
+    ghost distinct: { HasDistinctPoints (place pts.now) (Members ids.now) },
+    ghost whole: { positions cut.now ≡ length ids.now },
+}
+
+/// What is found for some blocks.
+#[derive(Drop)]
+pub struct Extremes {
+    /// The extreme ids of the blocks' ids, rising.
+    pub ids: Vec<Id>,
+    /// The number of ids that these blocks have.
+    pub among: usize,
+    ghost some: { 0 < length ids.items },
+}
+
+impl<'a> Spans for Blocks<'a> {
+    type Value = Extremes;
+
+    ghost right = { λ set span found. RightValue set.pts.now set.ids.now set.cut.now span found.ids.items };
+}
+
+impl<'a> Blocks<'a> {
+    /// Asks the first ids of a large block whether the tree pays, before a pass works at its first block.
+    fn ask_sample(&self, alloc: Global, block: &[Id]) -> Result<(), GivesUp>
+        requires { AreIndices self.now.pts.now block.now }
+    {
+        if block.len() > TELLING {
+            let (sample, _) = block.split_at(TELLING);
+            let found = extremes_unculled(alloc, self.pts, sample)?;
+            if !tree_pays(found.len(), TELLING) {
+                return Err(GivesUp);
+            }
+        }
+        Ok(())
+    }
+
+    /// Returns the extreme ids of a part of the ids, which has all that are extreme among `among` ids. Gives up if
+    /// their number shows that a tree does not pay.
+    fn extremes_among(&self, alloc: Global, part: &[Id], among: usize) -> Result<Extremes, GivesUp>
+        requires some { 0 < length part.now }
+        requires indices { AreIndices self.now.pts.now part.now }
+        requires set { IsIdSet self.now.pts.now part.now }
+        ensures { IfOk result (λ found. AreExtremes (place self.now.pts.now) (Members part.now) found.ids.items) }
+    {
+        let ids = extremes_unculled(alloc, self.pts, part)?;
+        if !tree_pays(ids.len(), among) {
+            return Err(GivesUp);
+        }
+        Ok(Extremes { ids, among })
+    }
+
+    /// Returns the extreme ids of a block. Gives up if their number shows that a tree does not pay.
+    fn reduced(&self, alloc: Global, block: u32) -> Result<Extremes, GivesUp>
+        requires { block < block_count self.now.cut.now }
+        ensures { IfOk result (λ found. RightValue self.now.pts.now self.now.ids.now self.now.cut.now
+            (InSpan (block_count self.now.cut.now) (block_count self.now.cut.now + block)) found.ids.items) }
+    {
+        let (from, to) = self.cut.block(block);
+        let ids = &self.ids[from as usize..to as usize];
+        self.extremes_among(alloc, ids, ids.len())
+    }
+}
+
+impl<'a> Reduction for Blocks<'a> {
+    ghost count = { λ set. block_count set.cut.now };
+
+    fn blocks(&self) -> u32 {
+        self.cut.blocks()
+    }
+
+    fn reduce(&self, alloc: Global, block: u32, claimed: Claimed) -> Result<Extremes, GivesUp> {
+        if claimed == Claimed::First {
+            let (from, to) = self.cut.block(block);
+            self.ask_sample(alloc, &self.ids[from as usize..to as usize])?;
+        }
+        self.reduced(alloc, block)
+    }
+
+    fn combine(
+        &self,
+        alloc: Global,
+        _node: u32,
+        even: Extremes,
+        odd: Extremes,
+    ) -> Result<Extremes, GivesUp> {
+        let both = union(alloc, &even.ids, &odd.ids)?;
+        self.extremes_among(alloc, &both, even.among.saturating_add(odd.among))
+    }
+}
