@@ -1,4 +1,4 @@
--- What a source gave of a file whose bytes are known.
+-- The bytes that a source read from a file whose bytes are known.
 use Rattle.std.proofs.Common.{◌≡◌, ◌∙◌, ℕ, ◌+◌, ◌<◌, List, ◌++◌, Option, Some, None, length, IfSome, arith, ap}
 use Rattle.std.specs.Io.KnownBytes.{Consumes}
 use Rattle.std.proofs.lemmas.List.{append-nil, length-append}
@@ -10,7 +10,7 @@ use Rattle.hullcheck.specs.contract.Checking.{IsCheckFault, IsJudgeFault}
 use Rattle.hullcheck.specs.contract.CommandLine.{Asked, asked_by}
 use Rattle.hullcheck.specs.contract.Judging.{IsWhole}
 
--- all bytes that a source gave to its end are those of the file
+-- all bytes that a source read to its end are those of the file
 pub all_of : {P : List ℕ → Type 0} (content remaining new : Option (List ℕ)) → IfSome content (λ known. remaining ≡ Some known)
     → GivesAll remaining new P → (bytes : List ℕ) × IsWhole content bytes × P bytes
 all_of None remaining new e gives = (gives.1.0, tt, gives.1.2)
@@ -19,7 +19,7 @@ all_of (Some known) remaining (Some rest) e gives =
     (gives.1.0, consumed ∙ ap (λ ys. gives.1.0 ++ ys) gives.0 ∙ append-nil gives.1.0, gives.1.2)
 all_of (Some known) remaining None e gives = absurd (rw e at gives.1.1)
 
--- and of bytes that came to be too many, the file has no fewer
+-- if too many bytes were read, the file has at least this number of bytes
 pub long_of : (content remaining new : Option (List ℕ)) → IfSome content (λ known. remaining ≡ Some known)
     → Gives remaining new (λ bytes. BYTE_LIMIT < length bytes) → IfSome content (λ known. BYTE_LIMIT < length known)
 long_of None remaining new e gives = tt
@@ -30,7 +30,7 @@ long_of (Some known) remaining (Some rest) e gives =
     omega arith
 long_of (Some known) remaining None e gives = absurd (rw e at gives.1)
 
--- so what keeps from a verdict on what was given keeps from one on the files
+-- so a fault that prevents a verdict on the bytes read also prevents one on the files
 pub judge_fault : (words : List (List ℕ)) (contents : Option (List ℕ) → Option (List ℕ)) (asked : Asked) (Failed ReadFailed : Type 0)
     (remaining new : Option (List ℕ)) (text : List ℕ) (f : Fault) → asked_by words ≡ Some asked
     → IfSome (contents asked.points) (λ known. remaining ≡ Some known) → IsWhole (contents asked.faces) text → (ReadFailed → Failed)

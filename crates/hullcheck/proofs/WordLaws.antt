@@ -1,4 +1,4 @@
--- What words of a command line ask, one after another.
+-- The settings that the words of a command line specify, word by word.
 use Rattle.std.proofs.Common.{◌≡◌, ℕ, ◌≤◌, Bool, true, false, List, [], ◌∷◌, Option, Some, None, length, arith, ap, sym, refl, codes}
 use Rattle.std.specs.Str.{all_ascii_digits, bytes_eq}
 use Rattle.std.specs.Str.Parse.{IsNumeral, digits_value, without_leading_plus}
@@ -22,7 +22,7 @@ number_of_workers word n h e low high =
     (and_from _ _ (le-leb 1 value (omega arith)) (le-leb value WORKER_LIMIT (omega arith))) in
     rw test (ap Some (sym e))
 
--- and nothing else is
+-- no other word is a number of workers
 pub no_workers : (word : List ℕ)
     → (IsNumeral 10 (without_leading_plus word) → 1 ≤ digits_value 10 (without_leading_plus word)
     → digits_value 10 (without_leading_plus word) ≤ WORKER_LIMIT → ⊥)
@@ -39,13 +39,13 @@ no_workers word h = by_test (is_number_of_workers (without_leading_plus word)) r
         absurd (h (ltb-true 0 (length digits) some, own.to digits all) (leb-true 1 value low) (leb-true value WORKER_LIMIT high))
     by_test false e = rw e refl
 
--- the word behind `--workers` is their number
+-- the word after `--workers` is their number
 pub number_behind : (asked : Asked) (word : List ℕ) (rest : List (List ℕ)) → bytes_eq word (codes "--workers") ≡ true
     → with_words asked (word ∷ rest) ≡ with_number asked rest
 number_behind asked word [] e = rw e refl
 number_behind asked word (next ∷ rest) e = rw e refl
 
--- any other word is taken before those behind it
+-- any other word is processed before those after it
 pub word_before : (asked : Asked) (word : List ℕ) (rest : List (List ℕ)) → bytes_eq word (codes "--workers") ≡ false
     → with_words asked (word ∷ rest) ≡ option_and_then (λ more. with_words more rest) (with_word asked word)
 word_before asked word [] e = rw e (alone (with_word asked word))

@@ -1,4 +1,4 @@
--- What public clauses cite: all that a reader of the program has to believe, beside qh_check and qh_read.
+-- Definitions that public clauses cite: all that a reader of the program has to believe, beside qh_check and qh_read.
 pub mod Checking
 pub mod CommandLine
 pub mod FaultTexts

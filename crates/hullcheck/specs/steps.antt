@@ -1,3 +1,3 @@
--- What private functions speak of: nothing to believe.
+-- Definitions that private functions cite: nothing to believe.
 pub mod Files
 pub mod Words

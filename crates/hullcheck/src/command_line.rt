@@ -18,11 +18,11 @@ pub struct Settings<'a> {
     pub reading: Reading,
     /// The file of points.
     pub points: Option<&'a str>,
-    /// The file of faces; `None` stands for standard input.
+    /// The file of faces, or `None` for standard input.
     pub faces: Option<&'a str>,
 }
 
-/// What the next word is.
+/// The meaning of the next word.
 #[derive(Clone, Copy, Debug, PartialEq, Eq)]
 enum Next {
     /// An option or a file.
@@ -31,7 +31,7 @@ enum Next {
     Workers,
 }
 
-/// Returns the number of workers that a word stands for.
+/// Returns the number of workers that a word denotes.
 fn workers_of(word: &str) -> Result<u32, Fault>
     ensures { MatchResult result (λ n. workers_in word.now ≡ Some n)
         (λ f. (f ≡ Usage) × (workers_in word.now ≡ None)) }
@@ -45,7 +45,7 @@ fn workers_of(word: &str) -> Result<u32, Fault>
     Ok(workers)
 }
 
-/// Returns true if a word begins with a minus, as options do.
+/// Returns true if a word begins with a minus sign, as options do.
 fn is_option(word: &str) -> bool
     ensures { result ≡ (slice_index word.now 0 == 45) }
 {
@@ -71,7 +71,7 @@ impl<'a> Settings<'a> {
         }
     }
 
-    /// Takes the name of a file: first that of the points, then that of the faces.
+    /// Records a file name: the first is the file of points, the second the file of faces.
     fn take_file(&mut self, word: &'a str) -> Result<(), Fault>
         ensures { MatchResult result (λ _. with_file (asked_in self.old) word.entry.now ≡ Some (asked_in self.new))
             (λ f. (f ≡ Usage) × (with_file (asked_in self.old) word.entry.now ≡ None)) }
@@ -87,7 +87,7 @@ impl<'a> Settings<'a> {
         Ok(())
     }
 
-    /// Takes an option that stands alone, or the name of a file.
+    /// Processes an option without a value, or a file name.
     fn take_word(&mut self, word: &'a str) -> Result<(), Fault>
         ensures { MatchResult result (λ _. with_word (asked_in self.old) word.entry.now ≡ Some (asked_in self.new))
             (λ f. (f ≡ Usage) × (with_word (asked_in self.old) word.entry.now ≡ None)) }
@@ -104,7 +104,7 @@ impl<'a> Settings<'a> {
         Ok(())
     }
 
-    /// Takes a word, and returns what the next one is.
+    /// Processes a word, and returns the meaning of the next one.
     fn take(&mut self, next: Next, word: &'a str) -> Result<Next, Fault>
         ensures { (rest : List (List ℕ)) → MatchResult result
             (λ more. with_next next (asked_in self.old) (word.entry.now ∷ rest) ≡ with_next more (asked_in self.new) rest)
@@ -119,11 +119,11 @@ impl<'a> Settings<'a> {
     }
 }
 
-/// Returns the settings that the words of a command line ask for; the first word is the name of the program.
+/// Returns the settings of a command line; the first word is the name of the program.
 ///
 /// # Errors
 ///
-/// `Usage` if the words are no command line.
+/// `Usage` if the command line is invalid.
 pub fn settings_of<'a>(words: &'a [String]) -> Result<Settings<'a>, Fault>
     ensures asked { MatchResult result (λ s. asked_by (map string_bytes words.entry.now) ≡ Some (asked_in s))
         (λ f. (f ≡ Usage) × (asked_by (map string_bytes words.entry.now) ≡ None)) }

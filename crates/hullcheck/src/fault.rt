@@ -11,7 +11,7 @@ use std::fmt;
 /// Why there is no verdict.
 #[derive(Clone, Copy, Debug, PartialEq, Eq)]
 pub enum Fault {
-    /// The words are no command line, or ask for help.
+    /// The command line is invalid, or is a request for help.
     Usage,
     /// An allocation failed.
     Memory,
@@ -25,7 +25,7 @@ pub enum Fault {
     Faces(ReadFault),
 }
 
-/// Returns the exit status where a file could not be read.
+/// Returns the exit status for a file that could not be read.
 fn read_status(fault: ReadFault) -> u8
     ensures { result ≡ read_fault_status fault }
 {
@@ -74,7 +74,7 @@ impl<T: Drop> From<AllocFailed<T>> for Fault {
     }
 }
 
-/// A fault of a file, as its line says it.
+/// A fault of a file, displayed as its line on standard error.
 #[derive(Drop)]
 struct Words(ReadFault);
 

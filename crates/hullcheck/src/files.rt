@@ -11,13 +11,14 @@ pub trait Files {
     /// An open file.
     type File: Source + Drop;
 
-    // The bytes of the file of a name, or for no name those of the standard input; `None` where the system doesn't tell them.
+    // The bytes of the named file, or of the standard input if there is no name; `None` if the system does not specify
+    // them.
     ghost contents: { Self → Option (List ℕ) → Option (List ℕ) };
 
-    // True once a call has failed, of this or of a file that was closed.
+    // True once a call has failed, of this value or of a file that was closed.
     ghost failed: { Self → Bool };
 
-    /// Opens the file of a name, which has not failed yet.
+    /// Opens the file with this name. The opened file has not failed yet.
     fn open(&mut self, name: &str) -> Result<Self::File, ErrorKind>
         ensures same { contents self.new ≡ contents self.old }
         ensures bytes { IfOk result (λ f. IfSome (contents self.old (Some name.now)) (λ known. Self.File.remaining f ≡ Some known)) }
@@ -31,7 +32,7 @@ pub trait Files {
         ensures kept { failed self.old ≡ true → failed self.new ≡ true }
         ensures failed { 0 < Self.File.failure_count file → failed self.new ≡ true };
 
-    /// Returns all bytes of the file of a name, or of the standard input if there is no name.
+    /// Returns all bytes of the named file, or of the standard input if there is no name.
     fn text(&mut self, alloc: Global, name: Option<&str>) -> Result<Vec<u8>, ErrorKind>
         ensures same { contents self.new ≡ contents self.old }
         ensures bytes { IfOk result (λ v. IfSome (contents self.old (option_map (λ w. w.now) name.entry)) (λ known. known ≡ v.items)) }

@@ -1,4 +1,4 @@
-//! The judgement on the faces in a text, for the points that a source gives.
+//! The judgement on the faces in a text, for the points of a source.
 ghost use Rattle.std.specs.Prelude.{◌≤◌, ◌<◌, ◌-◌, ◌^◌, IfErr, IfOk, length};
 ghost use Rattle.qh_model.specs.declared.limits.TheConstants.{POINT_LIMIT};
 ghost use Rattle.qh_read.specs.headline.SourceBytes.{GivesAll};
@@ -34,11 +34,11 @@ fn judge<R: Threads + Sync>(
     judge_faces(rt, alloc, pts, named, &faces.polygons, threads)
 }
 
-/// Returns the judgement on the faces in a text, for the points that a source gives, by at most `threads` threads.
+/// Returns the judgement on the faces in a text, for the points of a source, with at most `threads` threads.
 ///
 /// # Errors
 ///
-/// `Points` or `Faces` with the first fault of either, and `Memory` if an allocation failed.
+/// `Points` or `Faces` with the first fault of that input, and `Memory` if an allocation failed.
 pub fn check_streams<R: Threads + Sync, S: Source>(
     rt: &R,
     alloc: Global,

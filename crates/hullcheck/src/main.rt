@@ -1,8 +1,8 @@
-//! The program `hullcheck`: whether faces that any program wrote are the convex hull of points.
+//! The program `hullcheck`: checks whether faces, written by any program, are the convex hull of points.
 //!
-//! `command_line` says what is asked, `judging` reads points and faces and asks `judge_faces` of qh_check,
-//! `statuses` says with which status the program ends, and `program` runs this between words, `files` and lines for a
-//! person. `system` hands it those of the system.
+//! `command_line` parses the settings. `judging` reads points and faces and calls `judge_faces` of qh_check. `statuses`
+//! defines the exit statuses. `program` connects these to the words, the `files` and the output lines. `system`
+//! supplies those of the operating system.
 #![tactic(auto)]
 
 mod command_line;

@@ -1,4 +1,4 @@
-//! The program between the words of a command line, files, and lines for a person.
+//! The program, given the words of a command line, files, and devices for lines of text.
 ghost use Rattle.std.specs.Prelude.{◌≡◌, ◌≢◌, ◌⊎◌, ◌^◌, ◌-◌, ◌<◌, IfErr, IfOk, IfSome, Some, false, true, map, string_bytes};
 ghost use Rattle.std.specs.Option.{option_map};
 ghost use Rattle.std.specs.declared.io.ErrorKind.TheVariants.{OutOfMemory};
@@ -66,12 +66,12 @@ fn text_of<F: Files>(files: &mut F, alloc: Global, name: Option<&str>) -> Result
     }
 }
 
-/// Judges the faces that words name.
+/// Judges the faces that a command line names.
 ///
 /// # Errors
 ///
-/// `Usage` if the words are no command line, `Memory` if an allocation failed, `Device` if a file could not be opened
-/// or the faces could not be read, and `Points` or `Faces` with the first fault of either file.
+/// `Usage` if the command line is invalid, `Memory` if an allocation failed, `Device` if a file could not be opened or
+/// the faces could not be read, and `Points` or `Faces` with the first fault of that file.
 fn judge_words<R: Threads + Sync, F: Files>(
     rt: &R,
     alloc: Global,
@@ -98,7 +98,7 @@ fn judge_words<R: Threads + Sync, F: Files>(
     judged
 }
 
-/// Judges the faces that words name, where they could be read.
+/// Judges the faces that a command line names, if its words could be read.
 fn judge<R: Threads + Sync, F: Files>(
     rt: &R,
     alloc: Global,
@@ -114,7 +114,7 @@ fn judge<R: Threads + Sync, F: Files>(
     }
 }
 
-/// Writes the line of a fault, and returns the exit status.
+/// Writes the line of a fault, and returns its exit status.
 fn refuse<L: Lines>(errors: &mut L, fault: Fault) -> u8
     requires { L.count errors.old < 2 ^ 64 - 1 }
     ensures { let old : LineDevice = record { went = L.went errors.old; failures = L.count errors.old } in
@@ -125,7 +125,7 @@ fn refuse<L: Lines>(errors: &mut L, fault: Fault) -> u8
     fault.status()
 }
 
-/// Writes the line of a judgement or of a fault, and returns the exit status.
+/// Writes the line of a judgement or of a fault, and returns its exit status.
 fn end<O: Lines, L: Lines>(output: &mut O, errors: &mut L, judged: Result<Judgement, Fault>) -> u8
     requires output { O.count output.old < 2 ^ 64 - 1 }
     requires errors { L.count errors.old < 2 ^ 64 - 1 }
@@ -144,10 +144,10 @@ fn end<O: Lines, L: Lines>(output: &mut O, errors: &mut L, judged: Result<Judgem
     }
 }
 
-/// Judges the faces that the words of a command line name, writes the judgement or the fault, and returns the exit status.
+/// Judges the faces that a command line names, writes the judgement or the fault, and returns the exit status.
 ///
-/// The words come with the program's name first, or with why the system couldn't give them. The number of processors
-/// limits the threads, and changes nothing else.
+/// `words` are the words of the command line, the program's name first, or the reason why the system could not supply
+/// them. The number of processors only limits the threads.
 pub fn run<R: Threads + Sync, F: Files, O: Lines, L: Lines>(
     rt: &R,
     alloc: Global,

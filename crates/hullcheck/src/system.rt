@@ -72,7 +72,7 @@ fn words<R: Env + AllocGlobal>(rt: &R) -> Result<Vec<String>, ErrorKind> {
     }
 }
 
-/// Returns the number of processors that this process may use, or the greatest number if the system doesn't tell it.
+/// Returns the number of processors available to this process, or the greatest number if the system does not report it.
 fn processors<R: Threads>(rt: &R) -> usize {
     match available_parallelism(rt) {
         Ok(count) => count.get(),
@@ -80,7 +80,7 @@ fn processors<R: Threads>(rt: &R) -> usize {
     }
 }
 
-/// Runs the program between the command line, the files and the standard streams.
+/// Runs the program with the command line, the files and the standard streams of the system.
 pub fn start<R: Env + rt::Files + Input + Print + Eprint + AllocGlobal + Threads + Sync>(
     rt: &R,
 ) -> ExitCode {

@@ -1,4 +1,4 @@
-//! Worked rows: faces of a cube in files, and what the program makes of them.
+//! Worked rows: files with faces of a cube, and the results of the program.
 
 mod fakes;
 mod judgements;

@@ -1,4 +1,4 @@
--- Why a command line has no settings.
+-- The reasons why a command line has no settings.
 use Rattle.std.proofs.Common.{◌≡◌, ◌∙◌, ◌<◌, ap, sym, subst, refl, arith, ℕ, zero, suc, Bool, true, false, inl, inr, List, [], ◌∷◌, length, map, Option, codes}
 use Rattle.std.specs.Prelude.{slice_index_or}
 use Rattle.std.specs.Borrow.{Bor}
@@ -17,7 +17,7 @@ use Rattle.qh_serve.specs.headline.SettingsValue.{SettingsValue}
 use Rattle.qconvex.specs.contract.CommandLine.{AreOutsOf, AreSettingsIn, IsArgFaultOf, IsFormOf, IsProgram, NumberOf, word_of}
 use Rattle.qconvex.specs.steps.Matches.{AreSettingsFound, IsFindingFault, IsOutsFault, IsRefusalOf}
 
--- each of some outputs' words is that of an output
+-- each of the words of outputs is the word of an output
 pub word_at : (outs : List Out) (names : List (Bor Text)) (k : ℕ) (d : Bor Text)
     → map word_of outs ≡ map (λ w. w.now) names → k < length names
     → (out : Out) × (word_of out ≡ (slice_index_or names k d).now)
@@ -27,13 +27,13 @@ word_at (o ∷ os) [] k d e h = cc
 word_at (o ∷ os) (n ∷ ns) zero d e h = (o, cc)
 word_at (o ∷ os) (n ∷ ns) (suc k) d e h = let rest : map word_of os ≡ map (λ w. w.now) ns = cc in word_at os ns k d rest (omega arith)
 
--- the words of one word
+-- the words of a list with one word
 pub only_word : (names : List (Bor Text)) (d : Bor Text) → length names ≡ 1 → map (λ w. w.now) names ≡ (slice_index_or names 0 d).now ∷ []
 only_word [] d h = absurd (omega arith)
 only_word (n ∷ []) d h = refl
 only_word (n ∷ m ∷ ns) d h = absurd (omega arith)
 
--- what is found in the matches of the words is what the words say
+-- the values in the matches of the words are those that the words specify
 pub found_in : (app : App) (words : List Text) (found : Found) → rows_of found ≡ matches_of app words
     → (s : SettingsValue) → AreSettingsFound found s → AreSettingsIn app words s
 found_in app words found rows s h = record {
@@ -43,7 +43,7 @@ found_in app words found rows s h = record {
   form = subst (λ (t : Option (List Text)). IsFormOf t s.form) (raw_values-rows found (codes "from") ∙ ap (all_of (codes "from")) rows) h.form;
 }
 
--- and the other way round
+-- and conversely
 said_found : (app : App) (words : List Text) (found : Found) → rows_of found ≡ matches_of app words
     → (s : SettingsValue) → AreSettingsIn app words s → AreSettingsFound found s
 said_found app words found rows s h = record {
@@ -53,20 +53,20 @@ said_found app words found rows s h = record {
   form = subst (λ (t : Option (List Text)). IsFormOf t s.form) (sym (raw_values-rows found (codes "from") ∙ ap (all_of (codes "from")) rows)) h.form;
 }
 
--- a fault of the matches is one of the words
+-- a fault of the matches is a fault of the words
 pub unfound : (app : App) (words : List Text) (found : Found) → IsProgram app → rows_of found ≡ matches_of app words
     → (f : ArgFault) → IsFindingFault found f → IsArgFaultOf words f
 unfound app words found is rows (Help text) h = absurd h
 unfound app words found is rows Usage h = (app, is, inr (λ s g. h s (said_found app words found rows s g)))
 unfound app words found is rows Memory h = tt
 
--- a fault of the outputs is one of the matches
+-- a fault of the outputs is a fault of the matches
 pub no_outs : (found : Found) (f : ArgFault) → IsOutsFault (option_map raw_values (matched_of found (codes "outs"))) f → IsFindingFault found f
 no_outs found (Help text) h = absurd h
 no_outs found Usage h = λ s g r. h s.outs g.outs
 no_outs found Memory h = tt
 
--- an error of clap: help is what the words ask for; else clap refuses them, unless an allocation failed
+-- an error of clap: the words request help; else clap refuses them, or an allocation failed
 pub refusal : (app : App) (words : List Text) (e : Error) → IsProgram app → HasKind (fault_of app words) e → (takes app words ≡ true → kind_of e ≡ OutOfMemory)
     → (f : ArgFault) → IsRefusalOf (kind_of e) f → IsArgFaultOf words f
 refusal app words e is kinds passes (Help text) h = (app, is, among kinds)

@@ -1,2 +1,2 @@
--- What private functions speak of: nothing to believe.
+-- Definitions that private functions cite: nothing to believe.
 pub mod Matches

@@ -1,4 +1,4 @@
-//! The words of a command line, judged by clap.
+//! The words of a command line, parsed by clap.
 ghost use Rattle.std.specs.Prelude.{◌≡◌, ◌≢◌, ◌<◌, ◌^◌, ℕ, [], ◌∷◌, false, map, IfOk, IfErr, IfSome, IfNone, string_bytes};
 ghost use Rattle.std.specs.Option.{option_map};
 ghost use Rattle.clap.specs.Words.{app_of, kind_of, rule_of, found_of, one_text};
@@ -23,7 +23,7 @@ use std::alloc::{AllocError, Global};
 /// Why a command line gives no settings.
 #[derive(Debug, Drop)]
 pub enum ArgFault {
-    /// The help text was asked for; this is it.
+    /// The help text, which the command line requests.
     Help(String),
     /// The command line is invalid.
     Usage,
@@ -31,10 +31,10 @@ pub enum ArgFault {
     Memory,
 }
 
-/// The words of the outputs.
+/// The words that name outputs.
 static NAMES: [&str; 5] = ["rank", "s", "Fx", "off", "offt"];
 
-/// Returns the parser of whole numbers from 1 to a limit.
+/// Returns a parser of whole numbers from 1 to a limit.
 fn up_to<'a>(limit: u32) -> ValueParser<'a>
     requires { 0 < limit }
     ensures { result ≡ from_one_to limit }
@@ -56,7 +56,7 @@ fn number_arg<'a>(alloc: Global, name: &'a str, default: &'a str, limit: u32) ->
         .value_parser(up_to(limit))
 }
 
-/// The words of the forms.
+/// The words that name forms.
 static FORMS: [&str; 2] = ["qhull", "off"];
 
 /// Returns the option `--from FORM`.
@@ -72,7 +72,7 @@ fn from_arg<'a>(alloc: Global) -> Arg<'a>
         .value_parser(FORMS.as_slice())
 }
 
-/// Returns the words OUT, which may stand between options.
+/// Returns the positional words OUT, which may be placed between options.
 fn outs_arg<'a>(alloc: Global) -> Arg<'a>
     ensures rule { (p : _) × (words_taken p ≡ map word_of (Rank ∷ Summary ∷ Fx ∷ Off ∷ OffTriangles ∷ [])) × (rule_of result ≡ outs_rule p) }
     ensures local { result.global ≡ false }
@@ -95,7 +95,7 @@ fn command<'a>(alloc: Global) -> Result<Command<'a>, AllocError>
         .arg(outs_arg(alloc))
 }
 
-/// Returns the output of a word.
+/// Returns the output that a word names.
 fn out_of(name: &str) -> Option<Out>
     ensures some { IfSome result (λ out. word_of out ≡ name.now) }
     ensures none { IfNone result ((out : Out) → word_of out ≢ name.now) }
@@ -110,7 +110,7 @@ fn out_of(name: &str) -> Option<Out>
     }
 }
 
-/// Returns the outputs of the words, or the summary if there are no words.
+/// Returns the outputs that the words name, or the summary if there are no words.
 fn outs_of(alloc: Global, names: Option<&[&str]>) -> Result<Vec<Out>, ArgFault>
     ensures outs { IfOk result (λ v. AreOutsOf (option_map (λ s. map (λ w. w.now) s.now) names.entry) v.items) }
     ensures fault { IfErr result (IsOutsFault (option_map (λ s. map (λ w. w.now) s.now) names.entry)) }
@@ -129,7 +129,7 @@ fn outs_of(alloc: Global, names: Option<&[&str]>) -> Result<Vec<Out>, ArgFault>
     Ok(outs)
 }
 
-/// Returns the form of a word.
+/// Returns the form that a word names.
 fn form_named(name: &str) -> Option<Form>
     ensures some { IfSome result (λ form. form_word form ≡ name.now) }
     ensures none { IfNone result ((form : Form) → form_word form ≢ name.now) }
@@ -141,7 +141,7 @@ fn form_named(name: &str) -> Option<Form>
     }
 }
 
-/// Returns the form of the words, where there is one word.
+/// Returns the form that the words name, if there is exactly one word.
 fn form_of(names: Option<&[&str]>) -> Option<Form>
     ensures some { IfSome result (λ form. IsFormOf (option_map (λ s. map (λ w. w.now) s.now) names.entry) form) }
     ensures none { IfNone result ((form : Form) → ¬ (IsFormOf (option_map (λ s. map (λ w. w.now) s.now) names.entry) form)) }
@@ -155,7 +155,7 @@ fn form_of(names: Option<&[&str]>) -> Option<Form>
     form_named(names[0])
 }
 
-/// Returns what stands for an error of clap.
+/// Returns the fault that corresponds to an error of clap.
 fn refused(alloc: Global, error: &Error) -> ArgFault
     ensures { IsRefusalOf (kind_of error.now) result }
 {
@@ -177,7 +177,7 @@ fn number(matches: &ArgMatches, id: &str) -> Option<u32>
     matches.get_one::<u32>(id)
 }
 
-/// Returns the settings that matched words say.
+/// Returns the settings in matched words.
 fn settings_from(alloc: Global, matches: &ArgMatches) -> Result<Settings, ArgFault>
     ensures found { IfOk result (AreSettingsFound (found_of matches.now)) }
     ensures fault { IfErr result (IsFindingFault (found_of matches.now)) }
@@ -203,7 +203,7 @@ fn settings_from(alloc: Global, matches: &ArgMatches) -> Result<Settings, ArgFau
     }
 }
 
-/// Returns the settings that these words ask for.
+/// Returns the settings that these words specify.
 fn settings_in<'a>(alloc: Global, words: &'a [String]) -> Result<Settings, ArgFault>
     ensures settings { IfOk result (AreSettingsOf (map string_bytes words.entry.now)) }
     ensures fault { IfErr result (IsArgFaultOf (map string_bytes words.entry.now)) }
@@ -217,12 +217,12 @@ fn settings_in<'a>(alloc: Global, words: &'a [String]) -> Result<Settings, ArgFa
     }
 }
 
-/// Returns the settings that a command line asks for; the first word is the program's name.
+/// Returns the settings that a command line specifies; the first word is the program's name.
 ///
 /// # Errors
 ///
-/// `Help` with the help text if it is asked for, `Usage` if the command line is invalid, and `Memory` if an allocation
-/// failed.
+/// `Help` with the help text if the command line requests it, `Usage` if the command line is invalid, and `Memory` if
+/// an allocation failed.
 pub fn settings_of(alloc: Global, words: Vec<String>) -> Result<Settings, ArgFault>
     ensures settings { IfOk result (AreSettingsOf (map string_bytes words.items)) }
     ensures fault { IfErr result (IsArgFaultOf (map string_bytes words.items)) }

@@ -1,6 +1,6 @@
 //! The help text.
 
-/// What `--help` prints; the manual page is made of it, too (`scripts/make/man_page.py`).
+/// The text that `--help` prints. The manual page is made from it, too (`scripts/make/man_page.py`).
 pub const HELP: &str = "qconvex 0.2.0: the exact convex hull of whole-number points in space
 
 Usage: qconvex [--from FORM] [--workers N] [--block N] [OUT]...

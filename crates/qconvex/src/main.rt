@@ -1,7 +1,7 @@
-//! The program `qconvex`: reads points, writes the outputs that are asked for.
+//! The program `qconvex`: reads points and writes the requested outputs.
 //!
-//! `command_line` says what is wanted, `help` what there is, and `program` runs `serve` of qh_serve between
-//! words, a source and two sinks. `system` hands it those of the system.
+//! `command_line` parses the settings, and `help` has the help text. `program` runs `serve` of qh_serve between words,
+//! a source and two sinks. `system` supplies those of the operating system.
 #![tactic(auto)]
 
 mod command_line;

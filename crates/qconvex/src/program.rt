@@ -1,4 +1,4 @@
-//! The program between the words of a command line, a source of points and a sink of texts.
+//! The program, given the words of a command line, a source of points and a sink of texts.
 ghost use Rattle.std.specs.Prelude.{◌≡◌, ◌≢◌, ◌-◌, ◌^◌, ◌<◌, map, string_bytes};
 ghost use Rattle.std.specs.declared.io.ErrorKind.TheVariants.{OutOfMemory};
 ghost use Rattle.qconvex.specs.contract.Outcomes.{IsOutcome, devices};
@@ -14,8 +14,7 @@ use std::alloc::Global;
 use std::io::ErrorKind;
 use std::thread::Threads;
 
-/// Returns why words that could not be read give no settings: out of memory, or a word is not
-/// UTF-8.
+/// Returns the fault of words that could not be read: out of memory, or a word is not UTF-8.
 fn unread(kind: ErrorKind) -> ArgFault
     ensures memory { kind ≡ OutOfMemory → result ≡ Memory }
     ensures usage { kind ≢ OutOfMemory → result ≡ Usage }
@@ -26,7 +25,7 @@ fn unread(kind: ErrorKind) -> ArgFault
     }
 }
 
-/// Returns the settings that words ask for on this number of processors, where the words could be read.
+/// Returns the settings of a command line for this number of processors, if its words could be read.
 fn asked(
     alloc: Global,
     words: Result<Vec<String>, ErrorKind>,
@@ -40,8 +39,8 @@ fn asked(
     }
 }
 
-/// Serves the devices if a command line has settings, sends the help text if it asks for that, and else returns why it
-/// has no settings.
+/// Serves the devices if a command line has settings. Else sends the help text if that is requested, or returns why
+/// there are no settings.
 pub fn respond<R: Threads + Sync, S: Source, K: Sink>(
     rt: &R,
     alloc: Global,
@@ -93,11 +92,11 @@ fn end<L: Lines>(errors: &mut L, outcome: Result<(), Fault>) -> u8
     }
 }
 
-/// Judges the words of a command line, serves the source and the sink or writes the help text, and returns the exit
-/// status: 0, or that of the fault whose line went to the errors.
+/// Parses the words of a command line, serves the source and the sink or writes the help text, and returns the exit
+/// status: 0, or that of the fault whose line was written to the errors.
 ///
-/// The words come with the program's name first, or with why the system couldn't give them. The number of processors
-/// limits the threads, and changes nothing else.
+/// `words` are the words of the command line, the program's name first, or the reason why the system could not supply
+/// them. The number of processors only limits the threads.
 pub fn run<R: Threads + Sync, S: Source, K: Sink, L: Lines>(
     rt: &R,
     alloc: Global,

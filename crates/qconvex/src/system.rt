@@ -17,7 +17,7 @@ fn words<R: Env + AllocGlobal>(rt: &R) -> Result<Vec<String>, ErrorKind> {
     }
 }
 
-/// Returns the number of processors that this process may use, or the greatest number if the system doesn't tell it.
+/// Returns the number of processors available to this process, or the greatest number if the system does not report it.
 fn processors<R: Threads>(rt: &R) -> usize {
     match available_parallelism(rt) {
         Ok(count) => count.get(),
@@ -25,7 +25,7 @@ fn processors<R: Threads>(rt: &R) -> usize {
     }
 }
 
-/// Runs the program between the command line and the standard streams.
+/// Runs the program with the command line and the standard streams of the system.
 pub fn start<R: Env + Input + Print + Eprint + AllocGlobal + Threads + Sync>(rt: &R) -> ExitCode {
     let (mut source, mut sink) = (StdSource::new(rt.reader()), StdSink::new(io::writer(rt)));
     let mut errors = ErrorLines::new(rt);

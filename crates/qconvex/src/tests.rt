@@ -1,5 +1,5 @@
-//! What needs the command line: its settings and faults, and the program over streams that stand in for the standard
-//! ones. The rows of `answer` and `serve` stand in `qh_tests_serve`.
+//! Tests of the command line: its settings and faults, and the program over fake streams. The rows of `answer` and
+//! `serve` are in `qh_tests_serve`.
 
 mod command_lines;
 mod programs;

@@ -1,4 +1,4 @@
--- The lists of fans: made face by face they are those of all triangles, and each has three numbers a triangle.
+-- The lists of fans: made face by face they equal those of all triangles, and each has three numbers for each triangle.
 use Rattle.std.proofs.Common.{ℕ, ℤ, ◌≡◌, ◌*◌, ◌/◌, ◌<◌, List, [], ◌∷◌, ◌++◌, length, slice_index_or, take, drop, arith}
 use Rattle.std.proofs.Common.{ap, sym, subst, refl, ◌∙◌, ◌⊎◌, inl, inr}
 use Rattle.std.proofs.lemmas.{Grind.flat_map-append, List.append_assoc, List.length-append}
@@ -25,13 +25,13 @@ pub corners_by_face : (qs : List (List ℕ)) → flat_map face_corners qs ≡ co
 corners_by_face [] = refl
 corners_by_face (q ∷ qs) = ap (λ t. face_corners q ++ t) (corners_by_face qs) ∙ sym (corners_of-append (face_triangles q) (triangles_of qs))
 
--- their normals
+-- the normals of the triangles of all faces
 pub normals_by_face : (at : ℕ → Vector) (qs : List (List ℕ)) → flat_map (face_normals at) qs ≡ flat_map (normal_of at) (triangles_of qs)
 normals_by_face at [] = refl
 normals_by_face at (q ∷ qs) = ap (λ t. face_normals at q ++ t) (normals_by_face at qs)
     ∙ sym (flat_map-append (normal_of at) (face_triangles q) (triangles_of qs))
 
--- a list of three is that of its elements
+-- a list of length three is the list of its elements
 pub three_of : (t : List ℕ) (a b c : ℕ) → length t ≡ 3 → t ≡ slice_index_or t 0 a ∷ slice_index_or t 1 b ∷ slice_index_or t 2 c ∷ []
 three_of [] a b c e = absurd (omega arith)
 three_of (u ∷ []) a b c e = absurd (omega arith)
@@ -64,11 +64,11 @@ module _ {X : Type 0} (f : List ℕ → List X) (three : (u v w : ℕ) → lengt
       let rest = length-faces qs in
       omega (arith, joined, all, triangles, face, rest)
 
--- so is that of their corners
+-- the length of the list of their corners
 length-corners : (qs : List (List ℕ)) → length (corners_of (triangles_of qs)) ≡ 3 * length (triangles_of qs)
 length-corners qs = ap length (corners_are (triangles_of qs)) ∙ length-faces (λ t. t) (λ u v w. refl) qs
 
--- and that of their normals
+-- the length of the list of their normals
 length-normals : (at : ℕ → Vector) (qs : List (List ℕ)) → length (flat_map (normal_of at) (triangles_of qs)) ≡ 3 * length (triangles_of qs)
 length-normals at qs = length-faces (normal_of at) (λ u v w. refl) qs
 
@@ -76,7 +76,7 @@ length-normals at qs = length-faces (normal_of at) (λ u v w. refl) qs
 pub third : (m n k : ℕ) → m ≡ 3 * n → k ≡ m / 3 → k ≡ n
 third m n k e f = omega (arith, e, f)
 
--- faces that name extreme ids alone name indices of points
+-- faces that name only extreme ids name only indices of points
 pub faces_within : (pts : List Vector) (extremes : List ℕ) (qs : List (List ℕ)) → AreIndices pts extremes → IsBodyInOrder extremes qs → All (AreIndices pts) qs
 faces_within pts extremes qs within order =
     All-of (AreIndices pts) qs (λ q m. All-of (λ i. i < length pts) q (λ i n. All-In (λ k. k < length pts) extremes i within (order.named q m i n)))
@@ -123,7 +123,7 @@ module _ (pts : List Vector) (count : ℕ) (ts : List ℕ) (ns : List ℤ) (f : 
     triangle_normals = ap (λ k. take k nb) (sym normals_len) ∙ n ∙ f.triangle_normals;
   }
 
-  -- what stands behind them
+  -- the elements after them
   pub fans_rest : (tb tb' : List ℕ) (nb nb' : List ℤ) → (drop (length ts) tb' ≡ drop (length ts) tb) × (drop (length ns) nb' ≡ drop (length ns) nb)
       → (drop (3 * count) tb' ≡ drop (3 * count) tb) × (drop (3 * count) nb' ≡ drop (3 * count) nb)
   fans_rest tb tb' nb nb' (t, n) = (subst (λ k. drop k tb' ≡ drop k tb) triangles_len t, subst (λ k. drop k nb' ≡ drop k nb) normals_len n)

@@ -4,12 +4,12 @@ use Rattle.qh_model.specs.headline.Vector.{Vector}
 use Rattle.qconvex_c.specs.contract.{Flat.ends_from, Flat.IsFlatHull, Answered.IsAnswered, Answered.NeedsRoom}
 use Rattle.qconvex_c.specs.declared.sizes.Sizes.{Sizes}
 
--- one end for each face
+-- the number of ends is the number of faces
 length-ends : (n : ℕ) (qs : List (List ℕ)) → length (ends_from n qs) ≡ length qs
 length-ends n [] = refl
 length-ends n (q ∷ qs) = let e = length-ends (n + length q) qs in omega (arith, e)
 
--- what stands behind n in a buffer that ends as another
+-- the elements after n in a buffer that ends as another
 pub rest_of : (n : ℕ) (xs ys zs : List ℕ) → xs ≡ ys → drop n ys ≡ drop n zs → drop n xs ≡ drop n zs
 rest_of n xs ys zs e h = ap (drop n) e ∙ h
 
@@ -27,7 +27,7 @@ module _ (pts : List Vector) (s : Sizes) (es os cs : List ℕ) (f : IsFlatHull p
   corners_len : length cs ≡ s.corners
   corners_len = ap length f.face_corners ∙ sym f.sizes.corners
 
-  -- buffers that end as what was filled
+  -- buffers that end as the filled ones
   pub filled : (eb ob cb eb' ob' cb' : List ℕ) → eb' ≡ eb → ob' ≡ ob → cb' ≡ cb
       → take (length es) eb ≡ es → take (length os) ob ≡ os → take (length cs) cb ≡ cs → IsAnswered pts s eb' ob' cb'
   filled eb ob cb eb' ob' cb' se so sc e o c = record {

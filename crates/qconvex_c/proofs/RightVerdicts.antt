@@ -1,4 +1,4 @@
--- A verdict says that faces are right exactly where they are the surface of the hull.
+-- A verdict is `RIGHT` exactly if the faces are the surface of the hull.
 use Rattle.std.proofs.Common.{◌≡◌, ◌↔◌, ◌∙◌, ℕ, ◌<◌, List, [], length, get_or, arith, refl, ap, sym, subst}
 use Rattle.std.proofs.lemmas.List.{ext_get_or}
 use Rattle.qh_model.specs.contract.IdSets.{HasDistinctPoints}
@@ -14,32 +14,32 @@ use Rattle.qh_check.specs.declared.judgement.Judgement.TheVariants.{Told, Strang
 use Rattle.qconvex_c.specs.contract.{Checked.AreFacesIn, Checked.AreHullFaces, Checked.IsVerdictOn, Checked.verdict_of, Codes.QCONVEX_RIGHT}
 use Rattle.qconvex_c.specs.declared.verdict.Verdict.{Verdict}
 
--- the faces in one list of corners are one list
+-- the faces in a list of corners are unique
 one_cut : (offsets corners : List ℕ) (fs gs : List (List ℕ)) → AreFacesIn offsets corners fs → AreFacesIn offsets corners gs → fs ≡ gs
 one_cut offsets corners fs gs a b =
     let count = a.count in
     ext_get_or [] fs gs (a.count ∙ sym b.count) (λ j l. a.each j (omega (arith, l, count)) ∙ sym (b.each j (omega (arith, l, count))))
 
 module _ (pts : List Vector) (ids : List ℕ) (named : List Vector) (apart : HasDistinctPoints (place pts) (Members ids)) where
-  -- a number stands for one id
+  -- a number names only one id
   one_id : (number i j : ℕ) → IsNamed pts ids named number i → IsNamed pts ids named number j → i ≡ j
   one_id number i j (l, (m, e)) (l', (n, f)) = apart i j m n (e ∙ sym f)
 
-  -- a face for one polygon
+  -- a face names only one polygon
   one_named : (numbers q r : List ℕ) → AreNamed pts ids named numbers q → AreNamed pts ids named numbers r → q ≡ r
   one_named numbers q r a b =
       let count = a.count in
       ext_get_or 0 q r (a.count ∙ sym b.count) (λ k l. (let below : k < length numbers = omega (arith, l, count) in
       one_id (get_or numbers k 0) (get_or q k 0) (get_or r k 0) (a.each k below) (b.each k below)))
 
-  -- and faces for one list of polygons
+  -- faces name only one list of polygons
   pub one_list : (faces qs rs : List (List ℕ)) → AreNamedFaces pts ids named faces qs → AreNamedFaces pts ids named faces rs → qs ≡ rs
   one_list faces qs rs a b =
       let count = a.count in
       ext_get_or [] qs rs (a.count ∙ sym b.count) (λ k l. (let below : k < length faces = omega (arith, l, count) in
       one_named (get_or faces k []) (get_or qs k []) (get_or rs k []) (a.each k below) (b.each k below)))
 
--- faces with a stranger stand for no polygons
+-- faces with a stranger name no polygons
 no_stranger : (pts : List Vector) (ids : List ℕ) (named : List Vector) (faces qs : List (List ℕ)) (n : ℕ)
     → AreDistinctIds pts ids → AreNamedFaces pts ids named faces qs → IsStrangeFace pts named faces n → ⊥
 no_stranger pts ids named faces qs n d a s =
@@ -50,7 +50,7 @@ no_stranger pts ids named faces qs n d a s =
     strange (subst (λ x. x < length named) at low) (get_or (get_or qs n []) k 0)
     (subst (λ xs. Members xs (get_or (get_or qs n []) k 0)) (sym same) there) (e ∙ ap (place named) at)
 
--- only `Right` has the number of what is right
+-- only `Right` has the kind `QCONVEX_RIGHT`
 right_kind : (j : Judgement) → (verdict_of j).kind ≡ QCONVEX_RIGHT → j ≡ Told Right
 right_kind (Told Right) e = refl
 right_kind (Told OtherPolygons) e = absurd (omega (arith, e))
@@ -62,7 +62,7 @@ right_kind (Told (Twice u v)) e = absurd (omega (arith, e))
 right_kind (Stranger n) e = absurd (omega (arith, e))
 
 module _ (pts : List Vector) (offsets corners : List ℕ) (v : Verdict) (is : IsVerdictOn pts offsets corners v) where
-  -- faces that are told right are the surface
+  -- faces that are judged right are the surface
   told_right : IsTold pts pts is.faces Right → AreHullFaces pts offsets corners
   told_right t = record {
     faces = is.faces;
@@ -74,7 +74,7 @@ module _ (pts : List Vector) (offsets corners : List ℕ) (v : Verdict) (is : Is
     surface = t.right.0 refl;
   }
 
-  -- and of the surface nothing else is told
+  -- the surface has no other judgement
   right_told : AreHullFaces pts offsets corners → (j : Judgement) → IsJudgement pts pts is.faces j → j ≡ Told Right
   right_told h (Stranger n) s =
       absurd (no_stranger pts h.ids pts is.faces h.polygons n h.distinct

@@ -1,4 +1,4 @@
--- The hulls of sets, as they are written one after the other.
+-- The hulls of sets, written one after the other.
 use Rattle.std.proofs.Common.{◌≡◌, ℕ, ◌+◌, ◌*◌, ◌-◌, ◌≤◌, ◌<◌, ◌≢◌, zero, suc, List, length, take, drop}
 use Rattle.std.proofs.Common.{slice_index, slice_index_or, slice_set, get_or-set_same, get_or-set_other, below_more}
 use Rattle.std.proofs.Common.{arith, ap, sym, subst, ◌∙◌}
@@ -10,11 +10,11 @@ use Rattle.qconvex_c.specs.contract.Sets.{AreStarts, HaveRoom, IsSetHull, HasSet
 use Rattle.qconvex_c.specs.{contract.Sets.sets_in, contract.Sets.offsets_start, contract.Sets.corners_start, declared.set_answer.SetAnswer.SetAnswer}
 use Rattle.qconvex_c.specs.declared.sets.Set.{Set}
 
--- equal places have equal starts
+-- equal positions have equal starts
 ap_le : (starts : List ℕ) {i j : ℕ} → i ≡ j → slice_index starts i ≤ slice_index starts j
 ap_le starts {i} e = subst (λ n. slice_index starts i ≤ slice_index starts n) e (omega arith)
 
--- starts rise from any to any later one
+-- a start is at most any later one
 pub rising_on : (count : ℕ) (starts : List ℕ) → AreStarts count starts → (j k : ℕ)
     → j + k < length starts → slice_index starts j ≤ slice_index starts (j + k)
 rising_on count starts are j zero h = let same : j ≡ j + 0 = omega arith in ap_le starts same
@@ -55,7 +55,7 @@ fits_part starts count answers extremes offsets corners are room i h =
       corners_fit = omega (arith, last, room_c);
     }
 
--- the same hull, where the parts are the same
+-- equal parts have the same hull
 same_hull : (pts : List Vector) (a : SetAnswer) (e e' f o o' p c c' d : List ℕ) → e' ≡ f → o' ≡ p → c' ≡ d
     → IsSetHull pts a e f o p c d → IsSetHull pts a e e' o o' c c'
 same_hull pts a e e' f o o' p c c' d se so sc h =
@@ -69,7 +69,7 @@ same_before pts a e e' f o o' p c c' d se so sc h =
     (subst (λ t. IsSetHull pts a e' f t p c d) so (subst (λ t. IsSetHull pts a e' f o' p t d) sc h))
 
 module _ (pts : List Vector) (starts : List ℕ) (count : ℕ) (are : AreStarts count starts) (e e' o o' c c' : List ℕ) where
-  -- the hull of a set stays while later sets are written
+  -- the hull of a set is unchanged while later sets are written
   pub hull_stays : (f p d : List ℕ) (j i : ℕ) (a : SetAnswer) → HasSetHull pts starts j a e e' o o' c c' → j < i → i < length starts
       → take (slice_index starts i) f ≡ take (slice_index starts i) e'
       → take (offsets_start starts i) p ≡ take (offsets_start starts i) o'
@@ -88,7 +88,7 @@ module _ (pts : List Vector) (starts : List ℕ) (count : ℕ) (are : AreStarts 
             has.hull;
       }
 
-  -- the hull of a set that was just written where nothing was written before
+  -- the hull of a set is written where nothing was written before
   pub hull_written : (f p d : List ℕ) (i : ℕ) (a : SetAnswer)
       → drop (slice_index starts i) e' ≡ drop (slice_index starts i) e
       → drop (offsets_start starts i) o' ≡ drop (offsets_start starts i) o
@@ -112,11 +112,11 @@ pub record WrittenSoFar (pts : List Vector) (starts : List ℕ) (n : ℕ) (answe
   pub offsets_kept : AreKeptBetween (2 * slice_index starts 0) (offsets_start starts n) o o'
   pub corners_kept : AreKeptBetween (6 * slice_index starts 0) (corners_start starts n) c c'
 
--- set i as the program names it
+-- the set i, as the program represents it
 abbrev set_of : List ℕ → ℕ → Set
 set_of starts i = record { number = i; begin = slice_index starts i; end = slice_index starts (i + 1) }
 
--- its parts of the buffers
+-- the parts of the buffers of a set
 abbrev IsHullIn : List Vector → SetAnswer → (e f o p c d : List ℕ) → Set → Type 0
 IsHullIn pts a e f o p c d s = IsSetHull (slice_range pts s.begin s.end) a
     (slice_range e s.begin s.end) (slice_range f s.begin s.end)

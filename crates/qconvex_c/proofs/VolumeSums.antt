@@ -7,7 +7,7 @@ use Rattle.std.specs.{Int.w128, Prelude.FitsSigned}
 use Rattle.qh_model.specs.headline.{Predicates.vol, Vector.Vector}
 use Rattle.qconvex_c.specs.contract.Volumes.{six_volumes, PartialSumsFit}
 
--- the three corners of triangle k stand before those of the next ones
+-- the three corners of triangle k come before those of the next ones
 pub next_three : (xs : List ℕ) (k : ℕ) → k < length xs / 3
     → drop (3 * k) xs ≡ get_or xs (3 * k) 0 ∷ get_or xs (3 * k + 1) 0 ∷ get_or xs (3 * k + 2) 0 ∷ drop (3 * (k + 1)) xs
 next_three xs k h =
@@ -22,7 +22,7 @@ next_three xs k h =
     ∙ ap (λ i. u ∷ get_or xs (3 * k + 1) 0 ∷ get_or xs i 0 ∷ drop (suc (suc (suc (3 * k)))) xs) two
     ∙ ap (λ i. u ∷ get_or xs (3 * k + 1) 0 ∷ get_or xs (3 * k + 2) 0 ∷ drop i xs) three
 
--- what is left behind the last whole triangle counts nothing
+-- the elements after the last whole triangle contribute nothing
 few_none : (at : ℕ → Vector) (o : Vector) (ys : List ℕ) → length ys < 3 → six_volumes at o ys ≡ pos 0
 few_none at o [] h = refl
 few_none at o (x ∷ []) h = refl

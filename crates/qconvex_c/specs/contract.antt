@@ -1,4 +1,4 @@
--- What else the contracts of public functions cite.
+-- Further definitions that the contracts of public functions cite.
 pub mod Flat
 pub mod Answered
 pub mod Triangles

@@ -1,17 +1,17 @@
-//! Flat lists at the front of the caller's buffers.
+//! Writes flat lists to the front of the caller's buffers.
 ghost use Rattle.std.specs.Prelude.{◌≡◌, ◌≤◌, ◌<◌, ◌⊎◌, length, take, drop, true, false};
 ghost use Rattle.qconvex_c.specs.steps.Buffers.{AreSame};
 
 use crate::flat_hull::FlatHull;
 
-/// The buffers of a caller that take hulls.
+/// The caller's buffers for hulls.
 #[derive(Drop)]
 pub struct Buffers<'a> {
-    /// Takes extreme ids.
+    /// Receives the extreme ids.
     pub extremes: &'a mut [u32],
-    /// Takes where the faces begin and end in `corners`.
+    /// Receives the offsets in `corners` at which faces begin and end.
     pub offsets: &'a mut [usize],
-    /// Takes the corners of faces.
+    /// Receives the corners of faces.
     pub corners: &'a mut [u32],
 }
 
@@ -42,7 +42,7 @@ pub fn put_components(buffer: &mut [i64], components: &[i64])
     buffer[..components.len()].copy_from_slice(components);
 }
 
-/// Writes a flat hull to buffers and answers true, where each is long enough. Else they stay as they are.
+/// Writes a flat hull to buffers and returns true if each is long enough. Else leaves them unchanged and returns false.
 pub fn fill(flat: &FlatHull, buffers: &mut Buffers) -> bool
     ensures done { result ≡ true → (take (length flat.now.extremes.items) buffers.new.extremes.now ≡ flat.now.extremes.items)
         × (take (length flat.now.offsets.items) buffers.new.offsets.now ≡ flat.now.offsets.items)

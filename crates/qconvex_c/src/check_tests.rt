@@ -7,12 +7,12 @@ use std::test::Fail;
 /// The offsets of six faces of four corners each.
 const OFFSETS: [usize; 7] = [0, 4, 8, 12, 16, 20, 24];
 
-/// Their corners, in an order of their own, each face from any of its corners on.
+/// The corners of these faces, in a different order, each face from any of its corners on.
 const CORNERS: [u32; 24] = [
     6, 7, 5, 4, 3, 2, 0, 1, 1, 5, 7, 3, 4, 0, 2, 6, 2, 3, 7, 6, 5, 1, 0, 4,
 ];
 
-/// Returns a verdict that is told of nothing.
+/// Returns a verdict that no call has written.
 fn untold() -> Verdict {
     Verdict {
         kind: 99,
@@ -39,7 +39,7 @@ fn faces_of_a_cube(rt: HostRuntime) -> Result<(), Fail> {
     Ok(())
 }
 
-/// C knows a field by its place alone. `Debug` writes the fields in the order of their places.
+/// C accesses a field by its offset alone. `Debug` writes the fields in the order of their offsets.
 #[test]
 fn verdict_as_in_the_header(rt: HostRuntime) -> Result<(), Fail> {
     let verdict = Verdict {

@@ -1,4 +1,4 @@
-//! The call by which C checks faces.
+//! The C function that checks faces.
 ghost use Rattle.std.specs.Prelude.{◌≡◌, ◌≢◌, ◌≤◌, ◌<◌, ◌↔◌, length};
 ghost use Rattle.std.specs.List.{All};
 ghost use Rattle.qh_model.specs.contract.Places.{IsPlace};
@@ -16,19 +16,18 @@ use crate::told::{judgement_on, verdict_of};
 use crate::verdict::Verdict;
 use std::alloc::Global;
 
-/// Tells whether faces are the surface of the hull of points: its faces, or pieces of them such as triangles,
+/// Checks whether faces are the surface of the hull of points: its faces, or pieces of them such as triangles,
 /// counterclockwise seen from outside, in any order, each from any corner on.
 ///
-/// Face j has the corners from `offsets[j]` to before `offsets[j + 1]`, so the number of faces is that of the offsets,
-/// less one. A corner is the index of a point; of equal points any may be named.
+/// Face j has the corners from `offsets[j]` to before `offsets[j + 1]`, so there is one face fewer than offsets. A
+/// corner is the index of a point; of equal points, any index is allowed.
 ///
-/// It answers `DONE` where `verdict` says `RIGHT`, or what is wrong: with `face` a face by its position, with
-/// `point` a point above its plane, or with `from` and `to` an edge. Points are named by the lowest index of those at
-/// their place. Fields of which the kind does not speak are 0.
+/// Returns `DONE` if `verdict` was written: `RIGHT`, or a fault, with `face` as the position of a face, `point` as a
+/// point above its plane, or `from` and `to` as the ends of an edge. A point is named by the lowest index of the points
+/// equal to it. Fields that do not apply to the kind are 0.
 ///
-/// Else it answers `NO_POINT`, `TOO_MANY`, `RANGE` or `MEMORY`, as [`qconvex_hull`](crate::qconvex_hull) does, or
-/// `STARTS` where the offsets do not rise, one is beyond the corners, or there is not one. Then `verdict` stays as it
-/// was.
+/// Else it returns `NO_POINT`, `TOO_MANY`, `RANGE` or `MEMORY`, as [`qconvex_hull`](crate::qconvex_hull) does, or
+/// `STARTS` if there is no offset, the offsets do not rise, or one is beyond the corners. Then `verdict` is unchanged.
 #[unsafe(no_mangle)]
 pub extern "C" fn qconvex_check(
     alloc: Global,

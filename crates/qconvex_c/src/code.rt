@@ -1,4 +1,4 @@
-//! The answers of a call, as numbers for C.
+//! The return codes, as numbers for C.
 
 /// The buffers hold the answer.
 pub const DONE: u32 = 0;
@@ -18,5 +18,5 @@ pub const MEMORY: u32 = 4;
 /// A buffer is too short.
 pub const ROOM: u32 = 5;
 
-/// Of many sets the starts do not rise, or are beyond the points; or there is not one.
+/// For many sets: there is no start, the starts do not rise, or one is beyond the points.
 pub const STARTS: u32 = 6;

@@ -1,4 +1,4 @@
-//! The faces of a caller, cut out of one list of corners.
+//! The faces of a caller, cut from one list of corners.
 ghost use Rattle.std.specs.Prelude.{◌≡◌, IfOk, length};
 ghost use Rattle.qconvex_c.specs.contract.Checked.{AreFacesIn};
 ghost use Rattle.qconvex_c.specs.contract.Sets.{AreStarts};
@@ -18,7 +18,7 @@ fn polygon_of(alloc: Global, corners: &[u32]) -> Result<Polygon, AllocError>
     Ok(Polygon::of(ids))
 }
 
-/// Returns the faces of which the corners stand in one list, each from its offset to before the next.
+/// Returns the faces whose corners are in one list, each from its offset to before the next one.
 pub fn cut_faces(
     alloc: Global,
     offsets: &[usize],

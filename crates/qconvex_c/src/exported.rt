@@ -1,4 +1,4 @@
-//! The calls that C makes.
+//! The functions that C calls.
 ghost use Rattle.std.specs.Prelude.{◌≡◌, ◌≢◌, ◌≤◌, ◌<◌, ◌↔◌, ◌+◌, ◌*◌, length, take, drop};
 ghost use Rattle.std.specs.List.{All};
 ghost use Rattle.qh_model.specs.contract.Places.{IsPlace};
@@ -15,16 +15,16 @@ use crate::given_hull::given_hull;
 use crate::sizes::Sizes;
 use std::alloc::Global;
 
-/// Returns the hull of points, in buffers of the caller.
+/// Computes the hull of points, and writes it to buffers of the caller.
 ///
-/// It answers `DONE` where `sizes` counts the parts of the hull, `extremes` begins with the extreme ids,
-/// rising, and `corners` with the corners of the faces, one face after the other: those of face j stand
-/// from `offsets[j]` to before `offsets[j + 1]`, counterclockwise seen from outside.
+/// Returns `DONE` if the hull was written: `sizes` has its counts, `extremes` begins with the extreme ids, rising, and
+/// `corners` with the corners of the faces, one face after the other. The corners of face j are those from `offsets[j]`
+/// to before `offsets[j + 1]`, counterclockwise seen from outside.
 ///
-/// Else it answers `NO_POINT`, `TOO_MANY` for more than `POINT_LIMIT` points, `RANGE` for a coordinate
-/// out of range, `MEMORY` if an allocation failed, or `ROOM` where a buffer is too short: then `sizes`
-/// counts the parts of the hull, and so tells how long the buffers have to be. The buffers stay as they
-/// were, and but for `ROOM` so does `sizes`. What stands behind an answer in a buffer stays, too.
+/// Else it returns `NO_POINT`, `TOO_MANY` for more than `POINT_LIMIT` points, `RANGE` for a coordinate out of range,
+/// `MEMORY` if an allocation failed, or `ROOM` if a buffer is too short. For `ROOM`, `sizes` has the counts of the
+/// hull, which give the lengths that the buffers need; for the other codes it is unchanged. The buffers are unchanged.
+/// Elements of a buffer after the answer are never changed.
 #[unsafe(no_mangle)]
 pub extern "C" fn qconvex_hull(
     alloc: Global,
@@ -41,7 +41,7 @@ pub extern "C" fn qconvex_hull(
     ensures room { result ≡ QCONVEX_ROOM → NeedsRoom points.now sizes.new extremes.old offsets.old corners.old }
     ensures codes { result ≤ QCONVEX_ROOM }
 
-    // What stands behind an answer in a buffer, and what a refusal leaves alone.
+    // The elements after the answer in each buffer, and everything that a refusal leaves unchanged.
     ensures extremes_rest { result ≡ QCONVEX_DONE → drop sizes.new.extremes extremes.new ≡ drop sizes.new.extremes extremes.old }
     ensures offsets_rest { result ≡ QCONVEX_DONE → drop (sizes.new.faces + 1) offsets.new ≡ drop (sizes.new.faces + 1) offsets.old }
     ensures corners_rest { result ≡ QCONVEX_DONE → drop sizes.new.corners corners.new ≡ drop sizes.new.corners corners.old }
@@ -68,16 +68,16 @@ pub extern "C" fn qconvex_hull(
     }
 }
 
-/// Returns the faces of the hull of points as fans of triangles, with their normals, in buffers of the
+/// Computes the faces of the hull of points as fans of triangles, with their normals, and writes them to buffers of the
 /// caller.
 ///
-/// It answers `DONE` where `count` is the number of triangles, `triangles` begins with the corners of each,
-/// counterclockwise seen from outside, and `normals` with the three components of the outer normal of
-/// each: the cross product of two of its sides, exact, since 64 bits hold it for all coordinates in range.
-/// Points in a line have no triangles.
+/// Returns `DONE` if the fans were written: `count` is the number of triangles, `triangles` begins with the corners of
+/// each, counterclockwise seen from outside, and `normals` with the three components of the outer normal of each. The
+/// normal is the cross product of two sides; it is exact, since 64 bits hold it for all coordinates in range. Points in
+/// a line have no triangles.
 ///
-/// Else it answers as [`qconvex_hull`] does; for `ROOM` each of the two buffers has to have three times as
-/// many elements as `count` says. The buffers stay as they were, and but for `ROOM` so does `count`.
+/// Else it returns a code as [`qconvex_hull`] does; for `ROOM`, each of the two buffers needs three times `count`
+/// elements. The buffers are unchanged, and except for `ROOM` so is `count`.
 #[unsafe(no_mangle)]
 pub extern "C" fn qconvex_fans(
     alloc: Global,
@@ -93,7 +93,7 @@ pub extern "C" fn qconvex_fans(
     ensures room { result ≡ QCONVEX_ROOM → NeedsFanRoom points.now count.new triangles.old normals.old }
     ensures codes { result ≤ QCONVEX_ROOM }
 
-    // What stands behind an answer in a buffer, and what a refusal leaves alone.
+    // The elements after the answer in each buffer, and everything that a refusal leaves unchanged.
     ensures triangles_rest { result ≡ QCONVEX_DONE → drop (3 * count.new) triangles.new ≡ drop (3 * count.new) triangles.old }
     ensures normals_rest { result ≡ QCONVEX_DONE → drop (3 * count.new) normals.new ≡ drop (3 * count.new) normals.old }
     ensures triangles_kept { result ≢ QCONVEX_DONE → triangles.new ≡ triangles.old }

@@ -37,7 +37,7 @@ fn fan_lists(alloc: Global, pts: &[Point], hull: &Hull) -> Result<FanLists, Memo
     })
 }
 
-/// Returns the fans of the hull of points that are fit.
+/// Returns the fans of the hull of valid points.
 fn fan_lists_of(alloc: Global, points: &[Given]) -> Result<FanLists, Memory>
     requires some { 0 < length points.now }
     requires few { length points.now ≤ POINT_LIMIT }
@@ -49,7 +49,7 @@ fn fan_lists_of(alloc: Global, points: &[Given]) -> Result<FanLists, Memory>
     fan_lists(alloc, &pts, &hull)
 }
 
-/// Writes fans to buffers and answers true, where each is long enough. Else they stay as they are.
+/// Writes fans to buffers and returns true if each is long enough. Else leaves them unchanged and returns false.
 fn fill_fans(fans: &FanLists, triangles: &mut [u32], normals: &mut [i64]) -> bool
     ensures done { result ≡ true → (take (length fans.now.triangles.items) triangles.new ≡ fans.now.triangles.items)
         × (take (length fans.now.normals.items) normals.new ≡ fans.now.normals.items) }
@@ -66,12 +66,12 @@ fn fill_fans(fans: &FanLists, triangles: &mut [u32], normals: &mut [i64]) -> boo
     true
 }
 
-/// Returns the fans of the hull of points, in buffers.
+/// Writes the fans of the hull of points to buffers.
 ///
 /// # Errors
 ///
-/// `NoPoint`, `TooMany`, `Range` and `Memory` leave all as it was; `Room` leaves the buffers as they
-/// were, and counts the triangles.
+/// `NoPoint`, `TooMany`, `Range` and `Memory` leave everything unchanged. `Room` leaves the buffers unchanged and sets
+/// the number of triangles.
 pub fn write_fans(
     alloc: Global,
     points: &[Given],

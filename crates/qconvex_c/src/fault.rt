@@ -5,7 +5,7 @@ ghost use Rattle.qconvex_c.specs.steps.Codes.{code_of};
 use crate::code::{MEMORY, NO_POINT, RANGE, ROOM, TOO_MANY};
 use qh_model::Memory;
 
-/// Why a call has no answer.
+/// Why a call fails.
 #[derive(Clone, Copy, Debug, PartialEq, Eq, Drop)]
 pub enum Fault {
     /// There is no point.
@@ -21,7 +21,7 @@ pub enum Fault {
 }
 
 impl Fault {
-    /// Returns its number for C.
+    /// Returns the code of this fault for C.
     pub fn code(self) -> u32
         ensures { result ≡ code_of self }
     {

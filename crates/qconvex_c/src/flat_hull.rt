@@ -1,4 +1,4 @@
-//! A hull as lists of numbers: what the buffers of a caller take.
+//! A hull as lists of numbers, in the layout of the caller's buffers.
 ghost use Rattle.std.specs.Prelude.{◌≡◌, ◌++◌, IfOk, OnOk, List};
 ghost use Rattle.qh_model.specs.headline.Hull.{IsHull};
 ghost use Rattle.qh_model.specs.headline.Vector.{Vector};
@@ -8,7 +8,7 @@ use crate::sizes::Sizes;
 use qh_model::{Hull, Id, Memory, Polygon};
 use std::alloc::{AllocError, Global};
 
-/// The corners of faces, one face after the other, and where each face begins and ends.
+/// The corners of faces, one face after the other, and the offsets at which each face begins and ends.
 #[derive(Drop)]
 pub struct Faces {
     pub corners: Vec<u32>,

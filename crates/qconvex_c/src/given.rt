@@ -1,4 +1,4 @@
-//! Points as C gives them.
+//! Points as C passes them.
 ghost use Rattle.std.specs.Prelude.{◌≡◌, ◌<◌, ◌↔◌, length, IsTrue, IfOk};
 ghost use Rattle.std.specs.List.{All};
 ghost use Rattle.qh_model.specs.headline.Limits.{IsCoordinate};
@@ -9,7 +9,7 @@ use qh_model::{COORDINATE_LIMIT, Memory, Point};
 use std::alloc::Global;
 use std::marker::Model;
 
-/// A point as C gives it, with coordinates of any size.
+/// A point as C passes it, with coordinates of any size.
 ///
 /// A contract sees it as its three whole numbers.
 #[repr(C)]
@@ -68,7 +68,7 @@ pub fn are_places(points: &[Given]) -> bool
     true
 }
 
-/// Returns the same points, as a hull is made of them.
+/// Returns the same points, in the type that hulls use.
 ///
 /// # Errors
 ///
@@ -84,7 +84,7 @@ pub fn points_of(alloc: Global, given: &[Given]) -> Result<Vec<Point>, Memory>
     Ok(points)
 }
 
-/// Returns one of the points, as volumes are made of it.
+/// Returns one of the points, in the type that volumes use.
 #[tactic(auto, unfolding(qh_model::specs::headline::Predicates::place))]
 pub fn point_of(given: &[Given], index: u32) -> Point
     requires places { All IsPlace given.now }

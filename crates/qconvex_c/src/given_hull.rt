@@ -13,7 +13,7 @@ use qh_hull::hull_alone;
 use qh_model::Memory;
 use std::alloc::Global;
 
-/// Returns the hull of points that are fit, in flat lists.
+/// Returns the hull of valid points, in flat lists.
 fn flat_hull_of(alloc: Global, points: &[Given]) -> Result<FlatHull, Memory>
     requires some { 0 < length points.now }
     requires few { length points.now ≤ POINT_LIMIT }

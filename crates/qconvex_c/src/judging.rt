@@ -1,4 +1,4 @@
-//! What is wrong with the coordinates of a caller, told before any hull is made.
+//! Validation of the caller's points, before any hull is computed.
 ghost use Rattle.std.specs.Prelude.{◌≡◌, ◌≤◌, ◌<◌, ◌↔◌, length, IsErrOf, OnOk};
 ghost use Rattle.std.specs.List.{All};
 ghost use Rattle.qh_model.specs.contract.Places.{IsPlace};
@@ -8,7 +8,7 @@ use crate::fault::Fault;
 use crate::given::{Given, are_places};
 use qh_model::POINT_LIMIT;
 
-/// Returns true if points have a hull here: there is one, they are not too many, and all are in
+/// Checks that points can have a hull here: there is at least one, there are not too many, and all coordinates are in
 /// range.
 ///
 /// # Errors

@@ -1,10 +1,10 @@
-//! The hull for C: points in, the extreme ids and the faces out, in buffers of the caller; or the faces
-//! as triangles with their normals.
+//! The hull for C: takes points, and writes the extreme ids and the faces to buffers of the caller, or the faces as
+//! triangles with their normals.
 //!
-//! `given` takes the points, `judging` refuses those that have no hull here, `flat_hull` and `fans` lay a
-//! hull out in flat lists, which `given_hull` returns, and `buffers` and `fan_lists` fill the caller's buffers. `sets`
-//! and `set_hulls` do so for many sets in one call. `cut_faces` takes faces of a caller, which `checked` judges, and
-//! `told` says what was found. Nothing here starts a thread or keeps anything between calls.
+//! `given` converts the points, and `judging` refuses those that have no hull here. `flat_hull` and `fans` lay a hull
+//! out in flat lists, which `given_hull` returns. `buffers` and `fan_lists` fill the caller's buffers. `sets` and
+//! `set_hulls` do so for many sets in one call. `cut_faces` converts the faces of a caller, which `checked` judges, and
+//! `told` converts the result. No function here starts a thread or keeps anything between calls.
 #![tactic(auto)]
 
 mod buffers;

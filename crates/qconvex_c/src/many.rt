@@ -1,4 +1,4 @@
-//! The call for many sets that C makes.
+//! The C function for many sets.
 ghost use Rattle.std.specs.Prelude.{◌≡◌, ◌≢◌, ◌↔◌, ◌⊎◌, ◌+◌, ◌*◌, length, drop, slice_index};
 ghost use Rattle.qconvex_c.specs.contract.Sets.{AreStarts, HaveRoom, AreSetHulls, AreKeptBetween, sets_in, end_of};
 ghost use Rattle.qconvex_c.specs.contract.Codes.{QCONVEX_DONE, QCONVEX_ROOM, QCONVEX_STARTS};
@@ -11,17 +11,16 @@ use crate::set_hulls::hull_of_set;
 use crate::sets::{Rooms, are_starts, have_room, set_at};
 use std::alloc::Global;
 
-/// Returns the hulls of many sets of points, in buffers of the caller.
+/// Computes the hulls of many sets of points, and writes them to buffers of the caller.
 ///
-/// Set j has the points from `starts[j]` to before `starts[j + 1]`, so the number of sets is that of the starts, less
-/// one. It answers `DONE` where `answers` begins with the answer of each set, which is that of
-/// [`qconvex_hull`](crate::qconvex_hull) for it alone, with ids that count from the set's first point. Its
-/// hull stands in its part of each buffer: the part of set j begins at `starts[j]` in `extremes`, at `2 *
-/// starts[j] + 2 * j` in `offsets`, and at `6 * starts[j] + 4 * j` in `corners`. A set that is refused leaves
-/// its parts as they were, and the other sets are answered.
+/// Set j has the points from `starts[j]` to before `starts[j + 1]`, so there is one set fewer than starts. Returns
+/// `DONE` if `answers` begins with the answer of each set, which is that of [`qconvex_hull`](crate::qconvex_hull) for
+/// this set alone, with ids that count from the set's first point. The hull of set j is written to its part of each
+/// buffer. The part begins at `starts[j]` in `extremes`, at `2 * starts[j] + 2 * j` in `offsets`, and at
+/// `6 * starts[j] + 4 * j` in `corners`. If a set is refused, its parts are unchanged, and the other sets are answered.
 ///
-/// Else all stays as it was: it answers `STARTS` where starts do not rise, one is beyond the points, or the
-/// list is empty, and `ROOM` where there is no room for all answers and parts.
+/// Else nothing changes: it returns `STARTS` if the list of starts is empty, the starts do not rise, or one is beyond
+/// the points, and `ROOM` if there is no room for all answers and parts.
 #[unsafe(no_mangle)]
 pub extern "C" fn qconvex_hulls(
     alloc: Global,
@@ -39,7 +38,7 @@ pub extern "C" fn qconvex_hulls(
         → ¬ (HaveRoom starts.now (length answers.old) (length extremes.old) (length offsets.old) (length corners.old)) }
     ensures codes { (result ≡ QCONVEX_DONE) ⊎ (result ≡ QCONVEX_STARTS) ⊎ (result ≡ QCONVEX_ROOM) }
 
-    // What stands before and behind the parts of all sets, and what a refusal leaves alone.
+    // The elements before and after the parts of all sets, and everything that a refusal leaves unchanged.
     ensures answers_rest { result ≡ QCONVEX_DONE
         → drop (sets_in starts.now) answers.new ≡ drop (sets_in starts.now) answers.old }
     ensures extremes_rest { result ≡ QCONVEX_DONE

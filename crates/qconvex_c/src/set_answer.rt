@@ -1,13 +1,13 @@
-//! The answer of a set among many.
+//! The answer of one set among many.
 
 use crate::sizes::Sizes;
 
-/// What a set is told: the answer of [`qconvex_hull`](crate::qconvex_hull), and the sizes of its hull.
+/// The answer of one set: the code of [`qconvex_hull`](crate::qconvex_hull), and the sizes of its hull.
 #[repr(C)]
 #[derive(Clone, Copy, Debug)]
 pub struct SetAnswer {
     /// `DONE`, or why the set has no hull.
     pub code: u32,
-    /// The sizes of the hull for `DONE` and `ROOM`; else all are 0.
+    /// The sizes of the hull for `DONE` and `ROOM`; all 0 for other codes.
     pub sizes: Sizes,
 }

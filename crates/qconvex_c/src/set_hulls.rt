@@ -11,7 +11,7 @@ use crate::sets::Set;
 use crate::sizes::Sizes;
 use std::alloc::Global;
 
-/// Returns the sizes of no hull.
+/// Returns sizes that are all 0.
 fn no_sizes() -> Sizes
     ensures { result ≡ NO_SIZES }
 {
@@ -26,7 +26,7 @@ fn no_sizes() -> Sizes
     }
 }
 
-/// Returns the hull of one set, in its part of each buffer.
+/// Writes the hull of one set to its part of each buffer, and returns the answer of the set.
 pub fn hull_of_set(alloc: Global, points: &[Given], set: Set, buffers: &mut Buffers) -> SetAnswer
     requires rising { set.begin ≤ set.end }
     requires within { set.end ≤ length points.now }

@@ -17,15 +17,15 @@ const UNTOLD: SetAnswer = SetAnswer {
     },
 };
 
-/// The extreme points of each set, by their places in it, and room that is left.
+/// The extreme points of each set, by their positions in it, and unused room.
 const EXTREMES: [u32; 7] = [0, 1, 2, 3, 0, 1, 99];
 
-/// The offsets of the tetrahedron, room for a set of no point, and those of the segment.
+/// The offsets of the tetrahedron, room for a set without a point, and those of the segment.
 const OFFSETS: [usize; 19] = [
     0, 3, 6, 9, 12, 99, 99, 99, 99, 99, 99, 99, 0, 2, 99, 99, 99, 99, 99,
 ];
 
-/// The corners of the tetrahedron, room that is left, and those of the segment.
+/// The corners of the tetrahedron, unused room, and those of the segment.
 const CORNERS: [u32; 49] = [
     0, 1, 3, 0, 2, 1, 0, 3, 2, 1, 2, 3, 99, 99, 99, 99, 99, 99, 99, 99, 99, 99, 99, 99, 99, 99, 99,
     99, 99, 99, 99, 99, 0, 1, 99, 99, 99, 99, 99, 99, 99, 99, 99, 99, 99, 99, 99, 99, 99,
@@ -43,8 +43,8 @@ fn points() -> [Given; 6] {
     ]
 }
 
-/// Returns the codes and the numbers of faces that two sets and one between them without a point are told, and true if
-/// the buffers are those that they should be.
+/// Returns the codes and the numbers of faces of two sets and an empty set between them, and true if the buffers have
+/// the expected contents.
 fn hulls_of_sets(alloc: Global) -> ([u32; 4], [usize; 4], bool) {
     let mut answers = [UNTOLD; 4];
     let (mut extremes, mut offsets, mut corners) = ([99u32; 7], [99usize; 19], [99u32; 49]);

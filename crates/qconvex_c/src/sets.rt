@@ -1,8 +1,8 @@
-//! Sets of points that stand in one list, one after the other.
+//! Sets of points in one list, one after the other.
 ghost use Rattle.std.specs.Prelude.{◌≡◌, ◌<◌, ◌↔◌, ◌+◌, ◌*◌, ◌-◌, IsTrue, length, slice_index};
 ghost use Rattle.qconvex_c.specs.contract.Sets.{AreStarts, HaveRoom};
 
-/// A set: its number, and where its points begin and end.
+/// A set: its number, and the positions at which its points begin and end.
 #[derive(Clone, Copy)]
 pub struct Set {
     pub number: usize,
@@ -10,7 +10,7 @@ pub struct Set {
     pub end: usize,
 }
 
-/// How much room there is: for answers, and in each buffer.
+/// The available room: the number of answers, and the length of each buffer.
 #[derive(Clone, Copy)]
 pub struct Rooms {
     pub answers: usize,
@@ -19,7 +19,7 @@ pub struct Rooms {
     pub corners: usize,
 }
 
-/// Returns true if starts rise, there is one, and none is beyond the number of points.
+/// Returns true if there is at least one start, the starts rise, and none exceeds the number of points.
 pub fn are_starts(starts: &[usize], count: usize) -> bool
     ensures { IsTrue result ↔ AreStarts count starts.now }
 {
@@ -33,8 +33,7 @@ pub fn are_starts(starts: &[usize], count: usize) -> bool
     !starts.is_empty()
 }
 
-/// Returns true if there is room for the hull of each set by Euler's formula: a part for each in each
-/// buffer.
+/// Returns true if there is room for the hull of each set by Euler's formula: one part for each set in each buffer.
 pub fn have_room(starts: &[usize], rooms: Rooms) -> bool
     requires { 0 < length starts.now }
     ensures { IsTrue result ↔ HaveRoom starts.now rooms.answers rooms.extremes rooms.offsets rooms.corners }
@@ -48,7 +47,7 @@ pub fn have_room(starts: &[usize], rooms: Rooms) -> bool
     answers && extremes && offsets && corners
 }
 
-/// Returns the set of a number.
+/// Returns the set with this number.
 pub fn set_at(starts: &[usize], number: usize) -> Set
     requires { number + 1 < length starts.now }
     ensures { result ≡ record { number = number; begin = slice_index starts.now number; end = slice_index starts.now (number + 1) } }

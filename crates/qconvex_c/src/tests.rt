@@ -3,7 +3,7 @@ use crate::{DONE, Given, Sizes, qconvex_fans, qconvex_hull};
 use std::alloc::Global;
 use std::test::Fail;
 
-/// Returns no sizes yet.
+/// Returns sizes that are all 0.
 fn no_sizes() -> Sizes {
     Sizes {
         points: 0,
@@ -16,7 +16,7 @@ fn no_sizes() -> Sizes {
     }
 }
 
-/// Returns the corners of a cube, in rising order of their coordinates, and the first once more.
+/// Returns the corners of a cube, in rising order of their coordinates, and the first one twice.
 pub(crate) fn cube() -> [Given; 9] {
     [
         Given::new(0, 0, 0),
@@ -31,18 +31,18 @@ pub(crate) fn cube() -> [Given; 9] {
     ]
 }
 
-/// The extreme points of the cube, and room that is left.
+/// The extreme points of the cube, and unused room.
 const EXTREMES: [u32; 9] = [0, 1, 2, 3, 4, 5, 6, 7, 99];
 
-/// Where its faces begin and end, and room that is left.
+/// The offsets at which its faces begin and end, and unused room.
 const OFFSETS: [usize; 8] = [0, 4, 8, 12, 16, 20, 24, 99];
 
-/// The corners of its faces, and room that is left.
+/// The corners of its faces, and unused room.
 const CORNERS: [u32; 25] = [
     0, 1, 3, 2, 0, 2, 6, 4, 0, 4, 5, 1, 1, 5, 7, 3, 2, 3, 7, 6, 4, 6, 7, 5, 99,
 ];
 
-/// Returns the sizes of the hull of the cube, and true if its buffers are those that they should be.
+/// Returns the sizes of the hull of the cube, and true if its buffers have the expected contents.
 fn hull_of_cube(alloc: Global) -> (Sizes, bool) {
     let mut sizes = no_sizes();
     let (mut extremes, mut offsets, mut corners) = ([99u32; 9], [99usize; 8], [99u32; 25]);
@@ -72,13 +72,13 @@ fn unit_cube(rt: HostRuntime) -> Result<(), Fail> {
     Ok(())
 }
 
-/// The corners of the fans of a pyramid, and room that is left.
+/// The corners of the fans of a pyramid, and unused room.
 const FANS: [u32; 19] = [0, 1, 4, 0, 3, 2, 0, 2, 1, 0, 4, 3, 1, 2, 4, 2, 3, 4, 99];
 
-/// Their normals, and room that is left.
+/// The normals of these fans, and unused room.
 const NORMALS: [i64; 19] = [0, -2, 0, 0, 0, -4, 0, 0, -4, -2, 0, 0, 2, 0, 4, 0, 2, 4, 99];
 
-/// Returns the number of triangles of a pyramid, and true if its buffers are those that they should be.
+/// Returns the number of triangles of a pyramid, and true if its buffers have the expected contents.
 fn fans_of_pyramid(alloc: Global) -> (usize, bool) {
     let pyramid = [
         Given::new(0, 0, 0),
@@ -103,7 +103,7 @@ fn fans_of_a_pyramid(rt: HostRuntime) -> Result<(), Fail> {
     Ok(())
 }
 
-/// C knows a field by its place alone. `Debug` writes the fields in the order of their places.
+/// C accesses a field by its offset alone. `Debug` writes the fields in the order of their offsets.
 #[test]
 fn fields_as_in_the_header(rt: HostRuntime) -> Result<(), Fail> {
     let sizes = Sizes {

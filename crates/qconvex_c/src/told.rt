@@ -1,4 +1,4 @@
-//! What is judged of faces, by the numbers that C knows it by.
+//! Converts judgements on faces to the numbers that C uses.
 ghost use Rattle.std.specs.Prelude.{◌≡◌, ◌≤◌, ◌<◌, IfOk, length};
 ghost use Rattle.std.specs.List.{All};
 ghost use Rattle.qh_check.specs.declared.flaw.SurfaceVerdict.TheVariants.{NoPiece};
@@ -55,7 +55,7 @@ fn on_edge(kind: u32, from: u32, to: u32) -> Verdict
     }
 }
 
-/// Returns what is said of a face that is no piece.
+/// Returns the verdict on a face that is not a piece.
 fn verdict_of_fault(face: usize, fault: &FaceFault) -> Verdict
     ensures { result ≡ verdict_of (Told (NoPiece face fault.now)) }
 {
@@ -66,7 +66,7 @@ fn verdict_of_fault(face: usize, fault: &FaceFault) -> Verdict
     }
 }
 
-/// Returns what is said of a surface.
+/// Returns the verdict on a surface.
 fn verdict_of_surface(found: &SurfaceVerdict) -> Verdict
     ensures { result ≡ verdict_of (Told found.now) }
 {
@@ -79,7 +79,7 @@ fn verdict_of_surface(found: &SurfaceVerdict) -> Verdict
     }
 }
 
-/// Returns what a judgement says.
+/// Returns the verdict of a judgement.
 pub fn verdict_of(judgement: Judgement) -> Verdict
     ensures { result ≡ verdict_of judgement }
 {
@@ -89,7 +89,7 @@ pub fn verdict_of(judgement: Judgement) -> Verdict
     }
 }
 
-/// Returns what is judged of faces of points that are fit, of which the corners stand in one list.
+/// Returns the judgement on faces of valid points, whose corners are in one list.
 ///
 /// # Errors
 ///

@@ -1,16 +1,16 @@
-//! What a caller is told of faces.
+//! The verdict that a check of faces returns.
 
-/// What a caller is told of faces. A field of which its kind does not speak is 0.
+/// The verdict on faces. A field that does not apply to the kind is 0.
 #[repr(C)]
 #[derive(Clone, Copy, Debug)]
 pub struct Verdict {
-    /// `RIGHT`, or what is wrong.
+    /// `RIGHT`, or the kind of fault.
     pub kind: u32,
     /// The point above the plane of the face.
     pub point: u32,
-    /// The point from which the edge goes.
+    /// The point at which the edge starts.
     pub from: u32,
-    /// The point to which it goes.
+    /// The point at which the edge ends.
     pub to: u32,
     /// The face, by its position.
     pub face: usize,

@@ -1,4 +1,4 @@
-//! Rows of volumes: the corner of a cube that the unit vectors span has a sixth of it.
+//! Rows of volumes: the tetrahedron of the origin and the unit vectors has a sixth of the unit cube's volume.
 use crate::{DONE, Given, Wide, qconvex_six_volumes};
 use std::test::Fail;
 
@@ -17,7 +17,7 @@ fn corner_of_a_cube(rt: HostRuntime) -> Result<(), Fail> {
     Ok(())
 }
 
-/// C knows a field by its place alone. `Debug` writes the fields in the order of their places.
+/// C accesses a field by its offset alone. `Debug` writes the fields in the order of their offsets.
 #[test]
 fn wide_as_in_the_header(rt: HostRuntime) -> Result<(), Fail> {
     let text = format!(in rt.alloc(); "{:?}", Wide { high: 2, low: 1 })?;

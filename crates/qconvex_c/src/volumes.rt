@@ -45,7 +45,7 @@ fn are_indices(corners: &[u32], points: &[Given]) -> bool
     true
 }
 
-/// Returns the sum over triangles, or none where 128 bits do not hold it or one on the way to it.
+/// Returns the sum over triangles, or `None` if the sum or a partial sum does not fit into 128 bits.
 fn sum_of_volumes(points: &[Given], triangles: &[u32]) -> Option<i128>
     requires some { 0 < length points.now }
     requires places { All IsPlace points.now }
@@ -71,14 +71,13 @@ fn sum_of_volumes(points: &[Given], triangles: &[u32]) -> Option<i128>
     Some(total)
 }
 
-/// Returns six times the volume inside triangles that close up, as those of `qconvex_fans` do: the sum of the
-/// determinants of the corners of each, seen from the first point. It is exact, and above 0 where the triangles are
-/// counterclockwise seen from outside.
+/// Computes six times the volume inside triangles that close up, as those of `qconvex_fans` do: the sum of the
+/// determinants of the corners of each triangle, relative to the first point. It is exact, and above 0 if the triangles
+/// are counterclockwise seen from outside.
 ///
-/// `triangles` has the corners of each triangle, three for each; one or two that are left count nothing. It
-/// answers `DONE` where `volume` is the sum, `NO_POINT`, `RANGE` where a coordinate is out of range or a
-/// corner is the index of no point, or `ROOM` where the sum, or one on the way to it, has more than 128 bits.
-/// All but `DONE` leave `volume` as it was.
+/// `triangles` has three corners for each triangle; one or two extra elements at the end are ignored. Returns `DONE` if
+/// `volume` is the sum, `NO_POINT`, `RANGE` if a coordinate is out of range or a corner is not the index of a point, or
+/// `ROOM` if the sum or a partial sum has more than 128 bits. `volume` is unchanged except for `DONE`.
 #[unsafe(no_mangle)]
 pub extern "C" fn qconvex_six_volumes(points: &[Given], triangles: &[u32], volume: &mut Wide) -> u32
     ensures done { result ≡ QCONVEX_DONE

@@ -1,4 +1,4 @@
--- A plane whose normal is divided by a step, with room below its offset for what the division leaves, is under the plane.
+-- A plane whose normal is divided by a step, with its offset lowered by the room for the rests, is under the original plane.
 use Rattle.std.proofs.Common.{◌≡◌, arith, ◌∙◌, ap}
 use Rattle.std.proofs.lemmas.Int.{ints}
 use Rattle.std.specs.Prelude.{ℤ, pos, ◌+ℤ◌, ◌-ℤ◌, ◌*ℤ◌, ◌≤ℤ◌, ◌<ℤ◌}
@@ -15,7 +15,7 @@ use Rattle.qh_block.specs.contract.CoarsePlanes.{IsUnder}
 abbrev limit : ℤ
 limit = pos COORDINATE_LIMIT
 
--- a product with a number is at most that with its steps, and the rest times the greatest coordinate
+-- a product with a number is at most that with its steps, plus the rest times the greatest coordinate
 product_at_most : (n m q r p : ℤ) → IsRest n q m r → IsCoordinate p → (n *ℤ p) ≤ℤ (m *ℤ (q *ℤ p) +ℤ r *ℤ limit)
 product_at_most n m q r p d c =
     let rest : (r *ℤ p) ≤ℤ (r *ℤ limit) = mul-le r p limit d.1 (omega (arith, ints)) in
@@ -63,15 +63,15 @@ steps_are_under plane coarse m room some has low p at h =
     over_three : (a b c : ℤ) → (a +ℤ b +ℤ c) *ℤ limit ≡ a *ℤ limit +ℤ b *ℤ limit +ℤ c *ℤ limit
     over_three a b c = add_mul (a +ℤ b) c limit ∙ ap (λ v. v +ℤ c *ℤ limit) (add_mul a b limit)
 
--- the same of equal numbers
+-- the same for equal numbers
 pub same_rest : (n q m r n' q' m' : ℤ) → n' ≡ n → q' ≡ q → m' ≡ m → IsRest n' q' m' r → IsRest n q m r
 same_rest n q m r n' q' m' e f g h = rw (e, f, g) at h
 
--- the same of a product
+-- the same for a product
 pub same_product : (p a b a' b' : ℤ) → a' ≡ a → b' ≡ b → p ≡ a' *ℤ b' → p ≡ a *ℤ b
 same_product p a b a' b' e f h = rw (e, f) at h
 
--- a number without a product is a rest
+-- a number minus a product is a rest
 pub rest_is : (n q m r p : ℤ) → p ≡ q *ℤ m → n ≡ p +ℤ r → pos 0 ≤ℤ r → IsRest n q m r
 rest_is n q m r p is whole some = (rw is at whole, some)
 
@@ -79,10 +79,10 @@ rest_is n q m r p is whole some = (rw is at whole, some)
 pub room_of : (x y z total room out : ℤ) → total ≡ x +ℤ y +ℤ z → room ≡ total *ℤ limit → out ≡ room → out ≡ (x +ℤ y +ℤ z) *ℤ limit
 room_of x y z total room out is of e = e ∙ rw is at of
 
--- the same of equal steps
+-- the same for equal steps
 pub same_room : (n q : Vector) (m room m' : ℤ) → m' ≡ m → IsRoomFor n q m' room → IsRoomFor n q m room
 same_room n q m room m' e h = rw e at h
 
--- the same of equal numbers
+-- the same for equal numbers
 pub same_lowered : (o room m s room' m' s' : ℤ) → room' ≡ room → m' ≡ m → s' ≡ s → IsLowered o room' m' s → IsLowered o room m s'
 same_lowered o room m s room' m' s' e f g h = rw g (rw (e, f) at h)

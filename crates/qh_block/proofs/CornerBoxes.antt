@@ -1,4 +1,4 @@
--- Where the octants of a box have points of a set, what the box holds, but at a corner, is not extreme in the set.
+-- If the octants of a box have points of a set, a point of the box that is not a corner is not extreme in the set.
 use Rattle.std.proofs.Common.{ℕ, ◌≡◌, ⊎_elim, inl, inr, List, [], ◌∷◌, Bool, true, false, arith, refl, subst, sym}
 use Rattle.std.proofs.lemmas.Int.{ints, by_lt_z}
 use Rattle.std.specs.Prelude.{ℤ, pos, ◌*ℤ◌, ◌≤ℤ◌}
@@ -17,7 +17,7 @@ use Rattle.qh_block.specs.steps.CornerBoxes.{HasEndsOf, AreOutward}
 use Rattle.qh_block.specs.contract.CornerBoxes.{IsBeyond, IsOutward, HasOutward, IsEnd, IsCorner, IsHeldBy}
 use Rattle.qh_pred.proofs.Ranges.{beyond}
 
--- a number of a range that is no nearer than an end is that end
+-- a number of a range that is at or beyond an end is that end
 at_end : (s : Bool) (l h n : ℤ) → IsBeyond s l h n → IsBetween l n h → IsEnd l n h
 at_end true l h n b w = inr (let p = w.1 in omega (arith, ints, b, p))
 at_end false l h n b w = inl (let p = w.0 in omega (arith, ints, b, p))
@@ -26,7 +26,7 @@ at_end false l h n b w = inl (let p = w.0 in omega (arith, ints, b, p))
 at_corner : (x y z : Bool) (b : Bounds) (p : Vector) → IsOutward x y z b p → IsWithin b p → IsCorner b p
 at_corner x y z b p o w = (at_end x _ _ _ o.0 w.x, at_end y _ _ _ o.1 w.y, at_end z _ _ _ o.2 w.z)
 
--- the end to which a factor points: beyond it products are no less than in the range
+-- the end to which a factor points: beyond it products are at least those in the range
 abbrev Points : ℤ → Bool → Type 0
 Points a s = (l h n e : ℤ) → IsBeyond s l h e → IsBetween l n h → (a *ℤ n) ≤ℤ (a *ℤ e)
 
@@ -60,7 +60,7 @@ module _ (pts : List Vector) (ids : List ℕ) (b : Bounds) (out : HasOutward pts
   member false false false = inr (inr (inr (inr (inr (inr (inr (inl refl)))))))
 
   module _ (i : ℕ) (held : IsHeldBy b (place pts i)) where
-    -- they are ids of the set, and others than that of the point
+    -- these ids are ids of the set, and different from that of the point
     one_other : (x y z : Bool) → Others (Members ids) i (id_at x y z)
     one_other x y z = (
       (out x y z).1.1,
@@ -83,7 +83,7 @@ module _ (pts : List Vector) (ids : List ℕ) (b : Bounds) (out : HasOutward pts
           ),
         ))
 
-    -- along no direction is the point beyond all of them
+    -- the point is beyond all of them along no direction
     not_beyond : ¬ (Separator (place pts) (Members eight) (place pts i))
     not_beyond s =
         let x = way s.w.x in let y = way s.w.y in let z = way s.w.z in let w = held.0 in
@@ -134,7 +134,7 @@ under_four f g h = record { one = under_all h.0 f.0; two = under_all h.0 f.1; th
 pub four_under : {v a b p q r s : Vector} → IsUnder p a × IsUnder q a → IsUnder r b × IsUnder s b → IsUnder a v × IsUnder b v → AreUnder v p q r s
 four_under f g h = record { one = under_all f.0 h.0; two = under_all f.1 h.0; three = under_all g.0 h.1; four = under_all g.1 h.1 }
 
--- each side is no further out than the four ends that lie that way
+-- each side is no further out than the four ends in its direction
 pub box_is_outward : (d : Diagonals) (b : Bounds) (east west north south top bottom : Vector)
     → b.high.x ≡ east.x → b.high.y ≡ north.y → b.high.z ≡ top.z → b.low.x ≡ west.x → b.low.y ≡ south.y → b.low.z ≡ bottom.z
     → IsUnderFour east d.up_up.front d.up_down.front d.down_up.front d.down_down.front

@@ -1,4 +1,4 @@
--- A set by the positions of its ids, in a list of their points: its extreme ids are those at the extreme positions.
+-- A set by the positions of its ids in a list of their points: its extreme ids are those at the extreme positions.
 use Rattle.std.proofs.Common.{◌≡◌, ℕ, ◌<◌, List, length, map, arith, sym, subst, ◌∙◌}
 use Rattle.std.proofs.lemmas.List.{length-map, get_or-map, get_or_default}
 use Rattle.std.proofs.lemmas.List.FromFn.{get_or-range_with_len, length-range_with_len}
@@ -21,19 +21,19 @@ module _ (pts : List Vector) (ids : List ℕ) where
   abbrev pub positions : List ℕ
   positions = range_with_len 0 (length ids)
 
-  -- there is a point at each
+  -- there is a point at each position
   pub positions_in : AreIndices gathered positions
   positions_in k d h =
       let count = length-range_with_len 0 (length ids) in let places = length-map ids (place pts) in
       rw (get_or-range_with_len 0 (length ids) k d (omega (arith, count, h))) (omega (arith, count, places, h))
 
-  -- and it is that of the id there
+  -- the point at a position is that of the id at the position
   point_of : (k : ℕ) → k < length ids → place gathered k ≡ place pts (name_in ids k)
   unfolding place
   point_of k h = get_or-map (place pts) ids k k origin h
 
   module _ (s : IsIdSet pts ids) where
-    -- positions name ids
+    -- a position names an id
     by_position : IsRenaming (place gathered) (place pts) (Members positions) (Members ids) (name_in ids) (vertex_number ids)
     by_position = record {
       to = λ k m. In-get_or ids k k (below k m);
@@ -49,7 +49,7 @@ module _ (pts : List Vector) (ids : List ℕ) where
         below : (k : ℕ) → In k positions → k < length ids
         below = range_below (length ids)
 
-    -- they are a set of ids of the gathered points
+    -- the positions are a set of ids of the gathered points
     pub positions_set : IsIdSet gathered positions
     positions_set = record {
       rising = range_rises (length ids);

@@ -1,4 +1,4 @@
--- Points inside the hull of a sample: its planes, and the parts of a set that are left without what columns between them hold.
+-- Points inside the hull of a sample: its planes, and the parts of a set without the points that columns between the planes hold.
 use Rattle.std.proofs.Common.{ℕ, ◌≡◌, ◌⊎◌, ⊎_elim, inl, inr, List, [], ◌∷◌, ◌++◌, All, refl, subst}
 use Rattle.qh_model.specs.headline.{Vector.Vector, Predicates.place, Sets.In, Sets.Members, Extreme.Extreme, Extreme.Others}
 use Rattle.qh_model.specs.contract.{FinishedSurface.IsFinished, StoredSurface.StoredFacet, StoredSurface.surface_of}
@@ -15,12 +15,12 @@ use Rattle.qh_block.specs.steps.InnerPoints.{HasPlane, HasPlanes, IsUnderFacet, 
 use Rattle.qh_surface.proofs.LiveFacets.{all_live, rest_live}
 
 -- ---- the planes of the live facets
--- facets whose planes are not listed are left
+-- facets whose planes are not listed remain
 pub record AreListed (pts : List Vector) (fs : List StoredFacet) (left : List ℕ) (planes : List PlaneValue) : Type 0 where
   pub live : All (IsLive fs) left
   pub rest : (g : ℕ) → IsLive fs g → HasPlane pts fs planes g ⊎ In g left
 
--- at first all are left
+-- at the start all facets remain
 pub none_listed : (pts : List Vector) (fs : List StoredFacet) → AreListed pts fs (surface_of fs).live []
 none_listed pts fs = record {
   live = all_live fs (surface_of fs).live refl;
@@ -29,7 +29,7 @@ none_listed pts fs = record {
 
 module _ {pts : List Vector} {fs : List StoredFacet} {all left : List ℕ} {f : ℕ} {planes : List PlaneValue}
     (old : AreListed pts fs all planes) where
-  -- with its plane the next is listed
+  -- the plane of the next facet is listed
   pub next_listed : all ≡ f ∷ left → (plane : PlaneValue) → IsUnderFacet pts fs f plane → AreListed pts fs left (planes ++ plane ∷ [])
   next_listed is plane own = record {
     live = rest_live fs all left f old.live is;
@@ -38,13 +38,13 @@ module _ {pts : List Vector} {fs : List StoredFacet} {all left : List ℕ} {f : 
         (old.rest g l);
   }
 
--- when none is left all are listed
+-- if no facet remains, all planes are listed
 pub all_listed : {pts : List Vector} {fs : List StoredFacet} {all : List ℕ} {planes : List PlaneValue} → AreListed pts fs all planes
     → all ≡ [] → HasPlanes pts fs planes
 all_listed old is g l = ⊎_elim (λ p. p) (λ i. absurd (subst (In g) is i)) (old.rest g l)
 
 -- ---- columns
--- what columns between all planes of the sample's surface hold is not extreme
+-- points that columns between all planes of the sample's surface hold are not extreme
 pub columns_are_inner : (pts : List Vector) (sample : List ℕ) (fs : List StoredFacet) (columns : Columns)
     → IsFinished (place pts) sample (surface_of fs) → HasPlanes pts fs columns.planes.items → All (IsCellOf columns.planes.items) columns.cells.items
     → AreInner pts sample columns
@@ -55,7 +55,7 @@ columns_are_inner pts sample fs columns z has cells ids sub l member held =
     ids sub
 
 -- ---- parts of a set
--- what is kept of all ids of a set is a part with all its extreme ids
+-- the kept ids of a set are a part with all its extreme ids
 pub kept_part : (pts : List Vector) (held : Vector → Type 0) (ids kept : List ℕ) → HasNoExtreme pts ids held → KeepsExtremes pts held ids kept
     → IsOuterPart pts ids kept
 kept_part pts held ids kept none h = let k = h.each ids (λ i m. m) none in record {

@@ -1,4 +1,4 @@
--- The ids of a set that are left without those whose points a region holds.
+-- The ids of a set that remain without those whose points a region holds.
 use Rattle.std.proofs.Common.{ℕ, ◌+◌, ◌<◌, ⊎_elim, inl, inr, List, [], ◌∷◌, ◌++◌, arith, length, subst}
 use Rattle.std.proofs.lemmas.Grind.{common_steps}
 use Rattle.std.proofs.lemmas.List.{get_or_append_left}
@@ -10,11 +10,11 @@ use Rattle.qh_model.proofs.lists.{Joined.in_append, Joined.of_append}
 use Rattle.qh_model.proofs.lists.Rising.{rising_append, rising_back, rising_between, rising_front}
 use Rattle.qh_block.specs.contract.KeptIds.{HasNoExtreme, IsKept, KeepsExtremes}
 
--- a member without one of the numbers is one with it
+-- a member of a list without one of its numbers is a member of the list
 wider : (xs : List ℕ) (x : ℕ) (ys : List ℕ) (y : ℕ) → In y (xs ++ ys) → In y (xs ++ x ∷ ys)
 wider xs x ys y i = in_append xs (x ∷ ys) y (⊎_elim (λ k. inl k) (λ k. inr (inr k)) (of_append xs ys y i))
 
--- a rising list rises without one of its numbers
+-- a rising list without one of its numbers rises
 rising_without : (xs : List ℕ) (x : ℕ) (ys : List ℕ) → IsStrictlyIncreasing (xs ++ x ∷ ys) → IsStrictlyIncreasing (xs ++ ys)
 rising_without [] x ys h = rising_tail x ys h
 rising_without (z ∷ xs) x ys h =
@@ -28,7 +28,7 @@ rising_across xs ys h x y m n =
     let step = rising_between (xs ++ ys) a.0 (length xs + b.0) h (grind (arith, p, q)) (grind (arith, common_steps, p, q)) in
     grind (arith, step, get_or_append_left xs ys 0 a.0, get_or-append_right xs ys (length xs + b.0) 0, a.2, b.2, p, q)
 
--- what is kept with the ids that were not looked at is kept without an id that is not extreme, too
+-- the ids kept together with the ids that were not tested are also kept if an id that is not extreme is removed
 pub inner_goes : (pts : List Vector) (all ids kept rest : List ℕ) (x : ℕ) → ¬ (Extreme (place pts) (Members all) x)
     → IsKept pts all ids (kept ++ x ∷ rest) → IsKept pts all ids (kept ++ rest)
 inner_goes pts all ids kept rest x inner h = record {
@@ -39,18 +39,18 @@ inner_goes pts all ids kept rest x inner h = record {
       (of_append kept (x ∷ rest) i (h.extremes i m e)));
 }
 
--- all ids are kept where none was looked at
+-- all ids are kept if no id was tested
 pub all_kept : (pts : List Vector) (held : Vector → Type 0) (ids : List ℕ) → KeepsExtremes pts held ids ids
 all_kept pts held ids = record { each = λ all sub none. record { rising = λ r. r; within = λ i m. m; extremes = λ i m e. m } }
 
--- an id of the set whose point is held goes
+-- an id of the set whose point is held is removed
 pub held_goes : (pts : List Vector) (held : Vector → Type 0) (ids kept rest : List ℕ) (x : ℕ) → In x ids → held (place pts x)
     → KeepsExtremes pts held ids (kept ++ x ∷ rest) → KeepsExtremes pts held ids (kept ++ rest)
 held_goes pts held ids kept rest x member is_held h = record {
   each = λ all sub none. inner_goes pts all ids kept rest x (none x (sub x member) is_held) (h.each all sub none);
 }
 
--- what is kept of two parts is kept of both
+-- the ids kept of two parts are kept of both together
 pub both_kept : (pts : List Vector) (held : Vector → Type 0) (front back one two : List ℕ) → KeepsExtremes pts held front one
     → KeepsExtremes pts held back two → KeepsExtremes pts held (front ++ back) (one ++ two)
 both_kept pts held front back one two a b = record { each = each }

@@ -1,4 +1,4 @@
--- Numbers that are held in few bits: they fit, and are what they were.
+-- Numbers stored in few bits: they fit, and keep their values.
 use Rattle.std.proofs.Common.{◌≡◌, ◌<◌, ◌≤◌, ◌*◌, ◌^◌, ℕ, arith, FitsSigned}
 use Rattle.std.proofs.Math.Nat.{mul-le-mul}
 use Rattle.std.proofs.lemmas.Int.{ints, to_z-of_z, fits_signed_from_abs, fits_signed_mul, unsigned_abs-mul}
@@ -6,26 +6,26 @@ use Rattle.std.specs.Prelude.{ℤ, ◌+ℤ◌, ◌-ℤ◌, ◌*ℤ◌, unsigned_
 use lib.Signed.{mag}
 use mir.{Syntax.Width, Syntax.w32, Syntax.w64, Val.hbits, Val.to_z, Val.of_z}
 
--- a number as it is held
+-- a number as it is stored
 abbrev pub held : Width → ℤ → ℤ
 held w x = to_z w (of_z w x)
 
--- a number of a size that fits is held as it is
+-- a number whose absolute value fits keeps its value
 pub held_is : (w : Width) (x : ℤ) (m : ℕ) → unsigned_abs x ≤ m → m < 2 ^ hbits w → held w x ≡ x
 held_is w x m h l = to_z-of_z w x (fits_signed_from_abs w x (omega (arith, h, l)))
 
--- so its size stays
+-- so its absolute value stays the same
 pub held_size : (w : Width) (x : ℤ) (m : ℕ) → unsigned_abs x ≤ m → m < 2 ^ hbits w → unsigned_abs (held w x) ≤ m
 held_size w x m h l = rw (held_is w x m h l) h
 
--- the same of a number that is read from another
+-- the same for a number that is read from another
 pub held_as : (w : Width) (x y : ℤ) (m : ℕ) → x ≡ y → unsigned_abs y ≤ m → m < 2 ^ hbits w → held w x ≡ y
 held_as w x y m e h l = rw e (held_is w y m h l)
 
 pub held_within : (w : Width) (x y : ℤ) (m : ℕ) → x ≡ y → unsigned_abs y ≤ m → m < 2 ^ hbits w → unsigned_abs (held w x) ≤ m
 held_within w x y m e h l = rw e (held_size w y m h l)
 
--- a number that is held in more bits than before
+-- a number that is stored in more bits than before
 converted : (w v : Width) (x y : ℤ) → FitsSigned w x → FitsSigned v x → y ≡ held w x → held v y ≡ x
 converted w v x y f g e = rw (e, to_z-of_z w x f) (to_z-of_z v x g)
 

@@ -1,4 +1,4 @@
--- What private functions speak of: nothing to believe.
+-- Definitions that only private functions use. A reader of the headline need not trust them.
 pub mod CoarsePlanes
 pub mod CornerBoxes
 pub mod Faces

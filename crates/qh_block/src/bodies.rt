@@ -13,7 +13,7 @@ pub fn polygon_of(alloc: Global, ids: &[Id]) -> Result<Polygon, Memory>
     Ok(Polygon::of(Vec::from_slice(alloc, ids)?))
 }
 
-/// Returns the hull of a set that has one polygon, in this dimension and with this number of edges.
+/// Returns the hull of a set with one polygon, of this dimension and with this number of edges.
 pub fn flat_body(alloc: Global, dim: u8, polygon: Polygon, edges: u64) -> Result<Body, Memory>
     ensures { IfOk result (λ b. IsFlatBody dim polygon edges b) }
 {

@@ -1,8 +1,8 @@
 //! The faces of a solid, gathered plane by plane from the facets of its finished mesh.
 //!
-//! Each live facet that has no mark yet starts a walk over the facets in its plane, which get marks.
-//! A plane of one facet, as most are, has its corners as its face; else the face is the polygon of
-//! the corners of the facets, rising. So each plane is walked once.
+//! Each live facet without a mark starts a walk over the facets in its plane, which marks them. If a plane has one
+//! facet, as most do, its corners are the face. Otherwise the face is the polygon of the corners of the facets, sorted.
+//! So each plane is walked once.
 ghost use Rattle.std.specs.Prelude.{All, ◌≡◌, ◌≤◌, ◌<◌, ◌↔◌, ◌++◌, ℕ, List, IfOk, OnOk, length, true, false};
 ghost use Rattle.std.specs.List.Sorted.{IsStrictlyIncreasing};
 ghost use Rattle.qh_model.specs.contract.IdSets.{IsIdSet};
@@ -33,7 +33,7 @@ use qh_surface::walk::walk;
 use qh_surface::{NamedMesh, plane_of};
 use std::alloc::{AllocError, Global};
 
-/// Scratch for live facets of a plane and for their corners, used again from plane to plane.
+/// Scratch for live facets of a plane and for their corners, reused from plane to plane.
 #[derive(Drop)]
 pub struct Scratch {
     facets: Vec<FacetNo>,
@@ -49,7 +49,7 @@ fn no_marks(alloc: Global, count: usize) -> Result<Vec<bool>, AllocError>
 }
 
 impl Scratch {
-    /// Creates a scratch without memory.
+    /// Creates a scratch without allocating memory.
     fn new(alloc: Global) -> Scratch {
         Scratch {
             facets: Vec::new(alloc),
@@ -104,7 +104,7 @@ fn facet_polygon(
     polygon(alloc, pts, ids, &normal)
 }
 
-/// Returns the corners of a live facet, from the least on.
+/// Returns the corners of a live facet, beginning with the least.
 fn lone_triangle(surface: &NamedMesh, f: FacetNo) -> Polygon
     requires positions { AreCornersBelow (length surface.now.ids.items) surface.now.mesh }
     requires live { IsLive surface.now.mesh f }
@@ -120,8 +120,7 @@ fn lone_triangle(surface: &NamedMesh, f: FacetNo) -> Polygon
     }
 }
 
-/// Returns the polygon of the plane of a live facet that has no mark; marks the facets in that
-/// plane.
+/// Returns the polygon of the plane of a live facet without a mark, and marks the facets in that plane.
 fn new_face(
     alloc: Global,
     pts: &[Point],
@@ -146,7 +145,7 @@ fn new_face(
         plane: plane_of(&surface.points, &surface.mesh, f),
     };
     walk(&surface.mesh, &level, f, marks, &mut room.facets)?;
-    // Most planes have one facet: its corners are the face.
+    // Most planes have one facet, whose corners are the face.
     if room.facets.len() == 1 {
         return Ok(lone_triangle(surface, f));
     }
@@ -154,7 +153,7 @@ fn new_face(
     facet_polygon(alloc, pts, surface, f, &room.corners)
 }
 
-/// Returns the faces of a finished mesh, one for each plane of its live facets, in no order.
+/// Returns the faces of a finished mesh, one for each plane of its live facets, unsorted.
 pub(crate) fn faces(
     alloc: Global,
     pts: &[Point],
@@ -177,7 +176,7 @@ pub(crate) fn faces(
     Ok(faces)
 }
 
-/// The faces of a finished mesh in two lists, each in no order: one for each plane of its live facets.
+/// The faces of a finished mesh in two unsorted lists, with one face for each plane of its live facets.
 #[derive(Drop)]
 pub struct PartedFaces {
     /// The faces of chosen facets.
@@ -186,13 +185,13 @@ pub struct PartedFaces {
     pub others: Vec<Polygon>,
 }
 
-/// Returns the faces of a finished mesh, those of chosen facets apart from the others. `chosen` has for each place of
-/// the mesh whether its facet is chosen. Where some facets of a plane are chosen and some are not, its face is in one
-/// of the lists.
+/// Returns the faces of a finished mesh, with those of chosen facets in a list of their own. For each place of the
+/// mesh, `chosen` is true if its facet is chosen. If only some facets of a plane are chosen, its face is in one of the
+/// lists.
 ///
 /// # Errors
 ///
-/// `Memory` where an allocation failed.
+/// `Memory` if an allocation failed.
 pub fn parted_faces(
     alloc: Global,
     pts: &[Point],

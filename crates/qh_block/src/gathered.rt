@@ -1,7 +1,7 @@
-//! A set by positions: its points in a list of their own, in which they stand next to each other.
+//! A set by positions: its points in a list of their own, next to each other.
 //!
-//! The points of a part of a long list lie far apart. Where they are gathered, each way over them is short, and
-//! a mark for each position takes little room.
+//! The points of a part of a long list lie far apart in memory. Gathered points are read faster, and a mark for each
+//! position takes little memory.
 ghost use Rattle.std.specs.Prelude.{◌≡◌, IfOk, map};
 ghost use Rattle.std.specs.List.{range_with_len};
 ghost use Rattle.qh_mesh.specs.contract.Names.{name_in};
@@ -11,7 +11,7 @@ use std::alloc::{AllocError, Global};
 
 /// Returns the positions below a count, rising.
 ///
-/// `Err` says that an allocation failed, or that there are more than ids have numbers.
+/// Returns `Err` if an allocation failed, or if the count exceeds the numbers of ids.
 pub fn positions_below(alloc: Global, count: usize) -> Result<Vec<Id>, Memory>
     ensures { IfOk result (λ v. v.items ≡ range_with_len 0 count) }
 {

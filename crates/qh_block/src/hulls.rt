@@ -18,7 +18,7 @@ use qh_polygon::{Shape, rank};
 use qh_surface::starts::{Simplex, points_of};
 use std::alloc::Global;
 
-/// Returns the extreme ids of a set, rising, by a run over all of its ids where they stand.
+/// Returns the extreme ids of a set, rising, by a run over all of its ids without gathering the points.
 fn extremes_in_place(alloc: Global, set: IdSet) -> Result<Vec<Id>, Memory>
     requires some { 0 < length set.ids.now }
     ensures { IfOk result (λ v. AreExtremesOf set.entry v.items) }
@@ -62,8 +62,8 @@ fn hull_of_all(alloc: Global, set: IdSet) -> Result<Body, Memory>
     }
 }
 
-/// Returns the extreme ids of a set, as [`extremes`] gives them, by a run over all of its ids: for a
-/// set that was given to [`cull_interior`](crate::interior::cull_interior) before, or that is a part of a culled set.
+/// Returns the extreme ids of a set, as [`extremes`] does, by a run over all of its ids. It is meant for a set that was
+/// culled by [`cull_interior`](crate::interior::cull_interior) before, or for a part of a culled set.
 ///
 /// # Errors
 ///
@@ -78,8 +78,8 @@ pub fn extremes_unculled(alloc: Global, pts: &[Point], ids: &[Id]) -> Result<Vec
 
 /// Returns the extreme ids of a set, rising.
 ///
-/// `ids` has at least one id, each the index of one of the points. That the ids rise and have distinct
-/// points (`IsIdSet`) is the caller's condition.
+/// `ids` has at least one id, each the index of one of the points. The caller ensures that the ids rise and have
+/// distinct points (`IsIdSet`).
 ///
 /// # Errors
 ///
@@ -100,11 +100,11 @@ pub fn extremes(alloc: Global, pts: &[Point], ids: &[Id]) -> Result<Vec<Id>, Mem
 
 /// Returns the hull of a set: its dimension, its extreme ids, its faces and the number of its edges.
 ///
-/// `ids` has at least one id, each the index of one of the points. That the ids rise and have distinct
-/// points (`IsIdSet`) is the caller's condition.
+/// `ids` has at least one id, each the index of one of the points. The caller ensures that the ids rise and have
+/// distinct points (`IsIdSet`).
 ///
-/// A set of dimension 3 has the polygon of each plane through three of its points that leaves none
-/// outside, counterclockwise seen from outside; for sets in a point, a line or a plane see
+/// A set of dimension 3 has the polygon of each plane through three of its points with no point outside,
+/// counterclockwise seen from outside. For sets in a point, a line or a plane see
 /// `qh_model/specs/headline/Polygons.antt`.
 ///
 /// # Errors

@@ -1,17 +1,15 @@
 //! The hull of one set of ids of distinct points.
 //!
-//! [`hull`] answers the hull of a set of any dimension, and [`extremes`] its extreme ids alone. A solid
-//! set gets a closed surface of triangles by Quickhull, [`surface`]; the faces are gathered from its
-//! triangles plane by plane. A set in a point, a line or a plane gets its body at once: a point, the
-//! segment between the ends of the line, or the polygon in the plane.
+//! [`hull`] returns the hull of a set of any dimension, and [`extremes`] its extreme ids alone. For a solid set
+//! Quickhull makes a closed surface of triangles, [`surface`], and the faces are gathered from its triangles plane by
+//! plane. The hull of a set in a point, a line or a plane is made directly: a point, the segment between the ends of
+//! the line, or the polygon in the plane.
 //!
-//! Of a large set the interior filter drops most points first ([`interior`], by [`regions`]). `qh_surface` makes the surface. A walk
-//! finds the triangles of one plane (`plane_walk`), of which `faces` makes the polygon.
-//! `qh_bodies` orders the faces and counts their edges, and `solids` puts them together. `gathered` puts the points of a
-//! set next to each other.
-//! `blocking` has the rules of how a set is divided, for this crate and those above.
-//! `segment` finds the ends of a line, `normals` the side from which a polygon is seen, and `bodies`
-//! puts the hulls of flat sets together.
+//! For a large set the interior filter first drops most of the points that are inside ([`interior`], by the regions of
+//! [`regions`]). `qh_surface` makes the surface. A walk finds the triangles of one plane (`plane_walk`), and `faces` makes the polygon from them. `qh_bodies` sorts the
+//! faces and counts their edges, and `solids` makes the hull from them. `gathered` puts the points of a set next to
+//! each other. `blocking` has the rules of how a set is divided, for this crate and those above. `segment` finds the
+//! ends of a line, `normals` the side from which a polygon is seen, and `bodies` makes the hulls of flat sets.
 #![tactic(auto)]
 
 mod blocking;

@@ -1,4 +1,4 @@
-//! The facets of a mesh that lie in the plane of one of them, for a walk.
+//! A walk over the facets of a mesh that lie in the plane of one of them.
 ghost use Rattle.std.specs.Prelude.{◌≡◌, ◌↔◌, IsTrue, length};
 ghost use Rattle.qh_model.specs.headline.Vector.{Vector};
 ghost use Rattle.qh_model.specs.headline.Predicates.{place};
@@ -16,7 +16,7 @@ use qh_model::Point;
 use qh_pred::{Plane, point_at};
 use qh_surface::walk::FacetPredicate;
 
-/// The predicate that a facet lies in the plane of a live one, which the walk starts from.
+/// The predicate that a facet lies in the plane of a live facet from which the walk starts.
 #[derive(Clone, Copy, Drop)]
 pub struct IsLevel<'a> {
     pub pts: &'a [Point],
@@ -25,7 +25,7 @@ pub struct IsLevel<'a> {
 }
 
 impl IsLevel<'_> {
-    /// Returns true if the corner of a live facet across from one of its edges lies in the plane.
+    /// Returns true if the corner of a live facet opposite to one of its edges lies in the plane.
     fn has_opposite(&self, mesh: &Mesh, edge: EdgeNo) -> bool
         requires corners { AreCornersBelow (length self.now.pts.now) mesh.now }
         requires plane { (p : Vector) → height self.now.plane p ≡ facet_vol (place self.now.pts.now) mesh.now self.now.start p }
@@ -44,7 +44,7 @@ impl FacetPredicate for IsLevel<'_> {
 
     ghost Passes = { λ t fs f. IsLevelFacet (place t.pts.now) (surface_of fs) t.start f };
 
-    // Two of its corners are of a facet in the plane.
+    // The other two corners belong to a facet in the plane.
     fn passes(&self, mesh: &Mesh, edge: EdgeNo) -> bool {
         self.has_opposite(mesh, edge)
     }

@@ -6,8 +6,7 @@ use crate::regions::IdSet;
 use qh_model::{Id, Point};
 use qh_pred::{along, point_at};
 
-/// Returns the one of `k` and `l` whose point comes first along the way from the point of `a` to that
-/// of `b`.
+/// Returns `k` or `l`, whichever has the first point along the vector from the point of `a` to that of `b`.
 fn earlier(pts: &[Point], a: Id, b: Id, k: Id, l: Id) -> Id
     requires a_in { a < length pts.now }
     requires b_in { b < length pts.now }
@@ -25,7 +24,7 @@ fn earlier(pts: &[Point], a: Id, b: Id, k: Id, l: Id) -> Id
     }
 }
 
-/// Returns the id whose point is the first along the way from the point of `a` to that of `b`.
+/// Returns the id with the first point along the vector from the point of `a` to that of `b`.
 pub fn first_along(set: IdSet, a: Id, b: Id) -> Id
     requires some { 0 < length set.ids.now }
     requires a_in { a < length set.pts.now }

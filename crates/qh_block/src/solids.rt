@@ -1,4 +1,4 @@
-//! The finished mesh of a solid set, and its hull from it.
+//! The finished mesh of a solid set, and the hull from it.
 ghost use Rattle.std.specs.Prelude.{ℕ, List, IfOk};
 ghost use Rattle.qh_model.specs.contract.IdSets.{IsIdSet};
 ghost use Rattle.qh_model.specs.contract.FinishedSurface.{IsFinished};
@@ -17,7 +17,8 @@ use qh_surface::starts::Simplex;
 use qh_surface::{NamedMesh, surface_from};
 use std::alloc::Global;
 
-/// Returns the finished mesh of a set whose first ids off a point, a line and a plane are those of `first`.
+/// Returns the finished mesh of a set. `first` has the first two ids, the first id off their line, and the first id off
+/// their plane.
 pub(crate) fn solid_mesh(alloc: Global, set: IdSet, first: Simplex) -> Result<NamedMesh, Memory>
     requires two { AreFirstTwo set.ids.now first.i first.j }
     requires off_line { IsFirstNot (IsInLine set.pts.now first.i first.j) set.ids.now first.k }

@@ -1,4 +1,4 @@
--- Claiming a block, and being told that all are claimed.
+-- A claim of a block, and a claim that finds all blocks claimed.
 use Rattle.std.proofs.Common.{◌≡◌, inl, inr, ℕ, zero, suc, ◌+◌, ◌*◌, ◌%◌, ◌^◌, ◌<◌, ◌≤◌, min, true, false, List, [], ◌∷◌, length}
 use Rattle.std.proofs.Common.{set, sym, refl, ap, Bool, ◌∙◌, subst, arith, eq-eqb, Option, Some, None, get_or, length-set, length-append, get_or-set_same}
 use Rattle.std.{proofs.lemmas.Bool.Decides.nat_tests, specs.Prelude.All, specs.Prelude.slice_index, specs.Prelude.nat_lt, specs.Prelude.◌==◌}
@@ -22,7 +22,7 @@ module _ {S X : Type 0} (right : S → (ℕ → Type 0) → X → Type 0) (key :
   below_claims : (x c : ℕ) → 0 < one_if (nat_lt x (min c key.blocks)) → x < c
   below_claims x c h = grind (arith, nat_tests)
 
-  -- an element of a list stands in it
+  -- an element of a list occurs in it
   times_at : (xs : List ℕ) (k d : ℕ) → k < length xs → 0 < times (get_or xs k d) xs
   times_at [] k d h = absurd (omega arith)
   times_at (x ∷ xs) zero d h = let e : one_if (x == x) ≡ 1 = ap one_if (eq-eqb x x refl) in omega arith
@@ -31,7 +31,7 @@ module _ {S X : Type 0} (right : S → (ℕ → Type 0) → X → Type 0) (key :
   below_same : (x c : ℕ) → key.blocks ≤ c → one_if (nat_lt x (min (c + 1) key.blocks)) ≡ one_if (nat_lt x (min c key.blocks))
   below_same x c h = ap (λ (n : ℕ). one_if (nat_lt x n)) (omega arith)
 
-  -- what words and slots show after a claim, which settles no node
+  -- the words and slots after a claim, which settles no node
   claim_shows : (s : State (Option X) (View S)) (R : Kept right key s) (f : ℕ → Place) (over : ℕ → Bool) (homes : Homes X)
       → ((j : ℕ) → settled (f j) ≡ settled (R.machine.node j)) → length homes ≡ length s.homes → SlotsOf right key f homes
       → let n : ℕ = R.machine.claims + 1 in Shows right key record R.machine { claims = n; node = f; over = over } (set s.words 0 n) homes

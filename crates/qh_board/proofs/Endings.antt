@@ -1,4 +1,4 @@
--- A pass ends: it leaves with no node, or gives up with one.
+-- A pass ends: it leaves without a node, or gives up with one.
 use Rattle.qh_model.specs.contract.BoardMachine as machine
 use Rattle.qh_board.specs.declared.view.Mark as ended
 use Rattle.std.proofs.Common.{◌≡◌, ℕ, ◌+◌, ◌%◌, ◌^◌, ◌≤◌, Bool, List, [], ◌∷◌, ◌++◌, set, sym, refl, ap, ◌∙◌, arith, Option, Some, None}
@@ -18,7 +18,7 @@ use Rattle.qh_board.specs.steps.Views.{view_of, kids, blocks_of, blocks_in, HasR
 use Rattle.qh_board.proofs.SlotsHome.{all_home, laid, length_laid, load, slots_laid}
 use Rattle.qh_board.proofs.Steps.{KeptAfter, SlotsOf, made_more, steps, allowed_at, seat_record, seated, others_keep, nothing, word_else}
 
--- what a pass adds to the word of its mark
+-- the number that a pass adds to the word of its mark
 abbrev added : ended.Mark → ℕ
 added kind = mark_word (mark_of (Some kind))
 
@@ -27,7 +27,7 @@ tells_kind Left = ((λ _. refl), (λ e. absurd (omega arith)), omega arith)
 tells_kind GaveUp = ((λ e. absurd (omega arith)), (λ _. refl), omega arith)
 
 module _ {S X : Type 0} (right : S → (ℕ → Type 0) → X → Type 0) (key : Setup S) where
-  -- the event by which the pass ends, with the slots that it carries laid home
+  -- the event by which the pass ends, with the slots that it carries returned
   record Ending (kind : ended.Mark) (r : Record) (c : List (ℕ × Option X)) (s : State (Option X) (View S)) (m : Machine) : Type 0 where
     event : Event
     is : event_by r.number (ending_of kind r.node) ≡ event

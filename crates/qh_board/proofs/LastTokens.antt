@@ -1,4 +1,4 @@
--- What the tokens of a board that closes tell: the records of all passes, and what came out at the root.
+-- The tokens of a board that closes: the records of all passes, and the value of the root.
 use Rattle.qh_board.specs.declared.view.Mark as ended
 use Rattle.qh_board.specs.declared.view.Mark.TheVariants as marks
 use Rattle.std.proofs.Common.{◌≡◌, ◌≢◌, ◌↔◌, ℕ, zero, suc, ◌+◌, ◌≤◌, Bool, true, false, List, [], ◌∷◌, ◌++◌, length, sym, refl, ap, ◌∙◌, subst, arith, ne_eqb}
@@ -18,7 +18,7 @@ use Rattle.qh_board.proofs.LastStates.{Last, closes}
 
 -- ---- the records of tokens
 module _ {S : Type 0} where
-  -- what each of the passes did
+  -- the records of the passes
   abbrev pub records_of : List (Token S) → List Record
   records_of ts = map (λ t. t.pass) ts
 
@@ -28,20 +28,20 @@ module _ {S : Type 0} where
   one_record v number over mark is = let e = ap (λ (x : View S). x.records) is in
       (e ∙ ap (λ r. r ∷ []) (sym (ap head_or e)), ap (λ (x : View S). (record_of x).mark) is)
 
-  -- the records where the last token was popped
+  -- the records after the last token was popped
   pub popped : (ts m : List (Token S)) (id : TableId) (v : View S) (t : Token S) → ts ≡ m ++ t ∷ [] → token_of id v ≡ t
       → v.records ≡ record_of v ∷ [] → records_of ts ≡ records_of m ++ v.records
   popped ts m id v t e shown one = ap records_of e
       ∙ (map-append (λ t. t.pass) m (t ∷ [])
       ∙ ap (λ rs. records_of m ++ rs) (sym (one ∙ ap (λ (x : Token S). x.pass ∷ []) shown)))
 
-  -- and where more were popped before
+  -- the same after more tokens were popped
   pub popped_more : (all ts m : List (Token S)) (id : TableId) (v : View S) (t : Token S) (rs : List Record)
       → records_of all ≡ records_of ts ++ rs → ts ≡ m ++ t ∷ [] → token_of id v ≡ t → v.records ≡ record_of v ∷ []
       → records_of all ≡ records_of m ++ (v.records ++ rs)
   popped_more all ts m id v t rs h e shown one = h ∙ (ap (λ z. z ++ rs) (popped ts m id v t e shown one) ∙ append_assoc (records_of m) v.records rs)
 
-  -- P of the one record
+  -- P of the only record
   pub each_one : (P : Record → Type 0) (v : View S) → v.records ≡ record_of v ∷ [] → P (record_of v) → Each P v.records
   each_one P v one h = subst (Each P) (sym one) (h, tt)
 
@@ -50,11 +50,11 @@ module _ {S : Type 0} where
   count_records [] = refl
   count_records (t ∷ ts) = let r = count_records ts in omega arith
 
-  -- the claims that they made
+  -- the number of claims in the records
   pub claims_by : (ts : List (Token S)) → weigh claims_of (records_of ts) ≡ sum_by claims_made ts
   claims_by ts = is_sum_by (λ (xs : List (Token S)). weigh claims_of (records_of xs)) claims_made refl (λ t xs. refl) ts
 
-  -- how many of them are those of pass w
+  -- the number of records of pass w
   pub named_by : (w : ℕ) (ts : List (Token S)) → weigh (named w) (records_of ts) ≡ tokens_of w ts
   named_by w ts = is_count_by (λ (xs : List (Token S)). weigh (named w) (records_of xs)) (λ t. t.pass.number == w) refl
       (λ t xs. let n = weigh (named w) (records_of xs) in
@@ -74,7 +74,7 @@ module _ {S : Type 0} where
 pub other_mark : (n : ℕ) → n ≢ 1 → mark_of_word n ≡ marks.GaveUp
 other_mark n ne = rw (ne_eqb n 1 ne) refl
 
--- what stands at a place of a list
+-- the element at a position of a list
 pub at_get : (l : List ℕ) (i a : ℕ) → get_elem? l i ≡ some a → slice_index l i ≡ a
 at_get [] i a e = absurd (some-ne-none a (sym e))
 at_get (x ∷ xs) zero a e = some-injective x a e
@@ -89,7 +89,7 @@ module _ {S X : Type 0} (right : S → (ℕ → Type 0) → X → Type 0) (key :
       (closes right key id v words xs (subst (λ (z : Setup S). Final (Seen (Ruled right z) id v) words xs) same f)
       (ap (weigh (λ r. 1)) (sym are) ∙ (count_records ts ∙ all)) over)
 
-  -- what came out at the root
+  -- the value of the root
   pub root_told : (words : List ℕ) (xs : List (Option X)) (ts : List (Token S))
       → Last right key words xs (records_of ts) → (claims n : ℕ) (value root : Option X) → slice_index words 0 ≡ claims
       → slice_index words key.blocks ≡ n → get_elem? xs 1 ≡ some value

@@ -1,4 +1,4 @@
--- A pass lets go of its node, whose value stays in the slot: it comes first at the parent, or publishes the root.
+-- A pass releases its node, whose value stays in the slot: it arrives first at the parent, or publishes the root.
 use mathlib.Core.Option as maybe
 use Rattle.std.proofs.Common.{◌≡◌, ◌≢◌, inl, inr, ⊎_elim, ℕ, ◌+◌, ◌*◌, ◌%◌, ◌^◌, ◌<◌, Bool, List, [], ◌∷◌, ◌++◌, set, sym, refl, ap, ◌∙◌, subst, arith, Option}
 use Rattle.std.{proofs.Common.Some, proofs.Common.None, proofs.Common.length-set, proofs.Common.get_or-set_same, specs.Prelude.slice_index, specs.Prelude.◌==◌}
@@ -20,7 +20,7 @@ use Rattle.qh_board.proofs.SlotsHome.{all_home, laid, length_laid, load, slots_h
 use Rattle.qh_board.proofs.Steps.{KeptAfter, SlotsOf, Turns, made_more, steps, allowed_at, seat_record, others_keep, word_else}
 
 module _ {S X : Type 0} (right : S → (ℕ → Type 0) → X → Type 0) (key : Setup S) where
-  -- the node becomes p, which is no pass's, and nobody joins
+  -- the place of the node becomes p, which belongs to no pass, and no nodes are joined
   lets_go : (s : State (Option X) (View S)) (R : Kept right key s) (id i : ℕ) (x : X) (r : Record) (arrivals : ℕ) (d : own.Event) (e : Event) (p : Place)
       (words : List ℕ) → event_by r.number d ≡ e → maker e ≡ r.number
       → get_elem? s.views id ≡ some (view_of key (r ∷ [])) → r.node ≡ Some i → ((v : ℕ) → p ≢ held v)

@@ -33,7 +33,7 @@ module _ {S X : Type 0} (right : S → (ℕ → Type 0) → X → Type 0) (key :
       at_parent (inr t) before = let now = ap (λ (k : ℕ). settled (g k)) t.1 in let was = ap (λ (k : ℕ). settled (f k)) t.1 in
           let q = same_ (2 * parent i) (λ z. omega arith) in let h = here in let u = up_ in omega arith
 
-  -- the state of the sibling, by the word of the parent
+  -- the state of the sibling, according to the word of the parent
   pub sibling_is : (m : Machine) (g : Consistent key.blocks key.passes m) (some_blocks : 0 < key.blocks) (i w : ℕ)
       → m.node i ≡ held w → 1 < i → (n : ℕ) → n ≡ settled (m.node (2 * parent i)) + settled (m.node (2 * parent i + 1))
       → (n ≡ 0 → m.node (sibling i) ≢ parked) × (n ≢ 0 → (m.node (sibling i) ≡ parked) × (n ≡ 1))

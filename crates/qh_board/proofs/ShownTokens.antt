@@ -1,4 +1,4 @@
--- What a token of a board shows of its seat.
+-- The contract view of a token of a board and its seat.
 use Rattle.std.proofs.Common.{◌≡◌, ℕ, Bool, false, ap, sym, ◌∙◌, subst, Option, Some}
 use Rattle.atomic_table.specs.Seated.{TableId}
 use Rattle.qh_board.specs.contract.Records.{node_or}
@@ -19,29 +19,29 @@ at_board {S} b t id table v setup shown is mine = (
   ap (λ (x : Token S). x.setup) shown ∙ (mine.setup ∙ ap (λ (x : BoardValue S). Some x.setup) (sym is)),
 )
 
--- a seat at the board's table whose view has its setup is one of the board's
+-- a seat at the board's table whose view has its setup belongs to the board
 pub is_of : {S : Type 0} (b : BoardValue S) (id table : TableId) (v : View S) (setup : Setup S)
     → board_of table setup ≡ b → id ≡ table → v.setup ≡ Some setup → IsOf b (token_of id v)
 is_of {S} b id table v setup is at of = record { table = at ∙ ap (λ (x : BoardValue S). x.table) is; setup = of ∙ ap (λ (x : BoardValue S). Some x.setup) is }
 
 module _ {S : Type 0} (t : Token S) (id : TableId) (v : View S) (shown : token_of id v ≡ t) where
-  -- the record that a token shows is that of its view
+  -- the record of a token is that of its view
   pub shown_record : record_of v ≡ t.pass
   shown_record = ap (λ (x : Token S). x.pass) shown
 
-  -- a pass that was not told so is not over
+  -- a pass whose claims all found a block is not over
   pub not_over : (number : ℕ) (node : Option ℕ) (over : Bool) (mark : Option Mark) → HasRecord v number node over mark → t.pass.over ≡ false → over ≡ false
   not_over number node over mark has going = sym (ap (λ (x : View S). (record_of x).over) has) ∙ (ap (λ (x : Token S). x.pass.over) shown ∙ going)
 
-  -- the node that a task shows is the one that it holds
+  -- the node of a task is the one that it holds
   pub shown_node : (number node : ℕ) (over : Bool) (mark : Option Mark) → HasRecord v number (Some node) over mark → task_node t ≡ node
   shown_node number node over mark has = ap task_node (sym shown) ∙ ap (λ (x : View S). node_or (record_of x).node) has
 
 module _ {S X : Type 0} (right : S → (ℕ → Type 0) → X → Type 0) (b : BoardValue S) (table : TableId) (setup : Setup S) (is : board_of table setup ≡ b) where
-  -- a value is right at a node by the board's setup
+  -- a value is right at a node according to the board's setup
   pub right_inside : (i node : ℕ) (value : X) → i ≡ node → IsRightAt right b i value → right setup.spans (InSpan setup.blocks node) value
   right_inside i node value same h = subst (λ (x : BoardValue S). IsRightAt right x node value) (sym is) (subst (λ (k : ℕ). IsRightAt right b k value) same h)
 
-  -- and so it is by the board
+  -- and so it is according to the board
   pub right_outside : (i node : ℕ) (value : X) → i ≡ node → right setup.spans (InSpan setup.blocks node) value → IsRightAt right b i value
   right_outside i node value same h = subst (λ (k : ℕ). IsRightAt right b k value) (sym same) (subst (λ (x : BoardValue S). IsRightAt right x node value) is h)

@@ -1,4 +1,4 @@
--- The slots that a pass carries, and what lies in each once they are home.
+-- The slots that a pass carries, and their contents after they are returned.
 use mathlib.Core.Option as maybe
 use Rattle.std.proofs.Common.{◌≡◌, ◌≢◌, ℕ, zero, suc, ◌+◌, ◌*◌, ◌<◌, ◌≤◌, Bool, true, false, List, [], ◌∷◌, length, set, sym, refl, ap, ◌∙◌, subst, arith}
 use Rattle.std.proofs.{Common.Option, Common.Some, Common.None, Common.length-set, lemmas.Bool.Decides.nat_tests}
@@ -15,7 +15,7 @@ use Rattle.qh_board.specs.steps.{Rule.SlotOf, Rule.Kept, Views.view_of, Views.ki
 use Rattle.qh_board.proofs.Steps.{Homes, KeptAfter, SlotsOf, seat_record, seated}
 
 module _ {A : Type 0} where
-  -- each slot that is carried goes home
+  -- each carried slot is returned
   pub give_all : List (ℕ × A) → Act A
   give_all [] = keeps
   give_all (y ∷ ys) = chain gives (give_all ys)
@@ -57,11 +57,11 @@ module _ {X : Type 0} where
   kids_out b i h = let t : nat_lt i b ≡ false = grind (arith, nat_tests) in rw t refl
 
 module _ {S X : Type 0} (right : S → (ℕ → Type 0) → X → Type 0) (key : Setup S) where
-  -- the slots of a pass at node i, once it has put down what it has
+  -- the slots of a pass at node i, after it has stored its value
   abbrev pub load : ℕ → Option X → List (ℕ × Option X)
   load i x = (i, x) ∷ kids key.blocks i
 
-  -- what a step brings that carries all its slots home
+  -- the effect of a step that returns all carried slots
   pub all_home : (id i : ℕ) (f : ℕ → ℕ) (told : ℕ → Me (Option X) (View S) → Type 0) (c : List (ℕ × Option X)) (r : Record)
       (s : State (Option X) (View S)) (n : ℕ) → n ≡ f (slice_index s.words i)
       → KeptAfter right key s id r (set s.words i n) (laid s.homes c)
@@ -96,7 +96,7 @@ module _ {S X : Type 0} (right : S → (ℕ → Type 0) → X → Type 0) (key :
       (set_else (set (set hs i (some x)) (2 * i) (some None)) (2 * i + 1) j (some None) f.1
       ∙ (set_else (set hs i (some x)) (2 * i) j (some None) f.0 ∙ set_else hs i j (some x) ne)))
 
-  -- the slots once the pass's own are home
+  -- the slots after the pass's own are returned
   pub slots_home : (s : State (Option X) (View S)) (R : Kept right key s) (i w : ℕ) (x : Option X)
       → R.machine.node i ≡ held w → (j : ℕ) → 0 < j → j < 2 * key.blocks
       → (h : maybe.Option (Option X)) × (get_elem? (laid s.homes (load i x)) j ≡ some h) × (j ≡ i → h ≡ some x)
@@ -120,7 +120,7 @@ module _ {S X : Type 0} (right : S → (ℕ → Type 0) → X → Type 0) (key :
       dite (ℕ_discrete j (2 * i)) (λ e. kid (omega arith) (ap R.machine.node e ∙ below.0) ne)
       (λ a. dite (ℕ_discrete j (2 * i + 1)) (λ e. kid (omega arith) (ap R.machine.node e ∙ below.1) ne) (λ b. usual (λ _. (a, b)) ne))))
 
-  -- and each is right: that of a node that is held may have anything
+  -- and each is right: the slot of a held node may have any content
   pub slots_laid : (s : State (Option X) (View S)) (R : Kept right key s) (i w : ℕ) (x : Option X)
       → R.machine.node i ≡ held w → SlotsOf right key R.machine.node (laid s.homes (load i x))
   slots_laid s R i w x mine j lo hi = let t = slots_home s R i w x mine j lo hi in (
@@ -129,7 +129,7 @@ module _ {S X : Type 0} (right : S → (ℕ → Type 0) → X → Type 0) (key :
     dite (ℕ_discrete j i) (λ q. subst (λ (p : Place). SlotOf right key j p t.0) (sym (ap R.machine.node q ∙ mine)) tt) t.3,
   )
 
-  -- the seat once the value lies in the slot of its node
+  -- the seat after the value is stored in the slot of its node
   pub filled : (before me : Me (Option X) (View S)) (i number : ℕ) (over : Bool) (x : X) → before.0.setup ≡ Some key
       → before.1 ≡ (i, None) ∷ kids (blocks_of before.0) i → HasRecord before.0 number (Some i) over None
       → me ≡ (before.0, (i, Some x) ∷ rest before.1)

@@ -1,4 +1,4 @@
--- What public clauses cite: the record of a pass, what a token and a board show, and what each call tells.
+-- Definitions that public clauses cite: the record of a pass, the contract view of a token and a board, and the result of each call.
 pub mod Records
 pub mod Tokens
 pub mod Told

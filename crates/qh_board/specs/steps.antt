@@ -1,4 +1,4 @@
--- What private clauses speak of: the seats at the table, and the rule that holds between any two steps.
+-- Definitions that private clauses cite: the seats at the table, and the rule that holds between any two steps.
 pub mod Views
 pub mod Seats
 pub mod Shown

@@ -1,7 +1,7 @@
--- A test whether a value is absent tells what is so where it is.
+-- A test of whether a value is absent, from the facts that hold with and without the value.
 use Rattle.std.proofs.Common.{◌≡◌, ◌↔◌, Bool, true, false, not, Option, None, Some, is_some, MatchOption, IsTrue, refl}
 
--- the test is true just where R holds, if R follows where the value is absent, and not where there is one
+-- the test is true exactly if R holds, given that R holds if the value is absent, and does not hold if there is one
 pub is_none_tells : {A P R : Type 0} {Q : A → Type 0} (o : Option A) (absent : Bool) → is_some o ≡ not absent → MatchOption o P Q
     → (P → R) → ((x : A) → Q x → R → ⊥) → IsTrue absent ↔ R
 is_none_tells None true e m holds fails = (λ _. holds m, λ _. refl)

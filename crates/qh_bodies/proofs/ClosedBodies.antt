@@ -1,4 +1,4 @@
--- Faces that close up tell the hull of a solid set.
+-- Faces that close up determine the hull of a solid set.
 use Rattle.std.proofs.Common.{inl, ℕ, List, refl}
 use Rattle.std.specs.Prelude.{◌↔◌}
 use Rattle.std.specs.List.Sorted.{IsStrictlyIncreasing}
@@ -11,13 +11,13 @@ use Rattle.qh_model.proofs.polygons.Steps.{ordered_once}
 use Rattle.qh_bodies.specs.contract.{SolidEdges.all_edges_up, Tallies.all_members}
 use Rattle.qh_bodies.proofs.EdgeCounts.{edges_of_faces}
 
--- the hull of a solid set, by faces that close up, with their members and their ways up
+-- the hull of a solid set from faces that close up, with their members and their steps up
 module _ (at : ℕ → Vector) (ids : List ℕ) (qs : List (List ℕ)) (d : HasDistinctPoints at (Members ids))
     (solid : IsDimension at (Members ids) 3) (closed : AreClosedFaces at (Members ids) qs) (rising : RiseStrictly qs) where
   corner_law : (i : ℕ) → Extreme at (Members ids) i ↔ ((q : List ℕ) × In q qs × In i q)
   corner_law = closed_faces_have_extremes at ids qs d closed
 
-  -- a member of a face is an extreme id, and the other way round
+  -- a member of a face is an extreme id, and conversely
   forth : (i : ℕ) → In i (all_members qs) → Extreme at (Members ids) i
   forth i m = (corner_law i).1 (of_flat_map (λ q. q) qs i m)
 

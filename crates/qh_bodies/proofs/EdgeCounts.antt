@@ -1,4 +1,4 @@
--- The number of edges of a solid: each is gone along from its lower id to its higher one by one face.
+-- The number of edges of a solid: exactly one face has the step from the lower id of an edge to the higher one.
 use Rattle.std.proofs.Common.{◌≡◌, inl, inr, ℕ, ◌<◌, List, [], ◌∷◌, sym, subst, refl, arith}
 use Rattle.std.proofs.lemmas.Bool.Decides.{nat_tests}
 use Rattle.std.specs.List.{flat_map}
@@ -17,7 +17,7 @@ Pair = ℕ × ℕ
 abbrev Has : ℕ → ℕ → List Pair → Type 0
 Has u v ps = In {X = Pair} (u, v) ps
 
--- the steps up on a way
+-- the steps up on a path
 on_along : (u v t : ℕ) (r : List ℕ) (e : ℕ) → Has u v (ups_along t r e) ↔ ((u < v) × FollowsAlong u v t r e)
 on_along u v t [] e = (λ i. grind (arith, nat_tests, i), λ h. grind (arith, nat_tests, h))
 on_along u v t (w ∷ r) e =
@@ -28,7 +28,7 @@ in_ups : (u v : ℕ) (q : List ℕ) → Has u v (ups q) ↔ ((u < v) × Follows 
 in_ups u v [] = (λ i. absurd i, λ h. h.1)
 in_ups u v (t ∷ r) = on_along u v t r t
 
--- each is there once
+-- each step up occurs once
 once_along : (t : ℕ) (r : List ℕ) (e : ℕ) → Once (t ∷ r) → Once (ups_along t r e)
 once_along t [] e o = grind arith
 once_along t (w ∷ r) e o =
@@ -39,7 +39,7 @@ once_ups : (q : List ℕ) → Once q → Once (ups q)
 once_ups [] o = tt
 once_ups (t ∷ r) o = once_along t r t o
 
--- where no two polygons go one way each step up is there once
+-- if no two polygons take the same step, each step up occurs once
 all_once : (qs : List (List ℕ)) → Once qs → ((q : List ℕ) → In q qs → Once q)
     → ((p q : List ℕ) → In p qs → In q qs → (u v : ℕ) → Follows u v p → Follows u v q → p ≡ q) → Once (flat_map ups qs)
 all_once [] o each one = tt
@@ -61,7 +61,7 @@ edges_of_faces at ids qs d solid faces once = record {
   count = refl;
 }
   where
-    -- where a face goes down along an edge, another goes up
+    -- if a face has the step down along an edge, another has the step up
     to : (u v : ℕ) → IsEdge qs u v → Has u v (flat_map ups qs)
     to u v (h, (q, i, inl f)) = in_flat_map ups qs q (u, v) i ((in_ups u v q).1 (h, f))
     to u v (h, (q, i, inr f)) = let p = other_face at ids qs d solid faces q i v u f in

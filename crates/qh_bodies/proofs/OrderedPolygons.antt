@@ -1,4 +1,4 @@
--- Polygons in order, two by two.
+-- Polygons in order, pairwise.
 use Rattle.std.proofs.Common.{◌≡◌, ◌≢◌, ℕ, zero, suc, ◌+◌, ◌-◌, ◌<◌, ◌≤◌, arith, sym, subst, ◌∙◌, inl, inr, List, [], ◌∷◌}
 use Rattle.std.proofs.Common.{length, get_or, take, min}
 use Rattle.std.proofs.lemmas.List.{get_or_default}
@@ -7,7 +7,7 @@ use Rattle.std.specs.Prelude.{◌↔◌}
 use Rattle.qh_model.specs.headline.Polygons.{ComesBefore, RisesFrom, RiseStrictly}
 use Rattle.qh_bodies.specs.contract.Order.{IsOutOfOrder}
 
--- each list that comes before the next rises
+-- a list in which each element comes before the next rises
 pub rises : (qs : List (List ℕ))
     → ((n : ℕ) → n + 1 < length qs → ComesBefore (get_or qs n []) (get_or qs (n + 1) [])) → RiseStrictly qs
 rises [] h = tt
@@ -23,7 +23,7 @@ rises (q ∷ qs) h = from q qs h
           subst (λ m. ComesBefore (get_or (r ∷ ps) n []) (get_or (p ∷ r ∷ ps) m [])) e (h (suc n) (omega arith)))),
     )
 
--- in a rising list each comes before the next
+-- in a rising list each element comes before the next
 pub rises_at : (qs : List (List ℕ)) → RiseStrictly qs → (n : ℕ) → n + 1 < length qs
     → ComesBefore (get_or qs n []) (get_or qs (n + 1) [])
 rises_at [] h n l = absurd (omega arith)
@@ -36,8 +36,8 @@ rises_at (q ∷ qs) h n l = from q qs h n l
     from p (r ∷ ps) h (suc n) l = let e : suc (n + 1) ≡ suc n + 1 = omega arith in
         subst (λ m. ComesBefore (get_or (r ∷ ps) n []) (get_or (p ∷ r ∷ ps) m [])) e (from r ps h.1 n (omega arith))
 
--- ---- two lists that are the same so far
--- the numbers at the first difference tell
+-- ---- two lists that agree so far
+-- the numbers at the first difference decide
 pub before_at : (k : ℕ) (p q : List ℕ) → take k p ≡ take k q → k < length p → k < length q → get_or p k 0 ≢ get_or q k 0
     → (get_or p k 0 < get_or q k 0) ↔ ComesBefore p q
 before_at k [] q same l m n = absurd (omega arith)
@@ -58,7 +58,7 @@ before_at (suc k) (u ∷ p) (v ∷ q) same l m n =
         back (inl x) = absurd (omega (arith, e, x))
         back (inr x) = h.1 x.1
 
--- where one of them has ended, the lengths tell
+-- if one list has ended, the lengths decide
 pub before_end : (k : ℕ) (p q : List ℕ) → take k p ≡ take k q → k ≡ min (length p) (length q)
     → (length p < length q) ↔ ComesBefore p q
 before_end k [] [] same e = (λ h. absurd (omega arith), λ h. absurd h)

@@ -1,4 +1,4 @@
--- Sorted keys of steps and of steps back: polygons whose keys are the same have one border, and close up alike.
+-- Sorted keys of steps and of reversed steps: polygons with the same keys have the same border, and close up with the same polygons.
 use Rattle.std.proofs.Common.{◌≡◌, ◌∙◌, ℕ, ◌+◌, Bool, List, ◌++◌, IsPermutation, ap, arith, cond, map, sym}
 use Rattle.std.proofs.lemmas.List.{Sorted.sum_by-IsPermutation, Sums.sum_by-append}
 use Rattle.std.specs.Prelude.{count_by}
@@ -12,7 +12,7 @@ use Rattle.qh_bodies.specs.contract.Borders.{HaveOneBorder}
 use Rattle.qh_bodies.specs.steps.StepKeys.{back, AreStepsAndBack, CountOtherwise}
 use Rattle.qh_bodies.proofs.Steps.{key_counts}
 
--- the keys of the ones and the keys of the others, turned back, in any order
+-- the keys of one list of polygons and the reversed keys of the other, in any order
 pub steps_and_back : (ps qs : List (List ℕ)) (keys others turned sorted : List ℕ) → map halves keys ≡ flat_map steps_round ps
     → map halves others ≡ flat_map steps_round qs → map halves turned ≡ map back (map halves others)
     → IsPermutation (keys ++ turned) sorted → AreStepsAndBack ps qs sorted
@@ -33,21 +33,21 @@ steps_and_back ps qs keys others turned sorted steps other_steps turns same u v 
         ∙ ap (λ (f : ℕ × ℕ → Bool). count_by f (map halves others)) (λ i s. is_edge-back (u, v) s i)
         ∙ ap (count_by (is_edge (v, u))) other_steps
 
--- where the keys are the same either way
+-- the case that the keys are the same for both
 pub one_border : (ps qs : List (List ℕ)) (keys others : List ℕ) → AreStepsAndBack ps qs keys → AreStepsAndBack qs ps others
     → keys ≡ others → HaveOneBorder ps qs
 one_border ps qs keys others f g same u v =
     let e = f u v in let d = g u v in
     let one = ap (count_by (λ key. is_edge (u, v) (halves key))) same in omega (arith, e, d, one)
 
--- where one has a key more often, they have not
+-- if one has a key more often, the borders differ
 pub other_border : (ps qs : List (List ℕ)) (keys others : List ℕ) (z : ℕ) → AreStepsAndBack ps qs keys
     → AreStepsAndBack qs ps others → CountOtherwise keys others z → HaveOneBorder ps qs → ⊥
 other_border ps qs keys others z f g otherwise border =
     let e = f (high_of z) (low_of z) in let d = g (high_of z) (low_of z) in let b = border (high_of z) (low_of z) in
     let k = key_counts z keys in let l = key_counts z others in otherwise (omega (arith, e, d, b, k, l))
 
--- polygons that close up with the ones close up with the others
+-- polygons that close up with one list close up with the other
 pub closed_by_border : (rest ps qs : List (List ℕ)) → AreClosed (rest ++ ps) → HaveOneBorder ps qs → AreClosed (rest ++ qs)
 closed_by_border rest ps qs closed border u v =
     let c = closed u v in let b = border u v in

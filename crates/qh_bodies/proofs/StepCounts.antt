@@ -1,4 +1,4 @@
--- How often polygons take a step: list by list, and in any order.
+-- The number of times that polygons take a step: list by list, and in any order.
 use Rattle.std.proofs.Common.{◌≡◌, ◌∙◌, ℕ, ◌+◌, List, [], ◌∷◌, ◌++◌, IsPermutation, ap, arith, cond, refl, sym}
 use Rattle.std.proofs.lemmas.List.{Concat.flat_map-append, Sorted.sum_by-IsPermutation, Sums.sum_by-append, Sums.sum_by-cons}
 use Rattle.std.specs.Prelude.{count_by}
@@ -9,23 +9,23 @@ module _ (u v : ℕ) where
   abbrev is_step : ℕ × ℕ → ℕ
   is_step e = cond (is_edge (u, v) e) 1 0
 
-  -- those of one polygon
+  -- the count for one polygon
   abbrev round_count : List ℕ → ℕ
   round_count q = count_by (is_edge (u, v)) (steps_round q)
 
-  -- two lists of polygons
+  -- the count for two lists of polygons
   pub steps_of_both : (ps qs : List (List ℕ)) → step_count (ps ++ qs) u v ≡ step_count ps u v + step_count qs u v
   steps_of_both ps qs =
       ap (count_by (is_edge (u, v))) (flat_map-append steps_round ps qs) ∙ sum_by-append is_step (flat_map steps_round ps) (flat_map steps_round qs)
 
-  -- polygon by polygon
+  -- the count polygon by polygon
   by_polygon : (qs : List (List ℕ)) → step_count qs u v ≡ sum_by round_count qs
   by_polygon [] = refl
   by_polygon (q ∷ qs) =
       sum_by-append is_step (steps_round q) (flat_map steps_round qs) ∙ ap (λ n. round_count q + n) (by_polygon qs)
       ∙ sym (sum_by-cons round_count q qs)
 
-  -- in another order
+  -- the count for another order
   pub steps_permuted : (ps qs : List (List ℕ)) → IsPermutation ps qs → step_count qs u v ≡ step_count ps u v
   steps_permuted ps qs same = by_polygon qs ∙ sum_by-IsPermutation round_count ps qs same ∙ sym (by_polygon ps)
 
@@ -33,7 +33,7 @@ module _ (u v : ℕ) where
 pub closed_permuted : (ps qs : List (List ℕ)) → IsPermutation ps qs → AreClosed ps → AreClosed qs
 closed_permuted ps qs same closed u v = steps_permuted u v ps qs same ∙ closed u v ∙ sym (steps_permuted v u ps qs same)
 
--- what closes up with some polygons, and what does so with others, close up with all of these
+-- a list that closes up with some polygons, and one that closes up with others, together close up with all of these
 pub closed_of_both : (ps gone qs left all : List (List ℕ)) → IsPermutation (ps ++ qs) all → AreClosed (ps ++ gone) → AreClosed (qs ++ left)
     → AreClosed (all ++ (gone ++ left))
 closed_of_both ps gone qs left all same first second u v =

@@ -1,5 +1,4 @@
--- Polygons are closed just where the keys of their steps to higher ids, and those of their steps to lower ids turned
--- back, are the same when sorted.
+-- Polygons are closed exactly if the keys of their steps to higher ids and the reversed keys of their steps to lower ids are the same when sorted.
 use Rattle.std.proofs.Common.{◌≡◌, ◌≢◌, ℕ, zero, suc, ◌+◌, ◌<◌, ◌≤◌, arith, refl, sym, ap, subst, ◌∙◌, inl, inr}
 use Rattle.std.proofs.Common.{List, [], ◌∷◌, map, Bool, true, false, cond, eqb, eqb-true, IsPermutation}
 use Rattle.std.proofs.lemmas.Bool.{cases_Bool, cases_lt}
@@ -17,7 +16,7 @@ use Rattle.qh_model.proofs.closed_surfaces.Sums.{count, count-is, count_kept}
 use Rattle.qh_bodies.specs.steps.StepKeys.{back, goes_up, goes_down, CountOtherwise, EachOnce, IsTwice}
 
 -- ---- keys
--- keys are the same where their steps are
+-- keys are equal if their steps are
 pub same_step : (z k : ℕ) → eqb z k ≡ is_edge (halves z) (halves k)
 same_step z k = alike (eqb z k) (is_edge (halves z) (halves k)) there back_again
   where
@@ -40,11 +39,11 @@ same_step z k = alike (eqb z k) (is_edge (halves z) (halves k)) there back_again
 abbrev pub on : ℕ → ℕ → ℕ → Bool
 on u v k = is_edge (u, v) (halves k)
 
--- a key is there as often as its step
+-- a key occurs as often as its step
 pub key_counts : (z : ℕ) (ks : List ℕ) → count_by (eqb z) ks ≡ count_by (on (high_of z) (low_of z)) ks
 key_counts z ks = ap (λ (f : ℕ → Bool). count_by f ks) (λ i k. same_step z k i)
 
--- where none of those that count passes, a filter leaves nothing to count
+-- if no counted element passes, the count after the filter is 0
 lost : {X : Type 0} (f p : X → Bool) → ((k : X) → f k ≡ true → p k ≡ false) → (ks : List X) → count f (filter p ks) ≡ 0
 lost f p h [] = refl
 lost f p h (k ∷ ks) = elim (cases_Bool (p k)) [
@@ -56,7 +55,7 @@ lost f p h (k ∷ ks) = elim (cases_Bool (p k)) [
     first true e t z = let q = h k e in cc
     first false e t z = omega arith
 
--- a filter by a test that goes by what counts keeps the count, or nothing
+-- a filter by a test that agrees on equal elements keeps the count, or makes it 0
 pub halved : {X : Type 0} (f p : X → Bool) (b : Bool) → ((k : X) → f k ≡ true → p k ≡ b) → (ks : List X)
     → count f (filter p ks) ≡ cond b (count f ks) 0
 halved f p true h ks = count_kept f p h ks
@@ -93,7 +92,7 @@ module _ (qs : List (List ℕ)) (keys up there : List ℕ) (steps : map halves k
       by true e h g = (k, e)
       by false e h g = g (omega arith)
 
-  -- keys that stand once there are those of steps that are taken once
+  -- keys that occur once are those of steps that are taken once
   pub once_by_keys : EachOnce there → (u v : ℕ) → u < v → step_count qs u v ≤ 1
   once_by_keys once u v l = by_count (step_count qs u v) told
     where
@@ -116,7 +115,7 @@ module _ (qs : List (List ℕ)) (keys up there : List ℕ) (steps : map halves k
           at_most zero f = omega arith
           at_most (suc n) f = f (omega arith)
 
-  -- a key that stands there twice is that of a step to a higher id that is taken twice
+  -- a key that occurs twice is that of a step to a higher id that is taken twice
   pub twice_by_key : (z : ℕ) → IsTwice there z
       → ((halves z).0 < (halves z).1) × (1 < step_count qs (halves z).0 (halves z).1)
   twice_by_key z twice = by (nat_lt (high_of z) (low_of z)) refl (subst (λ (m : ℕ). 1 < m) told twice)
@@ -129,7 +128,7 @@ module _ (qs : List (List ℕ)) (keys up there : List ℕ) (steps : map halves k
       by true e h = (grind (arith, nat_tests, e), h)
       by false e h = absurd (omega arith)
 
--- polygons are closed where each step to a higher id is taken as often as the step back
+-- polygons are closed if each step to a higher id is taken as often as the step back
 pub closed_ahead : (qs : List (List ℕ)) → ((u v : ℕ) → u < v → step_count qs u v ≡ step_count qs v u) → AreClosed qs
 closed_ahead qs ahead u v = elim (cases_lt u v) [
   | inl l ↦ ahead u v l
@@ -142,7 +141,7 @@ closed_ahead qs ahead u v = elim (cases_lt u v) [
 module _ (qs : List (List ℕ)) (keys up down there round : List ℕ) (steps : map halves keys ≡ flat_map steps_round qs)
     (ups : up ≡ filter goes_up keys) (downs : map halves down ≡ map back (map halves (filter goes_down keys)))
     (p : IsPermutation up there) (q : IsPermutation down round) where
-  -- and those of the steps back
+  -- the reversed keys count the steps back
   half_down : (u v : ℕ) → count_by (on u v) round ≡ cond (nat_lt u v) (step_count qs v u) 0
   half_down u v =
       sum_by-IsPermutation (λ k. cond (on u v k) 1 0) down round q ∙ sym (count-map halves (is_edge (u, v)) down)
@@ -166,7 +165,7 @@ module _ (qs : List (List ℕ)) (keys up down there round : List ℕ) (steps : m
           let t : nat_lt u v ≡ true = grind (arith, nat_tests, l) in
           pick (nat_lt u v) _ _ t (sym (half_up qs keys up there steps ups p u v) ∙ ap (count_by (on u v)) same ∙ half_down u v)
 
-  -- a key that they do not have equally often is that of an open step
+  -- a key that the lists do not have equally often is that of an open step
   pub open_by_key : (z : ℕ) → CountOtherwise there round z
       → step_count qs (halves z).0 (halves z).1 ≢ step_count qs (halves z).1 (halves z).0
   open_by_key z otherwise e =

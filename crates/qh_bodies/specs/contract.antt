@@ -1,4 +1,4 @@
--- What the contracts of public functions cite.
+-- Definitions that the contracts of public functions cite.
 pub mod ApartPolygons
 pub mod Borders
 pub mod OpenSteps

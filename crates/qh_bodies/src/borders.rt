@@ -1,4 +1,4 @@
-//! Checks whether two lists of polygons have one border: the steps that are not taken as often as the step back.
+//! Checks if two lists of polygons have the same border: the steps that are not taken as often as the step back.
 ghost use Rattle.std.specs.Prelude.{◌≡◌, ◌↔◌, IfOk, IsTrue, map};
 ghost use Rattle.std.specs.List.Sorted.{IsNonDecreasing};
 ghost use Rattle.qh_model.specs.contract.Halves.{halves};
@@ -10,7 +10,7 @@ use qh_model::keys::Packed;
 use qh_model::{Memory, Polygon};
 use std::alloc::{AllocError, Global};
 
-/// Returns keys, each turned back.
+/// Returns keys, each reversed.
 fn keys_back(alloc: Global, keys: &[Packed]) -> Result<Vec<Packed>, AllocError>
     ensures { IfOk result (λ v. map halves v.items ≡ map back (map halves keys.now)) }
 {
@@ -21,7 +21,7 @@ fn keys_back(alloc: Global, keys: &[Packed]) -> Result<Vec<Packed>, AllocError>
     Ok(back)
 }
 
-/// Returns the keys of the steps round some polygons and of the steps back round others, sorted.
+/// Returns the keys of the steps round some polygons and of the reversed steps round others, sorted.
 fn steps_and_back(
     alloc: Global,
     polygons: &[Polygon],
@@ -38,12 +38,12 @@ fn steps_and_back(
     Ok(keys)
 }
 
-/// Returns true if each step is taken as much more often than the step back by some polygons as by others. So
-/// polygons that close up with the ones close up with the others.
+/// Returns true if, for each step, the count of the step minus that of the step back is the same for some polygons and
+/// for others. So polygons that close up with the former close up with the latter.
 ///
 /// # Errors
 ///
-/// `Memory` where an allocation failed.
+/// `Memory` if an allocation failed.
 pub fn have_one_border(
     alloc: Global,
     polygons: &[Polygon],

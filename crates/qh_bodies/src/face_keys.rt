@@ -1,14 +1,14 @@
-//! One number for the three ids of a triangle. The numbers of triangles are in order of the first id, then
-//! the second, then the third, so that a sort of numbers sorts triangles, and faster than a sort of polygons.
+//! One number for the three ids of a triangle. The numbers sort by the first id, then the second, then the third. So
+//! sorting numbers sorts triangles, faster than sorting polygons.
 ghost use Rattle.std.specs.Prelude.{◌≡◌};
 ghost use Rattle.qh_bodies.specs.steps.FaceKeys.{key_of, key_of_three, triangle_in};
 
 use qh_model::{Id, Polygon};
 
-/// The room of an id in a key: three ids below 2^21 fill 63 bits.
+/// The range of an id in a key: three ids below 2^21 fill 63 bits.
 const ID_ROOM: u64 = 2097152;
 
-/// Returns the key of three ids, if all of them have room.
+/// Returns the key of three ids, if all of them are in range.
 fn key_of_three(a: Id, b: Id, c: Id) -> Option<u64>
     ensures { result ≡ key_of_three a b c }
 {
@@ -23,7 +23,7 @@ fn key_of_three(a: Id, b: Id, c: Id) -> Option<u64>
     None
 }
 
-/// Returns the key of a triangle, if its ids have room. Other polygons have none.
+/// Returns the key of a triangle, if its ids are in range. Other polygons have no key.
 pub fn key_of(polygon: &Polygon) -> Option<u64>
     ensures { result ≡ key_of polygon.now }
 {

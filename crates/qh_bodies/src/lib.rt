@@ -1,10 +1,10 @@
-//! The faces of a solid set, put together to its hull.
+//! The hull of a solid set from its faces.
 //!
-//! [`UnsortedFaces`] keeps faces in little memory until all are there. [`sort_faces`] puts them in order (`face_order`), most
-//! of them by the numbers of `face_keys`. [`tally_of`] tells their corners and counts their edges (`solid_edges`), and
-//! [`body_of_faces`] is the hull that they are.
+//! [`UnsortedFaces`] stores faces in little memory until all are found. [`sort_faces`] sorts them (`face_order`), most
+//! of them by the numbers of `face_keys`. [`tally_of`] lists their corners and counts their edges (`solid_edges`), and
+//! [`body_of_faces`] makes the hull.
 //!
-//! The steps round polygons, from a corner to the next, decide whether polygons close up ([`open_step`]). Two lists of
+//! The steps round polygons, from a corner to the next, decide if polygons close up ([`open_step`]). Two lists of
 //! polygons have one border if the same steps keep them from closing up ([`have_one_border`]). Steps are compared by
 //! their sorted keys. [`out_of_order`] checks that polygons are in lexicographic order.
 #![tactic(auto)]

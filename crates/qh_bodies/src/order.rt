@@ -1,4 +1,4 @@
-//! Checks whether polygons stand in lexicographic order.
+//! Checks if polygons are in lexicographic order.
 ghost use Rattle.std.specs.Prelude.{◌↔◌, IsTrue, MatchOption};
 ghost use Rattle.qh_model.specs.headline.Polygons.{ComesBefore, RiseStrictly};
 ghost use Rattle.qh_bodies.specs.contract.Order.{IsOutOfOrder};

@@ -4,7 +4,7 @@ ghost use Rattle.qh_bodies.specs.contract.SolidEdges.{ups, all_edges_up};
 
 use qh_model::{Id, Memory, Polygon};
 
-/// Returns how often the way round a polygon goes to a higher id.
+/// Returns the number of steps to a higher id round a polygon.
 fn edges_up(ids: &[Id]) -> usize
     ensures count { result ≡ length (ups ids.now) }
     ensures limit { result ≤ length ids.now }
@@ -26,14 +26,14 @@ fn edges_up(ids: &[Id]) -> usize
     count
 }
 
-/// Returns how often the ways round polygons go to a higher id: for the faces of a solid the number
-/// of their edges, since two faces go along each edge, in opposite ways.
+/// Returns the number of steps to a higher id round polygons. For the faces of a solid it is the number of their edges,
+/// since two faces run along each edge in opposite directions.
 pub fn edge_count(polygons: &[Polygon]) -> Result<u64, Memory>
     ensures { IfOk result (λ n. n ≡ all_edges_up polygons.now) }
 {
     let mut count: u64 = 0;
     for polygon in polygons {
-        // A sum past the range would need more ids than fit into memory.
+        // An overflow would need more ids than fit into memory.
         let Some(sum) = count.checked_add(edges_up(polygon.ids()) as u64) else {
             return Err(Memory);
         };

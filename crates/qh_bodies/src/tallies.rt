@@ -1,4 +1,4 @@
-//! The corners of polygons, the number of their edges, and the hull that faces are.
+//! The corners of polygons, the number of their edges, and the hull with these faces.
 ghost use Rattle.std.specs.Prelude.{◌≡◌, ◌<◌, ◌↔◌, ℕ, List, IfOk, length};
 ghost use Rattle.std.specs.List.{All};
 ghost use Rattle.std.specs.List.Sorted.{IsStrictlyIncreasing};
@@ -49,12 +49,12 @@ fn mark_corners(marks: &mut IdMarks, polygons: &[Polygon])
     }
 }
 
-/// Returns the ids of all polygons, rising, each once. The ids are listed for a sort only where they are few and far
+/// Returns the ids of all polygons, rising, each once. The ids are listed and sorted only if they are few and far
 /// apart.
 ///
 /// # Errors
 ///
-/// `Memory` where an allocation failed.
+/// `Memory` if an allocation failed.
 pub fn corners(alloc: Global, polygons: &[Polygon]) -> Result<Vec<Id>, Memory>
     ensures rising { IfOk result (λ v. IsStrictlyIncreasing v.items) }
     ensures members { IfOk result (λ v. (i : ℕ) → In i v.items ↔ In i (all_members polygons.now)) }
@@ -69,12 +69,12 @@ pub fn corners(alloc: Global, polygons: &[Polygon]) -> Result<Vec<Id>, Memory>
     rising_ids(alloc, &ids)
 }
 
-/// The extreme ids and the number of edges of a solid set, by its faces.
+/// The extreme ids and the number of edges of a solid set, computed from its faces.
 #[derive(Drop)]
 pub struct Tally {
-    /// Their corners, rising, each once: the extreme ids.
+    /// The corners of the faces, rising, each once: the extreme ids.
     pub extremes: Vec<Id>,
-    /// How many edges they have.
+    /// The number of edges of the faces.
     pub edges: u64,
 }
 
@@ -82,7 +82,7 @@ pub struct Tally {
 ///
 /// # Errors
 ///
-/// `Memory` where an allocation failed.
+/// `Memory` if an allocation failed.
 pub fn tally_of(alloc: Global, polygons: &[Polygon]) -> Result<Tally, Memory>
     ensures { IfOk result (IsTally polygons.now) }
 {
@@ -93,8 +93,8 @@ pub fn tally_of(alloc: Global, polygons: &[Polygon]) -> Result<Tally, Memory>
 
 /// Returns the hull of a solid set, from its faces in rising lexicographic order, and their tally.
 ///
-/// The caller promises that the polygons are faces of the set, one at least, and that they close up: each
-/// step from a corner to the next is taken as often as the step back. Then they are all faces of the set
+/// The caller ensures that the polygons are faces of the set, at least one, and that they close up: each step from a
+/// corner to the next is taken as often as the step back. Then they are all faces of the set
 /// (`laws::closed_faces_are_hull`).
 pub fn body_of_faces(polygons: Vec<Polygon>, tally: Tally) -> Body
     requires { IsTally polygons.items tally }

@@ -1,4 +1,4 @@
--- What the plane of the first three corners tells of a polygon.
+-- The faults of a polygon that the plane of its first three corners shows.
 use Rattle.std.proofs.Common.{ℕ, ◌≡◌, sym, subst, ◌∙◌, List, ◌∷◌}
 use Rattle.std.specs.Prelude.{Option, Some, None, MatchOption}
 use Rattle.qh_model.specs.headline.Vector.{Vector}

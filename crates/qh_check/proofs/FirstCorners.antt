@@ -75,7 +75,7 @@ pub some_corners : (at : ℕ → Vector) (ids : List ℕ) → HasDistinctPoints 
 some_corners at ids d q (u, v, w, plane, p) =
     let f = corners_of at ids d u v w plane q p in (f.i, f.j, f.k, (f.rest, f.is), f.face)
 
--- and any three corners with which it begins are a supporting triple with this face
+-- any three corners with which a face begins are a supporting triple with this face
 pub corners_at : (at : ℕ → Vector) (ids : List ℕ) → HasDistinctPoints at (Members ids) → (q : List ℕ)
     → IsFace at (Members ids) q → (i j k : ℕ) → BeginsWith q i j k → HasFace at (Members ids) q i j k
 corners_at at ids d q (u, v, w, plane, p) i j k (r, e) = go (corners_of at ids d u v w plane q p)

@@ -42,7 +42,7 @@ module _ (pts : List Vector) (ids : List ℕ) (d : HasDistinctPoints (place pts)
   abbrev n : Vector
   n = cross (at t.u) (at t.v) (at t.w)
 
-  -- the first three corners of the piece lie in it, and are members
+  -- the first three corners of the piece lie in this plane, and are members
   corner : (x : ℕ) → In x q → Members ids x × (vol (at t.u) (at t.v) (at t.w) (at x) ≡ pos 0)
   corner x m = let on = (plane.1.members x).0 (round_has q face met x m) in (on.0.0, on.1)
 
@@ -55,7 +55,7 @@ module _ (pts : List Vector) (ids : List ℕ) (d : HasDistinctPoints (place pts)
   has_k : In t.k q
   has_k = rw t.begins.1 (inr (inr (inl refl)))
 
-  -- they turn left
+  -- the three corners turn left
   turn : pos 0 <ℤ left n (at t.i) (at t.j) (at t.k)
   turn = is_left-yes (left n (at t.i) (at t.j) (at t.k)) (sym (ap is_gt (turn_sign n (at t.i) (at t.j) (at t.k) across)) ∙ t.turn)
     where
@@ -69,7 +69,7 @@ module _ (pts : List Vector) (ids : List ℕ) (d : HasDistinctPoints (place pts)
         to_w = from_plane (at t.u) (at t.v) (at t.w) (at t.i) (at t.k) (corner t.i has_i).1 ∙ (corner t.k has_k).1;
       }
 
-  -- so they are a supporting triple
+  -- so the three corners are a supporting triple
   triple : IsSupportingTriple at (Members ids) t.i t.j t.k
   triple = record {
     has_i = (corner t.i has_i).0;
@@ -82,7 +82,7 @@ module _ (pts : List Vector) (ids : List ℕ) (d : HasDistinctPoints (place pts)
         (mul-nonneg_nonpos (left n (at t.i) (at t.j) (at t.k)) (vol (at t.u) (at t.v) (at t.w) (at l)) (positive_le _ turn) (plane.0.supports l a)));
   }
 
-  -- with the same polygon
+  -- the supporting triple has the same polygon
   polygon : IsFacePolygon at (Members ids) t.i t.j t.k face
   polygon =
       let along = level_along (at t.u) (at t.v) (at t.w) (at t.i) (at t.j) (at t.k) plane.0.area (corner t.i has_i).1
@@ -92,7 +92,7 @@ module _ (pts : List Vector) (ids : List ℕ) (d : HasDistinctPoints (place pts)
   pub turned_piece : IsPiece at (Members ids) q
   turned_piece = (t.i, t.j, t.k, triple, (t.begins, (face, polygon, met)))
 
--- so is one of the faces of a solid set
+-- a polygon is a piece if this holds for one of the faces of a solid set
 pub piece_among : (pts : List Vector) (ids : List ℕ) (faces : List (List ℕ)) (q : List ℕ) → AreFaces (place pts) (Members ids) faces
     → IsPieceAmong pts faces q → IsFaceOf pts ids q
 piece_among pts ids faces q are (k, (l, met, t)) =
@@ -105,7 +105,7 @@ pub faces_of_body : (pts : List Vector) (ids : List ℕ) → IsIdSet pts ids →
 faces_of_body pts ids set solid b body faces e =
     faces_of pts ids faces set solid (b.dim, body.dim, subst (ArePolygons (place pts) (Members ids) b.dim) e body.polygons)
 
--- so are all polygons that are seen to be pieces
+-- so all polygons that are found to be pieces are pieces
 pub seen_pieces : (pts : List Vector) (ids : List ℕ) (faces qs : List (List ℕ)) → AreFaces (place pts) (Members ids) faces → (o : Option Finding)
     → MatchOption o (All (IsSeen pts ids faces) qs) (IsFound pts ids qs) → MatchOption o (All (IsFaceOf pts ids) qs) (IsFound pts ids qs)
 seen_pieces pts ids faces qs are (Some f) h = h

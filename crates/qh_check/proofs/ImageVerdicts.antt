@@ -17,7 +17,7 @@ use Rattle.qh_check.specs.contract.Naming.{AreNamed, AreNamedFaces}
 use Rattle.qh_check.specs.steps.Corners.{HaveCornersIn}
 
 -- ---- polygons of members
--- the corners of polygons that faces name are ids
+-- the corners of renamed polygons are ids
 pub named_corners : (pts : List Vector) (ids : List ℕ) (named : List Vector) (faces qs : List (List ℕ)) → AreNamedFaces pts ids named faces qs
     → HaveCornersIn ids qs
 named_corners pts ids named faces qs s q m i n =
@@ -27,7 +27,7 @@ named_corners pts ids named faces qs s q m i n =
     subst (λ (k : ℕ). In k ids) d.2 (polygon.each d.0 (let e = polygon.count in omega (arith, e, d.1))).1.0
 
 module _ (at up : ℕ → Vector) (ids : List ℕ) (h : Keeps at up (Members ids)) where
-  -- what a polygon has to be beside its plane
+  -- a polygon that goes round corners of the face of a plane
   of_plane : (i j k : ℕ) (q : List ℕ) → In i ids → In j ids → In k ids → IsOfPlane at (Members ids) i j k q → IsOfPlane up (Members ids) i j k q
   of_plane i j k q a b c p = let f = p.1 in (p.0, (f.0, face at up (Members ids) h i j k a b c f.0 f.1, f.2))
 
@@ -43,7 +43,7 @@ module _ (at up : ℕ → Vector) (ids : List ℕ) (h : Keeps at up (Members ids
   )
   same_surface qs d (inr (n, p)) = absurd (n d)
 
--- what is wrong with a polygon of members
+-- the fault of a polygon of members
 same_fault : (at up : ℕ → Vector) (ids : List ℕ) → Keeps at up (Members ids) → (q : List ℕ) → ((i : ℕ) → In i q → In i ids) → (f : FaceFault)
     → IsFaceFault at (Members ids) q f → IsFaceFault up (Members ids) q f
 same_fault at up ids h q has NoPlane f = λ i j k b x y z. (h.line i j k x y z).1 (f i j k b x y z)
@@ -63,7 +63,7 @@ same_fault at up ids h q has OtherFace f = let t = f.4 in (
   λ o. f.5 (of_plane up at ids (back at up (Members ids) h) f.0 f.1 f.2 q t.has_i t.has_j t.has_k o),
 )
 
--- what a verdict says of polygons of members
+-- the meaning of a verdict on polygons of members
 same_reason : (at up : ℕ → Vector) (ids : List ℕ) → Keeps at up (Members ids) → (qs : List (List ℕ)) → IsDimension at (Members ids) 3
     → HaveCornersIn ids qs → (v : SurfaceVerdict) → IsSurfaceReason at (Members ids) qs v → IsSurfaceReason up (Members ids) qs v
 same_reason at up ids h qs d has Right r = same_surface at up ids h qs d r

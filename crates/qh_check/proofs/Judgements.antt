@@ -1,4 +1,4 @@
--- What the check of polygons tells of the faces that they are.
+-- The verdict on polygons as the verdict on the faces that they represent.
 use Rattle.std.proofs.Common.{ℕ, List}
 use Rattle.qh_model.specs.headline.DistinctIds.{AreDistinctIds}
 use Rattle.qh_model.specs.headline.Vector.{Vector}
@@ -9,7 +9,7 @@ use Rattle.qh_check.specs.contract.Surfaces.{IsSurfaceVerdictOf}
 use Rattle.qh_check.specs.contract.Judging.{IsTold}
 use Rattle.qh_check.specs.contract.Naming.{AreNamedFaces}
 
--- distinct ids are ids of distinct points, so the verdict on the polygons is that on the faces
+-- distinct ids are ids of distinct points, so the verdict on the polygons is the verdict on the faces
 pub told : (pts named : List Vector) (faces : List (List ℕ)) (ids : List ℕ) (polygons : List (List ℕ)) (v : SurfaceVerdict)
     → AreDistinctIds pts ids → AreNamedFaces pts ids named faces polygons
     → (IsIdSet pts ids → IsSurfaceVerdictOf pts ids polygons v) → IsTold pts named faces v

@@ -8,7 +8,7 @@ use Rattle.qh_model.proofs.lists.Filters.{in_filter}
 use Rattle.qh_check.specs.steps.CornerMarks.{IsMarked, is_unmarked}
 use Rattle.qh_check.proofs.Prefixes.{each_more, in_more, last_more}
 
--- what is marked after one more mark was marked before, or just now
+-- a mark after one more was set before, or is the new one
 pub marked_more : (marks : List Bool) (i k : ℕ) → IsMarked (set marks i true) k → IsMarked marks k ⊎ (k ≡ i)
 marked_more marks i k m = elim (cases_lt k i) [
   | inl l ↦ inl (before (λ e. omega (arith, e, l)))
@@ -18,17 +18,17 @@ marked_more marks i k m = elim (cases_lt k i) [
     before : k ≢ i → IsMarked marks k
     before n = sym (get_or-set_other marks i k true false n) ∙ m
 
--- a corner of the triangles so far stays one
+-- a corner of the triangles so far stays a corner
 pub corner_more : (ts : List Triple) (i : ℕ) (d : Triple) (k : ℕ) → i < length ts → IsCornerOf (take i ts) k → IsCornerOf (take (i + 1) ts) k
 corner_more ts i d k l (t, m, h) = (t, in_more ts i d t l m, h)
 
--- and a corner of the triangle at hand is one
+-- a corner of the current triangle is a corner
 pub corner_last : (ts : List Triple) (i : ℕ) (own : Triple) (k : ℕ) → i < length ts → own ≡ get_or ts i own
     → In k (own.i ∷ own.j ∷ own.k ∷ []) → IsCornerOf (take (i + 1) ts) k
 corner_last ts i own k l is h =
     (own, subst (λ (t : Triple). In t (take (i + 1) ts)) (sym is) (last_more ts i own l), h)
 
--- what holds of corners so far and of those of the triangle at hand holds of all
+-- a fact about corners so far and about those of the current triangle holds for all
 pub corners_more : (P : ℕ → Type 0) (ts : List Triple) (i : ℕ) (own : Triple) → i < length ts → own ≡ get_or ts i own
     → ((k : ℕ) → IsCornerOf (take i ts) k → P k) → P own.i → P own.j → P own.k → (k : ℕ) → IsCornerOf (take (i + 1) ts) k → P k
 corners_more P ts i own l is f p q r k (t, m, h) =
@@ -40,7 +40,7 @@ corners_more P ts i own l is f p q r k (t, m, h) =
     here k (inr (inr (inl e))) = subst P (sym e) r
     here k (inr (inr (inr x))) = absurd x
 
--- what is marked after the three corners of the triangle at hand is a corner so far
+-- a mark after the three corners of the current triangle is that of a corner so far
 pub marked_corners : (marks : List Bool) (ts : List Triple) (n : ℕ) (own : Triple) (a b c : ℕ) → n < length ts → own ≡ get_or ts n own
     → a ≡ own.i → b ≡ own.j → c ≡ own.k → ((k : ℕ) → IsMarked marks k → IsCornerOf (take n ts) k)
     → (k : ℕ) → IsMarked (set (set (set marks a true) b true) c true) k → IsCornerOf (take (n + 1) ts) k
@@ -58,7 +58,7 @@ marked_corners marks ts n own a b c l is p q r f k m = third (marked_more (set (
     third (inl h) = second (marked_more (set marks a true) b k h)
     third (inr e) = corner_last ts n own k l is (inr (inr (inl (e ∙ r))))
 
--- an id is a corner, where marks are of corners, or one of those that are not marked
+-- an id is a corner, if the marks are those of corners, or one of the ids without a mark
 pub corner_or_unmarked : (ts : List Triple) (marks : List Bool) (ids : List ℕ) (l : ℕ) → (IsMarked marks l → IsCornerOf ts l)
     → In l ids → IsCornerOf ts l ⊎ In l (filter (is_unmarked marks) ids)
 corner_or_unmarked ts marks ids l f m = elim (cases_Bool (get_or marks l false)) [

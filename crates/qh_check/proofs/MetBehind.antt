@@ -9,25 +9,25 @@ use Rattle.qh_check.specs.contract.Pieces.{IsMetAlong, IsMetRound}
 use Rattle.qh_check.specs.steps.Rounds.{IsBehind, way_behind}
 
 -- ---- from an earlier place
--- who begins one place earlier meets the same
+-- a list that is met from a position is met from the position before it
 met_more : (p q : List ℕ) (v : ℕ) → IsMetAlong p q → IsMetAlong p (v ∷ q)
 met_more [] q v h = tt
 met_more (u ∷ p) q v h = inr h
 
--- so does who begins at the first
+-- a list that is met from a position is met from the first
 met_from_first : (p q : List ℕ) (n : ℕ) → IsMetAlong p (drop n q) → IsMetAlong p q
 met_from_first p q zero h = h
 met_from_first p [] (suc n) h = h
 met_from_first p (v ∷ q) (suc n) h = met_more p q v (met_from_first p q n h)
 
--- or at any earlier place
+-- a list that is met from a position is met from any earlier position
 pub met_earlier : (p q : List ℕ) (m n : ℕ) → m ≤ n → IsMetAlong p (drop n q) → IsMetAlong p (drop m q)
 met_earlier p q zero n le h = met_from_first p q n h
 met_earlier p q (suc m) zero le h = absurd (omega (arith, le))
 met_earlier p [] (suc m) (suc n) le h = h
 met_earlier p (v ∷ q) (suc m) (suc n) le h = met_earlier p q m n (omega (arith, le)) h
 
--- one member more, at a place before that of the next
+-- one more member, at a position before that of the next
 pub met_before : (p q : List ℕ) (k m n : ℕ) → k < length p → m < length q → m < n → get_or p k 0 ≡ get_or q m 0
     → IsMetAlong (drop (k + 1) p) (drop n q) → IsMetAlong (drop k p) (drop m q)
 met_before p q k m n in_p in_q less e h =
@@ -42,7 +42,7 @@ module _ (face : List ℕ) (from : ℕ) (there : from < length face) where
       let t = length-take from face in
       omega (arith, e, d, t, there)
 
-  -- after this number of steps comes the corner at the other position
+  -- the corner at the other position comes after this number of steps
   pub behind : (to steps : ℕ) → to < length face → steps + 1 < length face → IsBehind from to (length face) steps
       → get_or (way_behind face from) steps 0 ≡ get_or face to 0
   behind to steps l short (inl (less, e)) =
@@ -65,7 +65,7 @@ along_has (u ∷ p) (v ∷ q) (inl h) x (inl e) = inl (e ∙ h.0)
 along_has (u ∷ p) (v ∷ q) (inl h) x (inr m) = inr (along_has p q h.1 x m)
 along_has (u ∷ p) (v ∷ q) (inr h) x m = inr (along_has (u ∷ p) q h x m)
 
--- who is met round a polygon is one of its corners
+-- an id that is met round a polygon is one of its corners
 pub round_has : (q face : List ℕ) → IsMetRound q face → (x : ℕ) → In x q → In x face
 round_has [] face h x m = absurd m
 round_has (u ∷ p) face (k, (l, at, along)) x (inl e) = subst (λ y. In y face) (at ∙ sym e) (In-get_or face k 0 l)

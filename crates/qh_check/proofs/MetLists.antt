@@ -5,14 +5,14 @@ use Rattle.std.proofs.lemmas.List.{append-nil, drop_more, drop_all}
 use Rattle.std.specs.Prelude.{◌↔◌}
 use Rattle.qh_check.specs.contract.Pieces.{IsMetAlong}
 
--- what is met is met without its first
+-- a list without its first member is met if the list is met
 met_less : (u : ℕ) (p q : List ℕ) → IsMetAlong (u ∷ p) q → IsMetAlong p q
 met_less u [] q h = tt
 met_less u (w ∷ p) [] h = absurd h
 met_less u (w ∷ p) (v ∷ q) (inl h) = inr h.1
 met_less u (w ∷ p) (v ∷ q) (inr h) = inr (met_less u (w ∷ p) q h)
 
--- the first is met here
+-- the first member is met here
 pub met_here : (u v : ℕ) (p q : List ℕ) → u ≡ v → IsMetAlong p q ↔ IsMetAlong (u ∷ p) (v ∷ q)
 met_here u v p q e = (λ h. inl (e, h), back)
   where
@@ -20,7 +20,7 @@ met_here u v p q e = (λ h. inl (e, h), back)
     back (inl h) = h.1
     back (inr h) = met_less u p q h
 
--- or not
+-- the first member is not met here
 pub met_later : (u v : ℕ) (p q : List ℕ) → u ≢ v → IsMetAlong (u ∷ p) q ↔ IsMetAlong (u ∷ p) (v ∷ q)
 met_later u v p q n = (λ h. inr h, back)
   where
@@ -28,7 +28,7 @@ met_later u v p q n = (λ h. inr h, back)
     back (inl h) = absurd (n h.0)
     back (inr h) = h
 
--- one step along the ids, on which the next of the list is met
+-- one step along the ids, at which the next member of the list is met
 pub met_step : (part ids : List ℕ) (next k : ℕ) (B : List ℕ → Type 0) → k < length ids → next < length part
     → get_or part next 0 ≡ get_or ids k 0
     → ((rest : List ℕ) → IsMetAlong (drop next part) (drop k ids ++ rest) ↔ B rest)
@@ -39,7 +39,7 @@ met_step part ids next k B l m e h rest =
     let both = subst (λ xs. IsMetAlong xs (get_or ids k 0 ∷ (drop (k + 1) ids ++ rest)) ↔ B rest) (drop_more part next 0 m) now in
     (λ a. both.0 (here.0 a), λ b. here.1 (both.1 b))
 
--- or not
+-- one step along the ids, at which the next member of the list is not met
 pub met_skip : (part ids : List ℕ) (next k : ℕ) (B : List ℕ → Type 0) → k < length ids
     → ¬ ((next < length part) × (get_or part next 0 ≡ get_or ids k 0))
     → ((rest : List ℕ) → IsMetAlong (drop next part) (drop k ids ++ rest) ↔ B rest)
@@ -69,21 +69,21 @@ met_skip part ids next k B l n h rest = elim (cases_lt next (length part)) [ inl
         both : IsMetAlong [] (get_or ids k 0 ∷ (drop (k + 1) ids ++ rest)) ↔ B rest
         both = subst (λ xs. IsMetAlong xs (get_or ids k 0 ∷ (drop (k + 1) ids ++ rest)) ↔ B rest) (drop_all next part m) now
 
--- along nothing only nothing is met
+-- along the empty list only the empty list is met
 met_nothing : (part : List ℕ) (k : ℕ) → IsMetAlong (drop k part) [] → length part ≤ k
 met_nothing part k h = elim (cases_lt k (length part)) [
   | inl l ↦ absurd (subst (λ xs. IsMetAlong xs []) (drop_more part k 0 l) h)
   | inr l ↦ l
 ]
 
--- a list is met along two lists, one after the other, where what is left of it after both is nothing
+-- a list is met along two joined lists if its rest after both is empty
 pub met_both : (part xs ys : List ℕ) (m n : ℕ)
     → ((rest : List ℕ) → IsMetAlong (drop m part) rest ↔ IsMetAlong (drop 0 part) (xs ++ rest))
     → ((rest : List ℕ) → IsMetAlong (drop n part) rest ↔ IsMetAlong (drop m part) (ys ++ rest))
     → n ≤ length part → (n ≡ length part) ↔ IsMetAlong part (xs ++ ys)
 met_both part xs ys m n f g le = (there, back)
   where
-    -- what is left after both
+    -- the rest of a list after both
     left : IsMetAlong (drop n part) [] ↔ IsMetAlong part (xs ++ ys)
     left =
         let e : ys ++ [] ≡ ys = append-nil ys in

@@ -8,7 +8,7 @@ use Rattle.qh_model.proofs.Members.{All-In, In-get_or}
 use Rattle.qh_check.specs.contract.Naming.{AreNamed, AreNamedFaces, IsNamed}
 use Rattle.qh_check.specs.steps.OwnIndices.{AreAllIndices, AreSamePoints}
 
--- each face does
+-- each face is its own renamed face
 pub own_faces : (pts : List Vector) (ids : List ℕ) (named : List Vector) (faces : List (List ℕ)) → AreAllIndices ids (length pts) → AreSamePoints pts named
     → ((k : ℕ) → k < length faces → All (λ i. i < length pts) (get_or faces k [])) → AreNamedFaces pts ids named faces faces
 own_faces pts ids named faces all same low = record { count = refl; each = λ k l. own (get_or faces k []) (low k l) }
@@ -25,7 +25,7 @@ own_faces pts ids named faces all same low = record { count = refl; each = λ k 
       each = λ k l. itself (get_or face k 0) (All-In (λ i. i < length pts) face (get_or face k 0) below (In-get_or face k 0 l));
     }
 
--- elements of two lists at an index that are the same are the same places
+-- equal elements of two lists at an index are equal points of the lists
 pub same_place : (pts named : List Vector) (k : ℕ) (a b : Vector) → k < length pts → k < length named → a ≡ get_or pts k a → b ≡ get_or named k b
     → a ≡ b → place pts k ≡ place named k
 unfolding place

@@ -1,4 +1,4 @@
--- What a look at each edge and each hidden id has found makes the triangles all faces of a solid.
+-- The results of the tests of each edge and each hidden id show that the triangles are all faces of a solid.
 use Rattle.std.proofs.Common.{◌≡◌, ◌≢◌, ℕ, ◌<◌, ◌≤◌, ◌⊎◌, arith, List, [], ◌∷◌, get_or, length, map, refl, sym, ap, subst, ◌∙◌, inl, inr}
 use Rattle.std.proofs.{lemmas.Bool.cases_lt, lemmas.List.Sums.count_by-le-length}
 use Rattle.std.specs.Prelude.{pos, count_by, ◌≤ℤ◌, ◌<ℤ◌}
@@ -13,7 +13,7 @@ use Rattle.qh_check.specs.steps.{Hidden.IsUnderOne, Hidden.IsUnderStep, Sharp.Ar
 use Rattle.qh_check.proofs.{SharpTriangles.ends_differ, SharpTriangles.sharp_around, StepCounts.edges_are, StepCounts.steps_are, StepCounts.closes}
 use Rattle.qh_check.proofs.{StepCounts.once, StepLists.of_turns, StepLists.of_ups}
 
--- a triangle with three corners, from the least on
+-- a triangle with three corners, beginning with the least
 least_first : (t : Triple) → t.i ≢ t.j → t.j ≢ t.k → t.k ≢ t.i → (u v w : ℕ) × IsRound t u v w × (u < v) × (u < w)
 least_first t p q r = elim (cases_lt t.i t.j) [
   | inl a ↦ elim (cases_lt t.i t.k) [
@@ -28,7 +28,7 @@ least_first t p q r = elim (cases_lt t.i t.j) [
 
 -- a point under the triangle of a step is under any triangle with its corners
 module _ (at : ℕ → Vector) (z p : Vector) where
-  -- the same step from its next corner on
+  -- the same step, beginning with its next corner
   abbrev turned : Triple → Triple
   turned s = record { i = s.j; j = s.k; k = s.i }
 
@@ -89,7 +89,7 @@ module _ (at : ℕ → Vector) (ids : List ℕ) (ts : List Triple) (s : AreSharp
   some : 0 < length ts
   some = let le = count_by-le-length (is_met at s.z s.d) ts in let e = s.met.once in omega (arith, le, e)
 
-  -- and with its neighbour it spans the space
+  -- the triangle and its neighbour span the space
   solid : IsDimension at (Members ids) 3
   solid = spanned ts (λ t m. m) some
     where

@@ -10,13 +10,13 @@ use Rattle.qh_check.specs.declared.flaw.SurfaceVerdict.TheVariants.{Right}
 use Rattle.qh_check.specs.contract.Pieces.{IsMetRound, IsPiece}
 use Rattle.qh_check.specs.contract.Surfaces.{IsHullSurface, IsSurfaceVerdictOf}
 
--- who goes round a triangle comes by its corners from any of them on
+-- a walk round a triangle from any of its corners meets all corners
 met_round : (t : Triple) (u v w : ℕ) → IsRound t u v w → IsMetRound (t.i ∷ t.j ∷ t.k ∷ []) (u ∷ v ∷ w ∷ [])
 met_round t u v w (inl (p, q, r)) = (0, (omega arith, sym p, inl (q, inl (r, tt))))
 met_round t u v w (inr (inl (p, q, r))) = (2, (omega arith, sym r, inl (p, inl (q, tt))))
 met_round t u v w (inr (inr (p, q, r))) = (1, (omega arith, sym q, inl (r, inl (p, tt))))
 
--- a triangle that is a face is a piece of one
+-- a triangular face is a piece of itself
 piece : (at : ℕ → Vector) (A : ℕ → Type 0) (q : List ℕ) → IsTriangleFace at A q → IsPiece at A q
 piece at A q f = (
   f.t.i,

@@ -30,7 +30,7 @@ module _ (at : ℕ → Vector) (ts : List Triple) (up down : List ℕ) (steps : 
     pub to : g.j ≡ s.i
     pub below : vol (at s.i) (at s.j) (at s.k) (at g.k) <ℤ pos 0
 
-  -- of a step to a higher id
+  -- the step back of a step to a higher id
   partner_up : (s : Triple) → In s all → s.i < s.j → HasPartner s
   partner_up s m l = partner_at (at_position step_in up s (in_ups ts up down steps s m (grind (arith, nat_tests, l))))
     where
@@ -49,7 +49,7 @@ module _ (at : ℕ → Vector) (ts : List Triple) (up down : List ℕ) (steps : 
           behind : k < length down
           behind = let c = pairs.count in omega (arith, c, h)
 
-  -- and of one to a lower
+  -- the step back of a step to a lower id
   partner_down : (s : Triple) → In s all → s.j < s.i → HasPartner s
   partner_down s m l = partner_at (at_position step_in down (back s) (in_downs ts up down steps s m (grind (arith, nat_tests, l))))
     where
@@ -81,7 +81,7 @@ module _ (at : ℕ → Vector) (ts : List Triple) (up down : List ℕ) (steps : 
     | inr r ↦ elim (cases_lt s.j s.i) [ inl l ↦ partner_down s m l | inr q ↦ absurd (n (omega (arith, r, q))) ]
   ]
 
-  -- a neighbour over an edge, with its third corner strictly below
+  -- a neighbour across an edge, with its third corner strictly below
   abbrev pub Steep : Triple → ℕ → ℕ → Type 0
   Steep t u v = (n : HasLowNeighbour at ts t u v) × (vol (at t.i) (at t.j) (at t.k) (at n.third) <ℤ pos 0)
 
@@ -116,7 +116,7 @@ module _ (at : ℕ → Vector) (ts : List Triple) (up down : List ℕ) (steps : 
     over_ki : Steep t t.k t.i
     over_ki = steep t.k t.i t.j (inr (inr (refl, refl, refl))) (in_flat_map turns ts t _ m (inr (inr (inl refl))))
 
-    -- so it has a sharp neighbour over each edge
+    -- so it has a sharp neighbour across each edge
     pub sharp_around : IsSharpAround at ts t
     sharp_around = record {
       around = record { over_ij = over_ij.0; over_jk = over_jk.0; over_ki = over_ki.0 };

@@ -1,4 +1,4 @@
--- Steps along edges pair off, each taken once.
+-- Steps along edges pair off, and each is taken once.
 use Rattle.std.proofs.Common.{◌≡◌, ℕ, suc, ◌+◌, ◌*◌, ◌/◌, ◌%◌, ◌<◌, ◌≤◌, arith, refl, sym, ap, subst, ◌∙◌, inl, inr}
 use Rattle.std.proofs.Common.{Bool, true, false, cond, List, [], ◌∷◌, get_or, length, map}
 use Rattle.std.proofs.{lemmas.Bool.cases_lt, lemmas.Bool.Decides.nat_tests, lemmas.List.Sorted.sum_by-IsPermutation}
@@ -15,7 +15,7 @@ use Rattle.qh_check.specs.steps.Triangles.{corners}
 abbrev pub ends : Triple → ℕ × ℕ
 ends s = (s.i, s.j)
 
--- is it the step from u to v?
+-- true if a step goes from u to v
 abbrev pub on : ℕ → ℕ → Triple → Bool
 on u v s = is_edge (u, v) (ends s)
 
@@ -24,12 +24,12 @@ pub edges_are : (ts : List Triple) → edges ts ≡ map ends (flat_map turns ts)
 edges_are [] = refl
 edges_are (t ∷ ts) = ap (λ (es : List (ℕ × ℕ)). (t.i, t.j) ∷ (t.j, t.k) ∷ (t.k, t.i) ∷ es) (edges_are ts)
 
--- and so are the steps round their polygons
+-- the steps round the polygons of triangles are the ends of their steps
 pub steps_are : (ts : List Triple) → flat_map steps_round (map corners ts) ≡ map ends (flat_map turns ts)
 steps_are [] = refl
 steps_are (t ∷ ts) = ap (λ (es : List (ℕ × ℕ)). (t.i, t.j) ∷ (t.j, t.k) ∷ (t.k, t.i) ∷ es) (steps_are ts)
 
--- where all that count pass, a filter keeps std's count
+-- a filter keeps the count of std if all counted elements pass
 kept_by : (f p : Triple → Bool) → ((s : Triple) → f s ≡ true → p s ≡ true) → (ss : List Triple) → count_by f (filter p ss) ≡ count_by f ss
 kept_by f p h ss = sym (count-is f (filter p ss)) ∙ count_kept f p h ss ∙ count-is f ss
 
@@ -54,7 +54,7 @@ same_ends (x ∷ xs) (y ∷ ys) e h =
     join p q = cc (p, q)
 
 -- ---- keys of edges that rise
--- a rising list goes on rising after its first
+-- a rising list without its first element rises
 rises_on : (x : ℕ) (xs : List ℕ) → EdgesRise (x ∷ xs) → EdgesRise xs
 rises_on x xs rise k l e m = rise (suc k) (suc l) (omega (arith, e)) (omega (arith, m))
 
@@ -63,7 +63,7 @@ not_counted : (b : Bool) (n : ℕ) → (b ≡ true → ⊥) → n ≡ 0 → cond
 not_counted true n f e = absurd (f refl)
 not_counted false n f e = omega (arith, e)
 
--- none behind a higher edge
+-- no key is counted behind a higher edge
 none_above : (f : ℕ → Bool) (e : ℕ) → ((key : ℕ) → f key ≡ true → key / ROOM ≡ e) → (x : ℕ) (xs : List ℕ)
     → EdgesRise (x ∷ xs) → e < x / ROOM → count f (x ∷ xs) ≡ 0
 none_above f e tells x [] rise l = not_counted (f x) 0 (λ t. (let same = tells x t in omega (arith, same, l))) refl
@@ -71,14 +71,14 @@ none_above f e tells x (y ∷ ys) rise l =
     not_counted (f x) (count f (y ∷ ys)) (λ t. (let same = tells x t in omega (arith, same, l)))
     (none_above f e tells y ys (rises_on x (y ∷ ys) rise) (let n : x / ROOM < y / ROOM = rise 0 1 (omega arith) (omega arith) in omega (arith, n, l)))
 
--- none behind the edge itself
+-- no key is counted behind the edge itself
 none_behind : (f : ℕ → Bool) (e : ℕ) → ((key : ℕ) → f key ≡ true → key / ROOM ≡ e) → (x : ℕ) (xs : List ℕ)
     → EdgesRise (x ∷ xs) → x / ROOM ≡ e → count f xs ≡ 0
 none_behind f e tells x [] rise same = refl
 none_behind f e tells x (y ∷ ys) rise same =
     none_above f e tells y ys (rises_on x (y ∷ ys) rise) (let n : x / ROOM < y / ROOM = rise 0 1 (omega arith) (omega arith) in omega (arith, n, same))
 
--- so each edge has one key at most
+-- so each edge has at most one key
 pub once_rising : (f : ℕ → Bool) (e : ℕ) → ((key : ℕ) → f key ≡ true → key / ROOM ≡ e) → (xs : List ℕ) → EdgesRise xs → count f xs ≤ 1
 once_rising f e tells [] rise = omega arith
 once_rising f e tells (x ∷ xs) rise =
@@ -99,7 +99,7 @@ module _ (ts : List Triple) (up down : List ℕ) (steps : AreSteps ts up down) w
       count-map ends (is_edge (u, v)) all ∙ sym (kept_by (on u v) goes_up (up_by u v l) all)
       ∙ sym (sum_by-IsPermutation (λ s. cond (on u v s) 1 0) _ _ steps.ups) ∙ sym (count-map ends (is_edge (u, v)) (map step_in up))
 
-  -- the second those back
+  -- the second list counts the steps back
   pub count_down : (u v : ℕ) → u < v → count_by (is_edge (v, u)) (map ends all) ≡ count_by (is_edge (u, v)) (map ends (map step_in down))
   count_down u v l =
       count-map ends (is_edge (v, u)) all ∙ sym (kept_by (on v u) goes_down (down_by u v l) all)
@@ -129,7 +129,7 @@ module _ (ts : List Triple) (up down : List ℕ) (steps : AreSteps ts up down) w
             let e : u ≡ v = omega (arith, r, s) in
             subst (λ w. count_by (is_edge (u, w)) (map ends all) ≡ count_by (is_edge (w, u)) (map ends all)) e refl
 
-  -- and once at most
+  -- each step is taken at most once
   pub once : EdgesRise up → (u v : ℕ) → u < v → count_by (is_edge (u, v)) (map ends all) ≤ 1
   once rise u v l = subst (λ (n : ℕ). n ≤ 1) (sym told) (once_rising (λ key. on u v (step_in key)) (u * ROOM + v) tells up rise)
     where

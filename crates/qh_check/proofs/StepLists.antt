@@ -1,4 +1,4 @@
--- The steps round triangles in two lists: which steps are there, and which triangles they come from.
+-- The steps round triangles in two lists: the steps in the lists, and the triangles to which they belong.
 use Rattle.std.proofs.Common.{◌≡◌, ℕ, suc, ◌<◌, arith, true, List, [], ◌∷◌, get_or, length, map, All, sym, ap, subst, inl, inr}
 use Rattle.std.proofs.lemmas.List.Sorted.{IsPermutation-sym}
 use Rattle.std.specs.{Prelude.filter, List.flat_map}
@@ -8,13 +8,13 @@ use Rattle.qh_model.proofs.lists.{Filters.in_filter, Filters.of_filter, Images.i
 use Rattle.qh_laws.specs.contract.LocallyConvex.{IsRound}
 use Rattle.qh_check.specs.steps.{StepKeys.step_in, StepKeys.turns, StepKeys.goes_up, StepKeys.goes_down, StepKeys.back, StepKeys.AreSteps, Triangles.IsBelow}
 
--- an element of an image stands at a position
+-- an element of an image has a position
 pub at_position : {Y : Type 0} (f : ℕ → Y) (xs : List ℕ) (y : Y) → In y (map f xs) → (k : ℕ) × (k < length xs) × (f (get_or xs k 0) ≡ y)
 at_position f [] y m = absurd m
 at_position f (x ∷ xs) y (inl e) = (0, omega arith, sym e)
 at_position f (x ∷ xs) y (inr m) = let r = at_position f xs y m in let l = r.1 in (suc r.0, omega (arith, l), r.2)
 
--- the triangle that a step goes round
+-- the triangle round which a step goes
 pub of_turns : (ts : List Triple) (s : Triple) → In s (flat_map turns ts) → (t : Triple) × In t ts × IsRound t s.i s.j s.k
 of_turns ts s m = let r = of_flat_map turns ts s m in (r.0, r.1, round r.0 r.2)
   where
@@ -24,7 +24,7 @@ of_turns ts s m = let r = of_flat_map turns ts s m in (r.0, r.1, round r.0 r.2)
     round t (inr (inr (inl e))) = inr (inr (ap (λ (x : Triple). x.i) (sym e), ap (λ (x : Triple). x.j) (sym e), ap (λ (x : Triple). x.k) (sym e)))
     round t (inr (inr (inr x))) = absurd x
 
--- its corners are as low as those of all triangles
+-- the corners of this triangle are below the bound of all triangles
 pub turns_below : (n : ℕ) (ts : List Triple) → All (IsBelow n) ts → (s : Triple) → In s (flat_map turns ts) → IsBelow n s
 turns_below n ts all s m = let r = of_turns ts s m in below_of r.0 r.2 (All-In (IsBelow n) ts r.0 all r.1)
   where
@@ -44,7 +44,7 @@ module _ (ts : List Triple) (up down : List ℕ) (steps : AreSteps ts up down) w
   pub in_ups : (s : Triple) → In s all → goes_up s ≡ true → In s (map step_in up)
   in_ups s m t = in_permutation _ _ steps.ups s (in_filter goes_up all s m t)
 
-  -- those of the second, turned back, go down
+  -- the steps of the second list, reversed, go down
   pub of_downs : (s : Triple) → In s (map step_in down) → In (back s) all × (goes_down (back s) ≡ true)
   of_downs s m = turned_back (of_map back (filter goes_down all) s (in_permutation _ _ (IsPermutation-sym _ _ steps.downs) s m))
     where
@@ -55,7 +55,7 @@ module _ (ts : List Triple) (up down : List ℕ) (steps : AreSteps ts up down) w
   pub in_downs : (s : Triple) → In s all → goes_down s ≡ true → In (back s) (map step_in down)
   in_downs s m t = in_permutation _ _ steps.downs (back s) (in_map back (filter goes_down all) s (in_filter goes_down all s m t))
 
-  -- so the keys are of ids as low as those of the triangles
+  -- so the ids of the keys are below the bound of the triangles
   pub ups_below : (n : ℕ) → All (IsBelow n) ts → All (λ key. IsBelow n (step_in key)) up
   ups_below n low = All-of (λ key. IsBelow n (step_in key)) up (λ key m. turns_below n ts low (step_in key) (of_ups (step_in key) (in_map step_in up key m)).0)
 

@@ -1,4 +1,4 @@
--- Verdicts on surfaces: what is wrong with polygons shows that they are no surface, and where nothing is wrong, they are one.
+-- Verdicts on surfaces: polygons with a fault are no surface, and polygons without a fault are one.
 use Rattle.std.proofs.Common.{ℕ, ◌≡◌, ◌≢◌, ◌<◌, ◌≤◌, arith, refl, subst, inl, inr, ap, List, [], ◌∷◌, length}
 use Rattle.std.proofs.Common.{get_or, All}
 use Rattle.qh_model.specs.headline.Vector.{Vector}
@@ -29,7 +29,7 @@ module _ (pts : List Vector) (ids : List ℕ) (qs : List (List ℕ)) (set : IsId
   surface_of (inl h) = h.1
   surface_of (inr h) = absurd (h.0 solid)
 
-  -- a verdict but `Right`, which no surface has
+  -- a verdict other than `Right`, which no surface has
   wrong : (v : SurfaceVerdict) → v ≢ Right → ¬ (IsFaceSurface at (Members ids) qs)
       → IsSurfaceReason at (Members ids) qs v → IsSurfaceVerdictOf pts ids qs v
   wrong v n none reason =
@@ -64,7 +64,7 @@ module _ (pts : List Vector) (ids : List ℕ) (qs : List (List ℕ)) (set : IsId
         },
       )
 
--- ---- sets that are not solid, whose hull is taken
+-- ---- sets that are not solid, whose hull is computed
 module _ (pts : List Vector) (ids : List ℕ) (qs : List (List ℕ)) (flat : ¬ (IsDimension (place pts) (Members ids) 3)) where
   pub are_polygons : ArePolygonsOf (place pts) (Members ids) qs → IsSurfaceVerdictOf pts ids qs Right
   are_polygons p = record { right = (λ e. inr (flat, p), λ h. refl); reason = inr (flat, p) }

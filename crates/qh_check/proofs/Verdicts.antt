@@ -1,4 +1,4 @@
--- The polygons of a set, and those of its hull.
+-- The polygons of a set and those of its hull.
 use Rattle.std.proofs.Common.{ℕ, ◌≡◌, ◌≢◌, arith, refl, subst, inl, inr, List}
 use Rattle.std.specs.Prelude.{◌↔◌, Bool, true, false, IsTrue}
 use Rattle.qh_model.specs.headline.Vector.{Vector}
@@ -37,7 +37,7 @@ module _ (pts : List Vector) (ids : List ℕ) (qs : List (List ℕ)) (set : IsId
           other : dim ≡ 0 → dim ≡ 3 → ⊥
           other f g = omega arith
 
--- ---- sets whose hull is taken
+-- ---- sets whose hull is computed
 module _ (at : ℕ → Vector) (A : ℕ → Type 0) (b : BodyValue) (body : IsBody at A b) (qs : List (List ℕ)) where
   pub same_polygons : b.polygons ≡ qs → ArePolygonsOf at A qs
   same_polygons e = (b.dim, body.dim, subst (ArePolygons at A b.dim) e body.polygons)
@@ -47,7 +47,7 @@ module _ (at : ℕ → Vector) (A : ℕ → Type 0) (b : BodyValue) (body : IsBo
       n (one_polygon_list at A b.dim b.polygons qs body.dim body.polygons
       (subst (λ k. ArePolygons at A k qs) (one_dimension at A dim b.dim is body.dim) polygons))
 
-  -- so whether they are the same tells whether they are those of the set
+  -- so the claimed polygons are those of the set exactly if they are the same
   pub same_or_others : (b' : Bool) → IsTrue b' ↔ (b.polygons ≡ qs) → IsTrue b' ↔ ArePolygonsOf at A qs
   same_or_others true h = (λ t. same_polygons (h.0 t), λ p. refl)
   same_or_others false h = (λ f. cc, λ p. absurd (other_polygons (λ e. (let f = h.1 e in cc)) p))

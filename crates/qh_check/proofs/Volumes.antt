@@ -3,11 +3,11 @@ use Rattle.std.proofs.Common.{◌≡◌, arith}
 use Rattle.std.proofs.lemmas.Int.{ints}
 use Rattle.std.specs.Prelude.{ℤ, pos, neg_ℤ, ◌<ℤ◌, ◌≤ℤ◌}
 
--- what is not below 0 is at least 0
+-- a number that is not below 0 is at least 0
 pub not_below : (a : ℤ) → ¬ (a <ℤ pos 0) → pos 0 ≤ℤ a
 not_below a n = grind (arith, ints, n)
 
--- what is not above 0 is at most 0
+-- a number that is not above 0 is at most 0
 pub not_above : (a : ℤ) → ¬ (pos 0 <ℤ a) → a ≤ℤ pos 0
 not_above a n = grind (arith, ints, n)
 
@@ -15,6 +15,6 @@ not_above a n = grind (arith, ints, n)
 pub own_opposite : (a : ℤ) → a ≡ neg_ℤ a → ¬ (a <ℤ pos 0)
 own_opposite a e h = omega (arith, ints)
 
--- what is equal to a number below 0 is below 0
+-- a number equal to one below 0 is below 0
 pub less_by : (a b : ℤ) → a ≡ b → b <ℤ pos 0 → a <ℤ pos 0
 less_by a b e h = omega (arith, ints)

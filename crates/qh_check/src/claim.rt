@@ -6,7 +6,7 @@ use qh_model::{Id, Point, Polygon};
 
 /// A set of ids, at least one and each the index of one of the points, and polygons that may be its polygons.
 ///
-/// That the ids rise and have distinct points (`IsIdSet`) is the caller's condition.
+/// The caller ensures that the ids rise and have distinct points (`IsIdSet`).
 #[derive(Clone, Copy, Drop)]
 pub struct Claim<'a> {
     pub pts: &'a [Point],

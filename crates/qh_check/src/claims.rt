@@ -1,4 +1,4 @@
-//! Whether polygons are those of a set, by its hull.
+//! Checks if polygons are those of a set, by computing its hull.
 ghost use Rattle.std.specs.Prelude.{◌≡◌, ◌↔◌, IfOk, IsTrue};
 ghost use Rattle.qh_model.specs.headline.Predicates.{place};
 ghost use Rattle.qh_model.specs.headline.Sets.{Members};

@@ -1,9 +1,9 @@
-//! Where a face of a hull is found that has given corners.
+//! A table that finds a face of a hull by its corners.
 //!
-//! A face begins with its least corner, and the faces stand in rising order: so a triangle is found by its
-//! first step. Larger faces are found by their corners (`corner_table`).
+//! A face begins with its least corner, and the faces are sorted, so a triangle is found by its first step. Larger
+//! faces are found by their corners (`corner_table`).
 //!
-//! Nothing is proved of what is found: a face is asked whether the polygon is a piece of it (`hull_faces`).
+//! The table itself is not proved: `hull_faces` checks that the polygon is a piece of the face that was found.
 ghost use Rattle.std.specs.Prelude.{IfOk, IsTrue};
 ghost use Rattle.qh_check.specs.steps.HullFaces.{IsPieceAmong};
 
@@ -12,12 +12,12 @@ use crate::hull_faces::HullFaces;
 use qh_model::{Id, Polygon};
 use std::alloc::{AllocError, Global};
 
-/// Where the faces of a hull stand.
+/// An index of the faces of a hull.
 #[derive(Drop)]
 pub(crate) struct FaceTable {
-    /// For each id the number of faces that begin with a lower one.
+    /// For each id the number of faces that begin with a lower id.
     starts: Vec<usize>,
-    /// The corners of the faces of more than three corners.
+    /// The corners of the faces with more than three corners.
     corners: CornerTable,
 }
 
@@ -29,7 +29,7 @@ fn extend_to(numbers: &mut Vec<usize>, index: usize, number: usize) -> Result<()
     Ok(())
 }
 
-/// Returns for each id below a count the number of faces that begin with a lower one, and then the number of all.
+/// Returns for each id below a count the number of faces that begin with a lower id, and then the number of all faces.
 fn starts_of(alloc: Global, faces: &[Polygon], count: usize) -> Result<Vec<usize>, AllocError> {
     let mut starts = Vec::with_capacity(alloc, count.saturating_add(1))?;
     for position in 0..faces.len() {
@@ -46,7 +46,7 @@ fn second_corner(faces: &[Polygon], position: usize) -> Option<Id> {
     faces.get(position)?.ids().get(1).copied()
 }
 
-/// Returns the first position between two at which a face has this second corner or a higher one.
+/// Returns the first position from `from` to `to` at which a face has this second corner or a higher one.
 fn position_of(faces: &[Polygon], from: usize, to: usize, second: Id) -> usize {
     let mut low = from;
     let mut high = to;
@@ -60,8 +60,7 @@ fn position_of(faces: &[Polygon], from: usize, to: usize, second: Id) -> usize {
     low
 }
 
-/// Returns the least corner of a polygon, and the next one; the first ids where the polygon has fewer than two
-/// corners.
+/// Returns the least corner of a polygon, and the next one, or the first ids if the polygon has fewer than two corners.
 fn least_step(ids: &[Id]) -> (Id, Id) {
     let mut from = Id::new(0);
     let mut to = Id::new(0);
@@ -77,7 +76,7 @@ fn least_step(ids: &[Id]) -> (Id, Id) {
 }
 
 impl FaceTable {
-    /// Returns the faces of a hull of `count` points, in rising order.
+    /// Returns the table of the faces of a hull of `count` points, in rising order.
     pub fn over(alloc: Global, faces: &[Polygon], count: usize) -> Result<FaceTable, AllocError> {
         Ok(FaceTable {
             starts: starts_of(alloc, faces, count)?,
@@ -85,7 +84,7 @@ impl FaceTable {
         })
     }
 
-    /// Returns the position of the face that takes a step first, if there is one.
+    /// Returns the position of the face whose first step is a given one, if there is one.
     fn position_of(&self, faces: &[Polygon], from: Id, to: Id) -> usize {
         let start = self.starts.get(from.index());
         let end = self.starts.get(from.index().saturating_add(1));
@@ -95,7 +94,8 @@ impl FaceTable {
         }
     }
 
-    /// Returns true if a polygon is found to be a piece of one of the faces. `positions` is room for its corners.
+    /// Returns true if the table shows a polygon to be a piece of one of the faces. `positions` is scratch for its
+    /// corners.
     pub fn has_piece(
         &self,
         hull: HullFaces,

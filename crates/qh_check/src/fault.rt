@@ -1,20 +1,19 @@
-//! What is wrong with one polygon.
+//! The faults of one polygon.
 ghost use Rattle.std.specs.Prelude.{Some};
 ghost use Rattle.qh_check.specs.contract.Texts.{face_fault_text};
 
 use qh_model::Id;
 use std::fmt;
 
-/// What is wrong with one polygon, by the plane through its first three corners.
+/// A fault of one polygon, by the plane through its first three corners.
 #[derive(Clone, Copy, Debug, PartialEq, Eq)]
 pub enum FaceFault {
-    /// There is no such plane: the polygon has fewer than three corners, one of the first three is no id of
-    /// the set, or they lie in one line.
+    /// The plane does not exist: the polygon has fewer than three corners, one of the first three is no id of the set,
+    /// or they lie in one line.
     NoPlane,
-    /// This id of the set lies above the plane, on the side from which the three corners go
-    /// counterclockwise.
+    /// This id of the set lies above the plane, on the side from which the three corners are counterclockwise.
     Above(Id),
-    /// The plane supports the set, and the polygon does not go round corners of its face.
+    /// The plane supports the set, but the polygon does not go round corners of its face.
     OtherFace,
 }
 

@@ -1,4 +1,4 @@
-//! What is found to be wrong with a list of polygons.
+//! A fault found in a list of polygons.
 use crate::fault::FaceFault;
 
 /// A polygon that is no piece of a face, by its position, and its fault.

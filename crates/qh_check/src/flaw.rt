@@ -9,14 +9,13 @@ use std::fmt;
 /// The verdict on a surface of pieces.
 #[derive(Clone, Copy, Debug, PartialEq, Eq)]
 pub enum SurfaceVerdict {
-    /// It is the surface of the hull.
+    /// The polygons are the surface of the hull.
     Right,
-    /// The set is not solid, or there is no polygon: the polygons of the set are others.
+    /// The set is not solid or there is no polygon; the polygons are not those of the set.
     OtherPolygons,
     /// The polygon at this position is no piece of a face of the set.
     NoPiece(usize, FaceFault),
-    /// The polygons take the step from the first id to the second, and the step back, not equally often: this
-    /// edge is open.
+    /// The polygons do not take the step from the first id to the second as often as the step back: this edge is open.
     Open(Id, Id),
     /// The polygons take the step from the first id to the second, a higher one, more than once.
     Twice(Id, Id),

@@ -1,7 +1,7 @@
-//! Checks whether a polygon is a piece of a given face of a hull.
+//! Checks if a polygon is a piece of a given face of a hull.
 //!
-//! The corners of a face stand in its polygon in their order. So no plane is asked again: a piece is met on the way
-//! round the face, and its first three corners turn as those of the face do.
+//! The corners of a face are in its polygon in order, so no plane is tested again. A piece is a list of corners met on
+//! the way round the face, and its first three corners turn as those of the face do.
 ghost use Rattle.std.specs.Prelude.{IsTrue};
 ghost use Rattle.qh_check.specs.steps.HullFaces.{IsPieceOfFace, TurnsAlike};
 
@@ -10,7 +10,7 @@ use crate::rounds::{goes_round, is_met_round};
 use qh_model::{Id, Point, Polygon};
 use qh_pred::{cross, left, point_at};
 
-/// Returns true if a polygon has three corners at most.
+/// Returns true if a polygon has at most three corners.
 pub(crate) fn is_triangle(ids: &[Id]) -> bool {
     ids.len() <= 3
 }
@@ -22,7 +22,8 @@ pub(crate) struct HullFaces<'a> {
     pub faces: &'a [Polygon],
 }
 
-/// Returns true if the first three corners of a polygon turn left in the plane of a face, seen from the same side.
+/// Returns true if the first three corners of a polygon turn left in the plane of a face, seen from the side from which
+/// the face is.
 fn turns_alike(pts: &[Point], face: &Polygon, claimed: &Polygon) -> bool
     ensures { IsTrue result → TurnsAlike pts.now face.now claimed.now }
 {
@@ -60,7 +61,8 @@ impl HullFaces<'_> {
             && turns_alike(self.pts, face, claimed)
     }
 
-    /// Returns true if a polygon goes round corners of the face at a position, which stand at these positions of it.
+    /// Returns true if a polygon goes round corners of the face at a position. `corners` has their positions in the
+    /// face.
     pub fn has_piece_at(self, position: usize, claimed: &Polygon, corners: &[usize]) -> bool
         ensures { IsTrue result → IsPieceOfFace self.entry.pts.now self.entry.faces.now position claimed.now }
     {

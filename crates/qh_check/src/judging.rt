@@ -14,8 +14,8 @@ use qh_plane::{distinct_alone, distinct_in_threads};
 use std::alloc::Global;
 use std::thread::Threads;
 
-/// Judges faces of points whose distinct ids are known. The faces are renamed only if their corners are not the distinct
-/// ids themselves.
+/// Judges faces of points whose distinct ids are known. The faces are renamed only if their corners are not the
+/// distinct ids themselves.
 fn judge_distinct(
     alloc: Global,
     pts: &[Point],
@@ -50,19 +50,18 @@ fn judge_distinct(
     }
 }
 
-/// Judges faces of points: whether they are the surface of the hull of the distinct points, as
-/// [`check_surface`] requires it, or have a corner where no point is.
+/// Judges faces of points: returns the verdict of [`check_surface`] on the distinct points, or the position of a face
+/// with a corner that is not one of the points.
 ///
-/// The corners of the faces are indices of `named`, which may be the points themselves. Of several points at
-/// one place any may be named. There is one point at least, and there are at most `POINT_LIMIT`, which the
-/// caller keeps.
+/// The corners of the faces are indices of `named`, which may be the points themselves. If several points are equal, a
+/// corner may be any of them. The caller ensures that there is at least one point, and at most `POINT_LIMIT`.
 ///
-/// The threads claim parts of the points one after the other, to find the distinct ones; the calling thread alone judges
-/// the faces. No `workers` means one.
+/// The threads claim parts of the points one after the other, to find the distinct ones; the calling thread alone
+/// judges the faces. `workers` of 0 counts as one.
 ///
 /// # Errors
 ///
-/// `Memory` where an allocation failed.
+/// `Memory` if an allocation failed.
 pub fn judge_faces<R: Threads + Sync>(
     rt: &R,
     alloc: Global,
@@ -79,14 +78,14 @@ pub fn judge_faces<R: Threads + Sync>(
     judge_distinct(alloc, pts, &ids, named, faces)
 }
 
-/// Judges faces of points, as [`judge_faces`] does, by the calling thread alone.
+/// Judges faces of points, as [`judge_faces`] does, in the calling thread alone.
 ///
-/// The corners of the faces are indices of `named`, which may be the points themselves. There is one point at
-/// least, and there are at most `POINT_LIMIT`, which the caller keeps.
+/// The corners of the faces are indices of `named`, which may be the points themselves. The caller ensures that there
+/// is at least one point, and at most `POINT_LIMIT`.
 ///
 /// # Errors
 ///
-/// `Memory` where an allocation failed.
+/// `Memory` if an allocation failed.
 pub fn judge_faces_alone(
     alloc: Global,
     pts: &[Point],

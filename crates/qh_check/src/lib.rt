@@ -1,10 +1,10 @@
-//! A checker of hulls: whether faces are the surface of the hull of points, and what is wrong where they are not.
+//! A checker of hulls. It checks if faces are the surface of the hull of points, and reports a fault if they are not.
 //!
-//! [`judge_faces`] takes faces whose corners are indices of points of any list, such as the vertices of a file. It names
-//! their corners by the distinct ids at their places (`naming`, by `positions`), and maps a long or flat set first
-//! (`mapped`). [`check_surface`] then makes the hull of the ids, looks each polygon up among its faces (`search`, by
-//! `face_table`), and counts the steps from corner to corner (`qh_bodies`). A polygon that is not found is judged by the plane of
-//! its first three corners (`faces`). Nobody needs to know how the polygons were found.
+//! [`judge_faces`] takes faces whose corners are indices of points of any list, such as the vertices of a file. It
+//! renames their corners to the distinct ids of the same points (`naming`, by `positions`), and maps a long or flat set
+//! first (`mapped`). [`check_surface`] then computes the hull of the ids, finds each polygon among its faces (`search`,
+//! by `face_table`), and counts the steps from corner to corner (`qh_bodies`). A polygon that is not found is tested by
+//! the plane of its first three corners (`faces`). The checker needs no knowledge of how the polygons were computed.
 //!
 //! Triangles with an angle at each edge are first checked without a hull, by [`convex`].
 #![tactic(auto)]

@@ -12,8 +12,8 @@ use qh_lattice::reduced;
 use qh_model::Memory;
 use std::alloc::Global;
 
-/// Returns the verdict on polygons of the points as they are. Triangles with an angle at each edge are accepted by a
-/// look at each edge; the checker decides on others.
+/// Returns the verdict on polygons of the points without a map. Triangles with an angle at each edge are accepted by a
+/// test of each edge; the checker decides on others.
 fn verdict_as_given(alloc: Global, claim: Claim) -> Result<SurfaceVerdict, Memory>
     ensures { IfOk result (λ v. IsIdSet claim.entry.pts.now claim.entry.ids.now
         → IsSurfaceVerdictOf claim.entry.pts.now claim.entry.ids.now claim.entry.polygons.now v) }
@@ -24,7 +24,7 @@ fn verdict_as_given(alloc: Global, claim: Claim) -> Result<SurfaceVerdict, Memor
     check_surface(alloc, claim)
 }
 
-/// Returns the verdict on polygons whose corners are ids of the set. The points are mapped first where a map pays, which
+/// Returns the verdict on polygons whose corners are ids of the set. The points are mapped first if a map pays. A map
 /// changes no verdict.
 pub fn verdict_on(alloc: Global, claim: Claim) -> Result<SurfaceVerdict, Memory>
     requires { HaveCornersIn claim.ids.now claim.polygons.now }

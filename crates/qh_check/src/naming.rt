@@ -1,4 +1,4 @@
-//! The distinct ids that the corners of faces stand for.
+//! The distinct ids for the corners of faces.
 ghost use Rattle.std.specs.Prelude.{◌≡◌, ◌<◌, ◌↔◌, [], IfOk, IsTrue, MatchOption, MatchResult, length, slice_index_or};
 ghost use Rattle.qh_model.specs.contract.IdSets.{AreIndices};
 ghost use Rattle.qh_check.specs.contract.Naming.{AreNamed, AreNamedFaces, HasStranger, IsAt, IsNamed, IsNowhere, IsStranger};
@@ -8,7 +8,7 @@ use qh_model::{Id, Point, Polygon};
 use qh_pred::point_at;
 use std::alloc::{AllocError, Global};
 
-/// The points that the corners of faces are indices of, and where the distinct ids at their places stand.
+/// The points whose indices the corners of faces are, and the positions of the distinct ids of the same points.
 #[derive(Clone, Copy, Drop)]
 struct Named<'a> {
     pts: &'a [Point],
@@ -26,7 +26,7 @@ pub(crate) fn are_same(a: Point, b: Point) -> bool
 }
 
 impl Named<'_> {
-    /// Returns the distinct id at a place, by comparing the ids one by one.
+    /// Returns the distinct id of a point, by comparing the ids one by one.
     fn looked_for(self, point: Point) -> Option<Id>
         ensures { MatchOption result (IsNowhere self.entry.pts.now self.entry.ids.now point) (IsAt self.entry.pts.now self.entry.ids.now point) }
     {
@@ -38,8 +38,8 @@ impl Named<'_> {
         None
     }
 
-    /// Returns the distinct id at a place, which is that at a position if it is known. Otherwise all ids are
-    /// compared, which happens at most once: the place is then that of no point.
+    /// Returns the distinct id of a point, which is the id at a position if that is known. Otherwise all ids are
+    /// compared. That happens at most once, since the point is then not in the list.
     fn id_at(self, point: Point, position: usize) -> Option<Id>
         ensures { MatchOption result (IsNowhere self.entry.pts.now self.entry.ids.now point) (IsAt self.entry.pts.now self.entry.ids.now point) }
     {
@@ -49,7 +49,7 @@ impl Named<'_> {
         self.looked_for(point)
     }
 
-    /// Returns the distinct id that a number stands for.
+    /// Returns the distinct id for a corner.
     fn id_of(self, number: Id) -> Option<Id>
         ensures { MatchOption result (IsStranger self.entry.pts.now self.entry.ids.now self.entry.list.now number)
             (IsNamed self.entry.pts.now self.entry.ids.now self.entry.list.now number) }
@@ -61,8 +61,7 @@ impl Named<'_> {
         self.id_at(point_at(self.list, number), position.unwrap_or(0))
     }
 
-    /// Returns a face, its corners named by distinct ids, or `None` if one of them lies where no
-    /// point is.
+    /// Returns a face with its corners renamed to distinct ids, or `None` if one of them is not one of the points.
     fn renamed(self, alloc: Global, face: &Polygon) -> Result<Option<Polygon>, AllocError>
         ensures { IfOk result (λ r. MatchOption r (HasStranger self.entry.pts.now self.entry.ids.now self.entry.list.now face.now)
             (AreNamed self.entry.pts.now self.entry.ids.now self.entry.list.now face.now)) }
@@ -77,7 +76,7 @@ impl Named<'_> {
         Ok(Some(Polygon::of(ids)))
     }
 
-    /// Returns the polygons of faces, or the position of one with a corner where no point is.
+    /// Returns the polygons of faces, or the position of a face with a corner that is not one of the points.
     fn all_renamed(
         self,
         alloc: Global,
@@ -98,8 +97,8 @@ impl Named<'_> {
     }
 }
 
-/// Returns the polygons of faces, named by the distinct ids of the points, or the position of a face with a corner
-/// where no point is.
+/// Returns the polygons of faces, renamed to the distinct ids of the points, or the position of a face with a corner
+/// that is not one of the points.
 pub fn polygons_of(
     alloc: Global,
     pts: &[Point],

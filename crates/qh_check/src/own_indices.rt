@@ -48,8 +48,8 @@ fn are_below(face: &Polygon, count: usize) -> bool
     true
 }
 
-/// Returns true if the corners of faces are indices of points, all of them distinct ids, so that the faces are the
-/// polygons that they name.
+/// Returns true if the corners of faces are indices of points, and all of them are distinct ids, so that the faces need
+/// no renaming.
 pub fn are_own(pts: &[Point], ids: &[Id], named: &[Point], faces: &[Polygon]) -> bool
     ensures { IsTrue result → AreNamedFaces pts.now ids.now named.now faces.now faces.now }
 {

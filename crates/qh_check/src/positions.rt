@@ -1,12 +1,12 @@
-//! Which points of a list lie at the place of which distinct point.
+//! Maps the points of a list to the equal distinct points.
 //!
-//! Nothing is proved of the positions: the caller compares the points.
+//! The positions are not proved: the caller compares the points.
 use qh_model::{Id, Point};
 use qh_polygon::{place_key, place_key_id};
 use std::alloc::{AllocError, Global};
 
-/// Returns the sorted keys of the points of some ids, and of those of a list: each with its position, those of the
-/// list behind the others.
+/// Returns the sorted keys of the points of some ids, and of those of a list, each with its position. Among equal
+/// points, those of the list follow the others.
 fn sorted_keys(
     alloc: Global,
     pts: &[Point],
@@ -24,7 +24,7 @@ fn sorted_keys(
     Ok(keys)
 }
 
-/// Returns true if a list has the points of some ids, in their order.
+/// Returns true if a list consists of the points of some ids, in their order.
 fn is_list_of(pts: &[Point], ids: &[Id], list: &[Point]) -> bool {
     if list.len() != ids.len() {
         return false;
@@ -37,8 +37,8 @@ fn is_list_of(pts: &[Point], ids: &[Id], list: &[Point]) -> bool {
     true
 }
 
-/// Returns for each of `list` points the position of the id at its place, by the sorted keys of `ids` ids
-/// and of the points. A point with no id at its place gets the position of another id.
+/// Returns for each of `list` points the position of the id of an equal point, by the sorted keys of `ids` ids and of
+/// the points. A point that equals no id's point gets the position of another id.
 fn positions_in(
     alloc: Global,
     keys: &[u128],
@@ -58,7 +58,7 @@ fn positions_in(
     Ok(positions)
 }
 
-/// Returns for each point of a list the position of the distinct id at its place, if there is one.
+/// Returns for each point of a list the position of the distinct id of an equal point, if there is one.
 pub fn positions_of(
     alloc: Global,
     pts: &[Point],

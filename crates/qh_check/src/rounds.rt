@@ -1,11 +1,11 @@
-//! Checks whether a walk round a polygon meets a list of ids in its order.
+//! Checks if a walk round a polygon meets the ids of a list in order.
 ghost use Rattle.std.specs.Prelude.{◌≡◌, ◌+◌, ◌++◌, ◌<◌, ◌≤◌, ◌↔◌, ℕ, List, IsTrue, drop, length, slice_index_or, take};
 ghost use Rattle.qh_check.specs.contract.Pieces.{IsMetAlong, IsMetFrom, IsMetRound};
 ghost use Rattle.qh_check.specs.steps.Rounds.{IsBehind, way_behind};
 
 use qh_model::Id;
 
-/// Returns true if an id stands at a position of a list.
+/// Returns true if a list has an id at a position.
 fn is_at(ids: &[Id], position: usize, id: Id) -> bool
     ensures { IsTrue result ↔ ((position < length ids.now) × (slice_index_or ids.now position 0 ≡ id)) }
 {
@@ -15,7 +15,7 @@ fn is_at(ids: &[Id], position: usize, id: Id) -> bool
     ids[position] == id
 }
 
-/// Returns how many items of a list are met on a way along some ids, after `met` that were met before.
+/// Returns how many items of a list have been met after a walk along some ids, if `before` were met before it.
 fn met(part: &[Id], before: usize, ids: &[Id]) -> usize
     requires { before ≤ length part.now }
     ensures bound { result ≤ length part.now }
@@ -30,7 +30,8 @@ fn met(part: &[Id], before: usize, ids: &[Id]) -> usize
     next
 }
 
-/// Returns true if a walk round a polygon, from behind a position to the position before it, meets all of a list in its order.
+/// Returns true if a walk round a polygon, from behind a position to the position before it, meets all items of a list
+/// in order.
 fn is_met_behind(part: &[Id], face: &[Id], position: usize) -> bool
     requires { position < length face.now }
     ensures { IsTrue result ↔ IsMetAlong part.now (drop (position + 1) face.now ++ take position face.now) }
@@ -40,7 +41,7 @@ fn is_met_behind(part: &[Id], face: &[Id], position: usize) -> bool
     all == part.len()
 }
 
-/// Returns true if an id stands at a position of a polygon, and a walk round the polygon from there meets a list.
+/// Returns true if a polygon has an id at a position, and a walk round the polygon from there meets a list.
 fn is_met_from(first: Id, rest: &[Id], face: &[Id], position: usize) -> bool
     requires { position < length face.now }
     ensures { IsTrue result ↔ IsMetFrom first rest.now face.now position }
@@ -66,8 +67,7 @@ pub(crate) fn is_met_round(part: &[Id], face: &[Id]) -> bool
     false
 }
 
-/// Returns the position of a corner on the way round a polygon from behind another corner: 0 for
-/// the next.
+/// Returns the number of corners between two corners on the way round a polygon: 0 if the second is next.
 fn steps_behind(from: usize, to: usize, count: usize) -> usize
     requires from { from < count }
     requires to { to < count }
@@ -80,8 +80,8 @@ fn steps_behind(from: usize, to: usize, count: usize) -> usize
     }
 }
 
-/// Returns true if a list goes round corners of a polygon that stand at these positions of it. It takes the
-/// time of the list, however many corners the polygon has.
+/// Returns true if a list goes round the corners of a polygon at these positions. The time depends on the length of the
+/// list alone, not on that of the polygon.
 pub(crate) fn goes_round(part: &[Id], face: &[Id], positions: &[usize]) -> bool
     ensures { IsTrue result → IsMetRound part.now face.now }
 {
@@ -98,7 +98,7 @@ pub(crate) fn goes_round(part: &[Id], face: &[Id], positions: &[usize]) -> bool
 }
 
 /// Returns true if a walk round a polygon from behind a position meets a list at these positions of the polygon. The
-/// last item is tested first, so that each position has to stand before the one behind it.
+/// last item is tested first, so that each position has to precede the one after it.
 fn goes_on(rest: &[Id], positions: &[usize], face: &[Id], begin: usize) -> bool
     requires begin { begin < length face.now }
     requires same { length positions.now ≡ length rest.now }

@@ -1,5 +1,5 @@
-//! The search for a polygon that is no piece of a face: the hull is made, and each polygon is looked for in it. The first
-//! one that is not found there is tested by its plane, so that a fault costs no more than a look at each point.
+//! The search for a polygon that is no piece of a face. The hull is computed, and each polygon is looked up in it. The
+//! first polygon that is not found is tested by its plane, so a fault costs no more than one test of each point.
 ghost use Rattle.std.specs.Prelude.{IfOk, MatchOption};
 ghost use Rattle.std.specs.List.{All};
 ghost use Rattle.qh_model.specs.headline.Dimension.{IsDimension};
@@ -19,8 +19,8 @@ use qh_block::hull;
 use qh_model::{Memory, Polygon};
 use std::alloc::Global;
 
-/// Returns what is wrong with a polygon, if it is not found among the faces of the hull and anything is. `positions` is
-/// room for its corners.
+/// Returns the fault of a polygon, if it is not found among the faces of the hull and has a fault. `positions` is
+/// scratch for its corners.
 fn fault_beside(
     alloc: Global,
     claim: Claim,
@@ -42,7 +42,8 @@ fn fault_beside(
     fault_of(alloc, claim, polygon)
 }
 
-/// Returns a polygon of a claim that is no piece of a face of the hull, if there is one; the faces of the hull are given.
+/// Returns a polygon of a claim that is no piece of a face of the hull, if there is one. The faces of the hull are
+/// given.
 fn fault_among(alloc: Global, claim: Claim, faces: &[Polygon]) -> Result<Option<Finding>, Memory>
     ensures { IfOk result (λ found. MatchOption found
         (All (IsSeen claim.entry.pts.now claim.entry.ids.now faces.now) claim.entry.polygons.now)
@@ -60,7 +61,7 @@ fn fault_among(alloc: Global, claim: Claim, faces: &[Polygon]) -> Result<Option<
     Ok(None)
 }
 
-/// Returns a polygon of a claim that is no piece of a face of its set, a solid, if there is one.
+/// Returns a polygon of a claim that is no piece of a face of its set, if there is one. The set is a solid.
 pub(crate) fn find_fault(alloc: Global, claim: Claim) -> Result<Option<Finding>, Memory>
     ensures { IfOk result (λ found. IsIdSet claim.entry.pts.now claim.entry.ids.now
         → IsDimension (place claim.entry.pts.now) (Members claim.entry.ids.now) 3

@@ -1,4 +1,4 @@
-//! Checks whether polygons, pieces of faces in any order, are the surface of a hull.
+//! Checks if polygons, pieces of faces in any order, are the surface of a hull.
 ghost use Rattle.std.specs.Prelude.{◌<◌, ℕ, List, IfOk, length};
 ghost use Rattle.std.specs.List.{All};
 ghost use Rattle.qh_model.specs.headline.Dimension.{IsDimension};
@@ -18,7 +18,8 @@ use qh_model::{Memory, Polygon};
 use qh_polygon::{Shape, rank};
 use std::alloc::Global;
 
-/// Returns the verdict on polygons that are pieces of faces of a solid set: they have to close up, with two at each side.
+/// Returns the verdict on polygons that are pieces of faces of a solid set. They have to close up, with two at each
+/// side.
 fn judge_steps(alloc: Global, polygons: &[Polygon]) -> Result<SurfaceVerdict, Memory>
     ensures { IfOk result (λ v. (pts : List Vector) (ids : List ℕ) → IsIdSet pts ids → IsDimension (place pts) (Members ids) 3
         → 0 < length polygons.now → All (IsFaceOf pts ids) polygons.now → IsSurfaceVerdictOf pts ids polygons.now v) }
@@ -32,7 +33,7 @@ fn judge_steps(alloc: Global, polygons: &[Polygon]) -> Result<SurfaceVerdict, Me
     }
 }
 
-/// Checks polygons, one at least, of a solid set.
+/// Checks polygons of a solid set. There is at least one polygon.
 fn check_solid_surface(alloc: Global, claim: Claim) -> Result<SurfaceVerdict, Memory>
     requires { 0 < length claim.polygons.now }
     ensures { IfOk result (λ v. IsIdSet claim.entry.pts.now claim.entry.ids.now
@@ -58,20 +59,20 @@ fn compare_surface(alloc: Global, claim: Claim) -> Result<SurfaceVerdict, Memory
     }
 }
 
-/// Checks whether polygons are the surface of the hull of a set, however they are written: in a solid set
-/// pieces of its faces, such as triangles, in any order, each beginning at any corner, that close up. Those
-/// of another set have to be the polygons of its hull: see `qh_model/specs/headline/Polygons.antt`.
+/// Checks if polygons are the surface of the hull of a set, in any form. In a solid set they are pieces of its faces,
+/// such as triangles, that close up; they may have any order and begin at any corner. In another set they have to be
+/// the polygons of its hull: see `qh_model/specs/headline/Polygons.antt`.
 ///
-/// The verdict is `Right` exactly where the polygons are a closed surface; another verdict says what is wrong:
-/// first a polygon that is no piece of a face, then an open edge, then a step that is taken twice. Of several
-/// polygons that are no pieces it names the first.
+/// The verdict is `Right` exactly if the polygons are a closed surface. Otherwise it names a fault: first a polygon
+/// that is no piece of a face, then an open edge, then a step that is taken twice. If several polygons are no pieces,
+/// it names the first.
 ///
-/// It makes the hull of the set, looks each polygon up in it, and tests the plane of one that is not found there, so it
-/// takes little longer than the hull whatever is wrong.
+/// It computes the hull of the set, looks up each polygon in it, and tests the plane of a polygon that is not found
+/// there. So it takes little longer than the hull, whatever the fault.
 ///
 /// # Errors
 ///
-/// `Memory` where an allocation failed.
+/// `Memory` if an allocation failed.
 ///
 /// Source: this project's own.
 pub fn check_surface(alloc: Global, claim: Claim) -> Result<SurfaceVerdict, Memory>

@@ -1,4 +1,4 @@
-//! Point files that several libraries are asked about, and the OFF files of their hulls.
+//! Point files that the tests of several libraries use, and the OFF files of their hulls.
 
 /// The point (5, 5, 5).
 pub const ONE_POINT: &str = "3\n1\n5 5 5\n";

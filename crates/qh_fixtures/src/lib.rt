@@ -1,7 +1,7 @@
-//! What the tests of several libraries ask about: point files with their OFF files, sets of points, and ids and
-//! faces by number.
+//! Data that the tests of several libraries use: point files with their OFF files, sets of points, and ids and faces by
+//! number.
 //!
-//! It has no tests of its own, so that each test crate uses it without proving it again.
+//! It has no tests of its own, so that test crates use it without proving it again.
 #![tactic(auto)]
 
 pub mod faces;

@@ -1,4 +1,4 @@
-//! Sets of points that several libraries are asked about.
+//! Sets of points that the tests of several libraries use.
 ghost use Rattle.qh_model.specs.headline.Limits.{IsCoordinate};
 
 use qh_model::{COORDINATE_LIMIT, Point};
@@ -78,8 +78,8 @@ pub fn octahedron() -> [Point; 18] {
     ]
 }
 
-/// Returns all points whose x, y and z are among these coordinates, in rising order of their places in the
-/// list, and all of them again up to the number of times.
+/// Returns all points whose x, y and z are among these coordinates, in the order of the coordinates in the list; the
+/// whole sequence is repeated `times` times.
 ///
 /// # Errors
 ///

@@ -1,4 +1,4 @@
--- Parts of a set that have all its extreme ids, gathered block after block.
+-- Parts of a set that contain all its extreme ids, collected block after block.
 use Rattle.std.proofs.Common.{ℕ, ◌≡◌, ◌∙◌, ◌⊎◌, inl, inr, List, ◌++◌, take, drop, subst, sym, ap}
 use Rattle.std.specs.Prelude.{◌↔◌}
 use Rattle.std.proofs.lemmas.List.{take-append-drop}
@@ -15,7 +15,7 @@ use Rattle.qh_model.specs.laws.HullLaws.{HasExtremes}
 use Rattle.qh_hull.specs.steps.Parts.{HasExtremesBefore}
 
 -- ---- block after block
--- the front of a set of ids is one
+-- the front of a set of ids is a set of ids
 pub set_front : (pts : List Vector) (xs ys : List ℕ) → IsIdSet pts (xs ++ ys) → IsIdSet pts xs
 set_front pts xs ys s =
     record {
@@ -23,7 +23,7 @@ set_front pts xs ys s =
       distinct = λ i j m n e. s.distinct i j (in_append xs ys i (inl m)) (in_append xs ys j (inl n)) e;
     }
 
--- and the rest
+-- so is the rest
 set_back : (pts : List Vector) (xs ys : List ℕ) → IsIdSet pts (xs ++ ys) → IsIdSet pts ys
 set_back pts xs ys s =
     record {
@@ -31,7 +31,7 @@ set_back pts xs ys s =
       distinct = λ i j m n e. s.distinct i j (in_append xs ys i (inr m)) (in_append xs ys j (inr n)) e;
     }
 
--- with the extremes of a block, only what is behind it is left
+-- after the extreme ids of a block are added, only the ids after the block remain
 pub block_kept : (pts : List Vector) (ids block later kept found : List ℕ)
     → HasExtremesBefore pts ids (block ++ later) kept → AreExtremes (place pts) (Members block) found
     → HasExtremesBefore pts ids later (kept ++ found)
@@ -61,7 +61,7 @@ block_kept pts ids block later kept found h x = record {
     sorted i e (inl m) = inl (in_append kept found i (inl m))
     sorted i e (inr m) = split i e (of_append block later i m)
 
--- the same, of a block that was cut off
+-- the same for a block that was cut off
 pub cut_kept : (pts : List Vector) (ids rest block later kept given found grown : List ℕ) (n : ℕ) → block ≡ take n rest
     → later ≡ drop n rest → given ≡ found → grown ≡ kept ++ given
     → HasExtremesBefore pts ids rest kept → (IsIdSet pts block → AreExtremes (place pts) (Members block) found) → HasExtremesBefore pts ids later grown
@@ -70,11 +70,11 @@ cut_kept pts ids rest block later kept given found grown n e f same more h x =
     subst (HasExtremesBefore pts ids later) (sym (more ∙ ap (λ v. kept ++ v) same))
     (block_kept pts ids block later kept found h' (x (set_front pts block later h'.set)))
 
--- what is left are indices
+-- the remaining ids are indices
 pub left_indices : (pts : List Vector) (ids rest kept : List ℕ) → AreIndices pts ids → HasExtremesBefore pts ids rest kept → AreIndices pts rest
 left_indices pts ids rest kept indices h = part_indices pts ids rest indices h.later
 
--- with all that was left, nothing is
+-- after all remaining ids are added, none remains
 pub rest_kept : (pts : List Vector) (ids rest kept : List ℕ) → HasExtremesBefore pts ids rest kept → HasExtremes pts ids (kept ++ rest)
 rest_kept pts ids rest kept h = record { within = λ i m. inside i (of_append kept rest i m); extremes = λ i e. in_append kept rest i (h.extremes i e) }
   where

@@ -1,5 +1,5 @@
 //! The hull of a set of ids by the calling thread. A large set that is long or flat is mapped first. If few ids of a
-//! large set are extreme, most ids are dropped by the hull of their block alone.
+//! large set are extreme, the hulls of its blocks remove most ids first.
 ghost use Rattle.std.specs.Prelude.{◌<◌, IfOk, length};
 ghost use Rattle.qh_model.specs.contract.IdSets.{AreIndices, IsIdSet};
 ghost use Rattle.qh_model.specs.headline.Hull.{IsBody};
@@ -13,7 +13,7 @@ use qh_model::{Body, Id, Memory, Point};
 use qh_polygon::rising_ids;
 use std::alloc::Global;
 
-/// Returns true if blocks pay: the set is large, and of its first ids few are extreme.
+/// Returns true if blocks pay: the set is large, and few of its first ids are extreme.
 fn blocks_pay(alloc: Global, pts: &[Point], ids: &[Id]) -> Result<bool, Memory>
     requires { AreIndices pts.now ids.now }
 {
@@ -25,8 +25,7 @@ fn blocks_pay(alloc: Global, pts: &[Point], ids: &[Id]) -> Result<bool, Memory>
     Ok(are_few(found.len(), TELLING))
 }
 
-/// Returns the ids that are extreme in their block, and all ids from behind the first block of which
-/// most are.
+/// Returns the ids that are extreme in their block, and all ids after the first block in which most ids are extreme.
 fn extremes_of_blocks(alloc: Global, pts: &[Point], ids: &[Id]) -> Result<Vec<Id>, Memory>
     requires indices { AreIndices pts.now ids.now }
     requires set { IsIdSet pts.now ids.now }
@@ -47,7 +46,7 @@ fn extremes_of_blocks(alloc: Global, pts: &[Point], ids: &[Id]) -> Result<Vec<Id
     Ok(kept)
 }
 
-/// Returns the hull of a set of ids by the extremes of its blocks.
+/// Returns the hull of a set of ids, from the extreme ids of its blocks.
 fn hull_by_blocks(alloc: Global, pts: &[Point], ids: &[Id]) -> Result<Body, Memory>
     requires some { 0 < length ids.now }
     requires indices { AreIndices pts.now ids.now }
@@ -59,7 +58,7 @@ fn hull_by_blocks(alloc: Global, pts: &[Point], ids: &[Id]) -> Result<Body, Memo
     hull(alloc, pts, &part)
 }
 
-/// Returns the hull of a set of ids, of the points as they are.
+/// Returns the hull of a set of ids, without a map.
 fn body_as_given(alloc: Global, pts: &[Point], ids: &[Id]) -> Result<Body, Memory>
     requires some { 0 < length ids.now }
     requires indices { AreIndices pts.now ids.now }
@@ -73,7 +72,7 @@ fn body_as_given(alloc: Global, pts: &[Point], ids: &[Id]) -> Result<Body, Memor
     }
 }
 
-/// Returns the hull of a set of ids: that of images of the points where a map pays.
+/// Returns the hull of a set of ids; it is computed from images of the points where a map pays.
 pub fn body_alone(alloc: Global, pts: &[Point], ids: &[Id]) -> Result<Body, Memory>
     requires some { 0 < length ids.now }
     requires indices { AreIndices pts.now ids.now }

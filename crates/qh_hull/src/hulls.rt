@@ -11,10 +11,10 @@ use qh_model::{Body, Hull, Id, Memory, Point};
 use qh_plane::distinct_alone;
 use std::alloc::Global;
 
-/// Returns the hull of a list of points, given that of its distinct ids.
+/// Returns the hull of a list of points, given the hull of its distinct ids.
 ///
-/// `ids` are the distinct ids, rising, as `qh_plane::distinct` gives them, and the list has at most
-/// `POINT_LIMIT` points. These are the caller's conditions.
+/// `ids` are the distinct ids, rising, as `qh_plane::distinct` returns them, and the list has at most `POINT_LIMIT`
+/// points. The caller ensures these conditions.
 pub fn hull_of_body(pts: &[Point], ids: &[Id], body: Body) -> Hull
     requires few { length pts.now ≤ POINT_LIMIT }
     requires distinct { AreDistinctIds pts.now ids.now }
@@ -29,9 +29,9 @@ pub fn hull_of_body(pts: &[Point], ids: &[Id], body: Body) -> Hull
     }
 }
 
-/// Returns the hull of a list of points, by the calling thread alone.
+/// Returns the hull of a list of points, computed by the calling thread alone.
 ///
-/// The list has at least one point and at most `POINT_LIMIT` points, which the caller keeps.
+/// The caller ensures that the list has at least one point and at most `POINT_LIMIT` points.
 ///
 /// # Errors
 ///

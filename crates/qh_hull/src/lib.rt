@@ -1,6 +1,6 @@
-//! The hull of a list of points, put together from that of its distinct ids.
+//! The hull of a list of points, built from that of its distinct ids.
 //!
-//! [`hull_of_body`] is the last step of every way to a hull. [`hull_alone`] is the whole way of one
+//! [`hull_of_body`] is the last step of every computation of a hull. [`hull_alone`] is the whole computation by one
 //! thread, which takes all ids at once, or the extreme ids of blocks of them (`blocks`).
 #![tactic(auto)]
 

@@ -13,7 +13,7 @@ use Rattle.qh_lattice.specs.contract.LatticeMaps.{Matrix, determinant, moved}
 use Rattle.qh_lattice.specs.laws.MapLaws.{SameSign, at_moved, MovedDimension, MovedFaces, MovedBody}
 use Rattle.qh_lattice.proofs.Images.{positive_nonzero, moved_volume_sign, moved_line, moved_turn, extreme_moved}
 
--- what a hull rests on is the same where the members have other points
+-- the properties on which a hull depends are the same if the members have other points
 pub record Keeps (at up : ℕ → Vector) (A : ℕ → Type 0) : Type 0 where
   pub volume : (i j k l : ℕ) → A i → A j → A k → A l → SameSign (vol (at i) (at j) (at k) (at l)) (vol (up i) (up j) (up k) (up l))
   pub line : (i j k : ℕ) → A i → A j → A k → AreInLine (up i) (up j) (up k) ↔ AreInLine (at i) (at j) (at k)
@@ -22,11 +22,11 @@ pub record Keeps (at up : ℕ → Vector) (A : ℕ → Type 0) : Type 0 where
       → SameSign (left (cross (at i) (at j) (at k)) (at u) (at v) (at w)) (left (cross (up i) (up j) (up k)) (up u) (up v) (up w))
   pub extreme : (l : ℕ) → Extreme up A l ↔ Extreme at A l
 
--- two numbers change places
+-- having the same sign is symmetric
 same_back : (a b : ℤ) → SameSign a b → SameSign b a
 same_back a b s = record { above = (s.above.1, s.above.0); level = (s.level.1, s.level.0); below = (s.below.1, s.below.0) }
 
--- so do the points
+-- `Keeps` is symmetric
 pub back : (at up : ℕ → Vector) (A : ℕ → Type 0) → Keeps at up A → Keeps up at A
 back at up A h = record {
   volume = λ i j k l a b c d. same_back (vol (at i) (at j) (at k) (at l)) (vol (up i) (up j) (up k) (up l)) (h.volume i j k l a b c d);
@@ -83,7 +83,7 @@ triple at up A h i j k t = record {
       (λ p. not_less (pos 0) (vol (at i) (at j) (at k) (at l)) ((h.volume i j k l t.has_i t.has_j t.has_k a).above.1 p) (t.supports l a));
 }
 
--- its polygon
+-- the polygon of this triple
 pub face : (at up : ℕ → Vector) (A : ℕ → Type 0) → Keeps at up A → (i j k : ℕ) → A i → A j → A k → (q : List ℕ)
     → IsFacePolygon at A i j k q → IsFacePolygon up A i j k q
 face at up A h i j k a b c q p = record {
@@ -116,7 +116,7 @@ segment at up A h q s = record {
   is = s.is;
 }
 
--- the polygons, but of a flat set
+-- the polygons, except those of a flat set
 polygons : (at up : ℕ → Vector) (A : ℕ → Type 0) → Keeps at up A → (k : ℕ) (qs : List (List ℕ)) → k ≢ 2 → ArePolygons at A k qs → ArePolygons up A k qs
 polygons at up A h k qs n (inl (e, f)) = inl (e, faces at up A h qs f)
 polygons at up A h k qs n (inr (inl (e, p))) = absurd (n e)
@@ -136,7 +136,7 @@ body at up A h b n d = record {
 }
 
 -- ---- images
--- all this holds of images
+-- the facts above hold for images
 pub keeps : (m : Matrix) → pos 0 <ℤ determinant m → (s : Vector) (at up : ℕ → Vector) (A : ℕ → Type 0) → ((i : ℕ) → A i → up i ≡ moved m s (at i))
     → Keeps at up A
 keeps m h s at up A same = let n = positive_nonzero (determinant m) h in record {
@@ -161,12 +161,12 @@ keeps m h s at up A same = let n = positive_nonzero (determinant m) h in record 
           (combination_by_names two one (Others A l) (Others A l) (λ i. i) (λ j o. o) (λ j o. e j o.0) (two l) c)),
     )
 
--- at the images of all ids
+-- the facts above for the images of all ids
 keeps_moved : (m : Matrix) → pos 0 <ℤ determinant m → (s : Vector) (at : ℕ → Vector) (A : ℕ → Type 0) → Keeps at (at_moved m s at) A
 keeps_moved m h s at A = keeps m h s at (at_moved m s at) A (λ i a. refl)
 
 -- ---- the laws
--- of the dimension
+-- the law of dimensions
 pub moved_dimension : MovedDimension
 moved_dimension m h s at ids k = let up = at_moved m s at in let A = Members ids in let r = keeps_moved m h s at A in
     (dimension up at A (back at up A r) k, dimension at up A r k)

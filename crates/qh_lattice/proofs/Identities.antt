@@ -31,7 +31,7 @@ determinantE m = dotE (crossE m.first m.second) m.third
 abbrev pub mapE : ME
 mapE = record { first = vec 0; second = vec 1; third = vec 2 }
 
--- nine numbers before the rest
+-- nine numbers in front of the rest
 abbrev pub put_map : Matrix → List ℤ → List ℤ
 put_map m env = put m.first (put m.second (put m.third env))
 
@@ -40,11 +40,11 @@ put_map m env = put m.first (put m.second (put m.third env))
 abbrev pub cofactors : Matrix → Matrix
 cofactors m = record { first = cross_product m.second m.third; second = cross_product m.third m.first; third = cross_product m.first m.second }
 
--- the same of expressions
+-- the same for expressions
 abbrev cofactorsE : ME → ME
 cofactorsE m = record { first = crossE m.second m.third; second = crossE m.third m.first; third = crossE m.first m.second }
 
--- rows and columns change places
+-- rows and columns swap
 abbrev pub transposed : Matrix → Matrix
 transposed m = record {
   first = record { x = m.first.x; y = m.second.x; z = m.third.x };
@@ -52,7 +52,7 @@ transposed m = record {
   third = record { x = m.first.z; y = m.second.z; z = m.third.z };
 }
 
--- the same of expressions
+-- the same for expressions
 abbrev transposedE : ME → ME
 transposedE m = record {
   first = record { x = m.first.x; y = m.second.x; z = m.third.x };
@@ -60,7 +60,7 @@ transposedE m = record {
   third = record { x = m.first.z; y = m.second.z; z = m.third.z };
 }
 
--- the map back, but for the determinant as a factor
+-- the inverse map, times the determinant
 abbrev pub adjugate : Matrix → Matrix
 adjugate m = transposed (cofactors m)
 
@@ -106,8 +106,8 @@ pub cross-moved : (m : Matrix) (s a b c : Vector) → cross (moved m s a) (moved
 unfolding cross
 cross-moved m s a b c = (λ t. cross_product (moved-minus m s b a t) (moved-minus m s c a t)) ∙ normal_product m (minus b a) (minus c a)
 
--- ---- the ways back
--- of a normal
+-- ---- inverse images
+-- the inverse image of a normal
 pub normal_back : (m : Matrix) (n : Vector) → apply (transposed m) (apply (cofactors m) n) ≡ scaled (determinant m) n
 normal_back m n =
     let M = mapE in let N = vec 3 in let env = put_map m (put n []) in
@@ -115,11 +115,11 @@ normal_back m n =
     vector_path (apply (transposed m) (apply (cofactors m) n)) (scaled (determinant m) n)
     (ring env l.x r.x refl) (ring env l.y r.y refl) (ring env l.z r.z refl)
 
--- the shift of the way back
+-- the shift of the inverse
 abbrev pub shift_back : Matrix → Vector → Vector
 shift_back m s = opposite (apply (adjugate m) s)
 
--- of a point
+-- the inverse image of a point
 pub moved_back : (m : Matrix) (s v : Vector) → moved (adjugate m) (shift_back m s) (moved m s v) ≡ scaled (determinant m) v
 moved_back m s v =
     let M = mapE in let S = vec 3 in let V = vec 4 in let env = put_map m (put s (put v [])) in
@@ -137,7 +137,7 @@ apply-origin m = vector_path (apply m origin) origin (none m.first) (none m.seco
     none r = dot_comm r origin ∙ dot-origin r
 
 -- ---- scalar products
--- a factor comes out of an image
+-- a factor of a vector is a factor of its image
 pub dot-factor : (m : Matrix) (k : ℤ) (v w : Vector) → dot (apply m (scaled k v)) w ≡ k *ℤ dot (apply m v) w
 dot-factor m k v w =
     let M = mapE in let V = vec 3 in let W = vec 4 in let K = var 15 in

@@ -23,7 +23,7 @@ use Rattle.qh_lattice.proofs.Identities.{shift_back, moved_back, apply-origin, d
 cancel-neg : (k b : ℤ) → pos 0 <ℤ k → (k *ℤ b) <ℤ pos 0 → b <ℤ pos 0
 cancel-neg k b h q = by_lt_z b (pos 0) (λ l. l) (λ l. absurd (not_less (k *ℤ b) (pos 0) q (mul-nonneg k b (less_le (pos 0) k h) l)))
 
--- of equal multiples
+-- the same sign for equal multiples
 pub same_by : (k n a b : ℤ) → pos 0 <ℤ k → pos 0 <ℤ n → k *ℤ b ≡ n *ℤ a → SameSign a b
 same_by k n a b h q e = record {
   above = (λ p. cancel-pos k b h (subst (λ v. pos 0 <ℤ v) (sym e) (mul-pos n a q p)), λ p. cancel-pos n a q (subst (λ v. pos 0 <ℤ v) e (mul-pos k b h p)));
@@ -42,7 +42,7 @@ same_zero a b e f = record {
   below = (λ p. absurd (omega (arith, ints, e, p)), λ p. absurd (omega (arith, ints, f, p)));
 }
 
--- a factor that is not 0 of a product that is
+-- a factor of a product that is not 0 is not 0
 nonzero_factor : (k b : ℤ) → k ≢ pos 0 → k *ℤ b ≡ pos 0 → b ≡ pos 0
 nonzero_factor k b h e = ⊎_elim (λ z. absurd (h z)) (λ z. z) (zero_product k b e)
 
@@ -50,13 +50,13 @@ nonzero_factor k b h e = ⊎_elim (λ z. absurd (h z)) (λ z. z) (zero_product k
 pub positive_nonzero : (k : ℤ) → pos 0 <ℤ k → k ≢ pos 0
 positive_nonzero k h e = omega (arith, ints, h, e)
 
--- a vector is 0 or not
+-- decides whether a vector is 0
 vector_zero_or_not : (n : Vector) → (n ≡ origin) ⊎ (n ≢ origin)
 vector_zero_or_not n =
     ⊎_elim (λ x. ⊎_elim (λ y. ⊎_elim (λ z. inl (vector_path n origin x y z)) (λ z. inr (λ e. z (ap (λ p. p.z) e))) (zero_or_not n.z))
     (λ y. inr (λ e. y (ap (λ p. p.y) e))) (zero_or_not n.y)) (λ x. inr (λ e. x (ap (λ p. p.x) e))) (zero_or_not n.x)
 
--- a factor that is not 0 of a vector that is
+-- a factor of a vector that is not 0 is not 0
 nonzero_scale : (k : ℤ) (n : Vector) → k ≢ pos 0 → scaled k n ≡ origin → n ≡ origin
 nonzero_scale k n h e =
     vector_path n origin (nonzero_factor k n.x h (ap (λ p. p.x) e)) (nonzero_factor k n.y h (ap (λ p. p.y) e)) (nonzero_factor k n.z h (ap (λ p. p.z) e))
@@ -69,7 +69,7 @@ moved_volume_sign m h s a b c d =
     same_by (pos 1) (determinant m) v w (omega (arith, ints)) h (one_mul w ∙ moved_volume m s a b c d)
 
 -- ---- lines
--- a normal with no image is 0
+-- a normal whose image is 0 is 0
 normal_nonzero : (m : Matrix) (n : Vector) → determinant m ≢ pos 0 → apply (cofactors m) n ≡ origin → n ≡ origin
 normal_nonzero m n h e = nonzero_scale (determinant m) n h (sym (normal_back m n) ∙ ap (apply (transposed m)) e ∙ apply-origin (transposed m))
 
@@ -89,7 +89,7 @@ parallel_images c n r p =
     ∙ ap (λ v. dot (apply c v) q) (vector_path (scaled (dot n n) r) (scaled (dot n r) n) p.x p.y p.z)
     ∙ dot-factor c (dot n r) n q ∙ mul_comm (dot n r) (dot q q) ∙ ap (λ x. dot q q *ℤ x) (dot_comm n r)
 
--- a turn of images, by normals
+-- a turn of images, from normals
 left-moved : (m : Matrix) (s i j k u v w : Vector)
     → left (cross (moved m s i) (moved m s j) (moved m s k)) (moved m s u) (moved m s v) (moved m s w)
     ≡ dot (apply (cofactors m) (cross u v w)) (apply (cofactors m) (cross i j k))
@@ -165,14 +165,14 @@ balanced_row r s w₁ w₂ w₃ w₄ p a b c d x y z =
     r.z (w *ℤ p.z) (p₁ *ℤ a.z +ℤ p₂ *ℤ b.z +ℤ p₃ *ℤ c.z +ℤ p₄ *ℤ d.z)
     (weigh_row w p₁ p₂ p₃ p₄ s r p a b c d (weights w₁ w₂ w₃ w₄)) x y z
 
--- a combination's image is one of the images
+-- the image of a combination is a combination of the images
 image_combination : (m : Matrix) (s : Vector) (at : ℕ → Vector) (A : ℕ → Type 0) (p : Vector)
     → Combination at A p → Combination (at_moved m s at) A (moved m s p)
 image_combination m s at A p c =
     let row = λ (r : Vector) (t : ℤ). balanced_row r t c.w1 c.w2 c.w3 c.w4 p (at c.a) (at c.b) (at c.c) (at c.d) c.x c.y c.z in
     combination_moved at (at_moved m s at) A p (moved m s p) c (row m.first s.x) (row m.second s.y) (row m.third s.z)
 
--- a factor that is not 0 goes from both sides
+-- a factor that is not 0 cancels on both sides
 cancel-both : (k a b : ℤ) → k ≢ pos 0 → k *ℤ a ≡ k *ℤ b → a ≡ b
 cancel-both k a b h e = omega (arith, ints, nonzero_factor k (a -ℤ b) h (mul_sub k a b ∙ (omega (arith, ints))))
 
@@ -194,7 +194,7 @@ combination_down k h at A p c = combination_moved (scaled_at k at) at A (scaled 
     (balanced_down k h c.w1 c.w2 c.w3 c.w4 p.y (at c.a).y (at c.b).y (at c.c).y (at c.d).y c.y)
     (balanced_down k h c.w1 c.w2 c.w3 c.w4 p.z (at c.a).z (at c.b).z (at c.c).z (at c.d).z c.z)
 
--- a combination of images is the image of one
+-- a combination of images is the image of a combination
 combination_back : (m : Matrix) → determinant m ≢ pos 0 → (s : Vector) (at : ℕ → Vector) (A : ℕ → Type 0) (p : Vector)
     → Combination (at_moved m s at) A (moved m s p) → Combination at A p
 combination_back m h s at A p c =
@@ -219,7 +219,7 @@ combination_back m h s at A p c =
             (λ t v. moved_back m s v t) e
 
 -- ---- extreme ids
--- of any set
+-- the extreme ids of any set
 pub extreme_moved : (m : Matrix) → determinant m ≢ pos 0 → (s : Vector) (at : ℕ → Vector) (A : ℕ → Type 0) (l : ℕ)
     → Extreme (at_moved m s at) A l ↔ Extreme at A l
 extreme_moved m h s at A l = (

@@ -1,4 +1,4 @@
--- Rows of a map, as rows of its matrix.
+-- Rows of a map as rows of its matrix.
 use Rattle.std.proofs.Common.{ℕ, ◌≡◌, ◌∙◌, ◌<◌, ◌≤◌, ◌+◌, ◌*◌, ◌^◌, refl, subst, sym, ap, arith, below_more, FitsSigned, true}
 use Rattle.std.proofs.Common.{List, [], ◌∷◌, ◌++◌, get_or, length}
 use Rattle.std.proofs.lemmas.List.{get_or_append_left, get_or_default}
@@ -31,7 +31,7 @@ row_moved k c r p =
     ring (put r (put p (k ∷ c ∷ []))) (mul (less (dotE (vec 0) (vec 1)) (var 7)) (var 6))
     (add (dotE (scaledE (var 6) (vec 0)) (vec 1)) (less (con (pos 0)) (mul (var 7) (var 6)))) refl
 
--- a coordinate that is read is held as it is
+-- a coordinate that is read keeps its value
 pub coordinate_read : (x y : ℤ) → IsCoordinate x → x ≡ y → to_z w32 (of_z w32 x) ≡ y
 coordinate_read x y h e = omega (arith, ints)
 
@@ -69,13 +69,13 @@ scaled-determinant k l m a b c =
     (dotE (crossE (scaledE K A) (scaledE L B)) (scaledE M C))
     (mul K (mul L (mul M (dotE (crossE (subE A O) (subE B O)) (subE C O))))) refl
 
--- rows that turn the right way do so at their scales
+-- rows with a determinant above 0 have one above 0 at their scales
 pub rows_oriented : (a b c : Row) → pos 0 <ℤ vol origin a.by b.by c.by → pos 0 <ℤ determinant (matrix_of a b c)
 rows_oriented a b c h =
     subst (λ v. pos 0 <ℤ v) (sym (scaled-determinant a.scale b.scale c.scale a.by b.by c.by))
     (mul-pos a.scale _ a.above (mul-pos b.scale _ b.above (mul-pos c.scale _ c.above h)))
 
--- images of the points so far, and one more
+-- the images of the points so far, and one more
 pub one_more : (m : Matrix) (s : Vector) (pts images : List Vector) (n : ℕ) (q : Vector) → length images ≡ n
     → ((k : ℕ) → k < n → place images k ≡ moved m s (place pts k)) → q ≡ moved m s (place pts n)
     → (k : ℕ) → k < n + 1 → place (images ++ q ∷ []) k ≡ moved m s (place pts k)
@@ -85,7 +85,7 @@ one_more m s pts images n q e all is =
     (λ k h. get_or_append_left images (q ∷ []) origin k (omega (arith, h, e)) ∙ all k h)
     (ap (λ i. get_or (images ++ q ∷ []) i origin) (sym e) ∙ get_or-append_seam images q [] origin ∙ is)
 
--- an element at an index is the place there
+-- an element at an index is the point at that place
 pub own_place : (pts : List Vector) (k : ℕ) (p : Vector) → p ≡ get_or pts k p → k < length pts → p ≡ place pts k
 unfolding place
 own_place pts k p e l = e ∙ get_or_default pts k p origin l

@@ -9,16 +9,16 @@ use Rattle.qh_lattice.specs.contract.LatticeMaps.{IsMapped, IsReduced, determina
 use Rattle.qh_lattice.proofs.{Images.moved_apart, Images.positive_nonzero, Hulls.Keeps, Hulls.back, Hulls.body, Hulls.dimension, Hulls.keeps}
 
 module _ (pts images : List Vector) (m : IsMapped pts images) where
-  -- images are equal where the points are
+  -- images are equal if the points are
   image_apart : (i j : ℕ) → i < length pts → j < length pts → place images i ≡ place images j → place pts i ≡ place pts j
   image_apart i j l k e = moved_apart m.matrix (positive_nonzero (determinant m.matrix) m.oriented) m.shift (place pts i) (place pts j)
       (sym (m.each.each i l) ∙ e ∙ m.each.each j k)
 
-  -- a distinct id of the points is one of the images
+  -- a distinct id of the points is a distinct id of the images
   distinct_to : (i : ℕ) → IsDistinctId pts i → IsDistinctId images i
   distinct_to i d = (subst (λ n. i < n) (sym m.each.count) d.0, λ j l e. d.1 j l (image_apart j i (omega (arith, l, d.0)) d.0 e))
 
-  -- and back
+  -- the converse
   distinct_back : (i : ℕ) → IsDistinctId images i → IsDistinctId pts i
   distinct_back i d = (
     within,
@@ -46,7 +46,7 @@ module _ (pts images : List Vector) (m : IsMapped pts images) where
       apart : HasDistinctPoints (place images) (λ i. In i ids)
       apart i j a b e = d.distinct i j a b (image_apart i j (All-In (λ k. k < length pts) ids i h a) (All-In (λ k. k < length pts) ids j h b) e)
 
-  -- what a hull rests on is the same
+  -- the properties on which a hull depends are the same
   pub image_keeps : (ids : List ℕ) → AreIndices pts ids → Keeps (place pts) (place images) (Members ids)
   image_keeps ids h = keeps m.matrix m.oriented m.shift (place pts) (place images) (Members ids)
       (λ i a. m.each.each i (All-In (λ k. k < length pts) ids i h a))
@@ -65,7 +65,7 @@ image_body pts ids images b r h d is = body (place images) (place pts) (Members 
     not_flat : b.dim ≢ 2
     not_flat e = omega (arith, solid, e)
 
--- so is the hull of the list
+-- the hull of the list of images is that of the list of points
 pub image_hull : (pts : List Vector) (ids : List ℕ) (images : List Vector) (h : HullValue) → IsReduced pts ids images → AreDistinctIds pts ids
     → IsHull images h → IsHull pts h
 image_hull pts ids images h r d is = record {

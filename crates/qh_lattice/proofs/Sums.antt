@@ -1,10 +1,10 @@
--- Sums and differences of numbers of 64 bits whose sizes leave room.
+-- Sums and differences of numbers of 64 bits that do not overflow.
 use Rattle.std.proofs.Common.{◌≡◌, ℕ, ◌*◌, ◌^◌, ◌≤◌, ◌<◌, arith, FitsSigned}
 use Rattle.std.proofs.lemmas.Int.{to_z-of_z, ints, fits_signed_from_abs}
 use Rattle.std.specs.Prelude.{ℤ, ◌+ℤ◌, ◌-ℤ◌, unsigned_abs}
 use mir.{Syntax.w64, Val.to_z, Val.of_z}
 
--- a number that went to its 64 bits and came back
+-- a number that was converted to 64 bits and back
 abbrev pub through : ℤ → ℤ
 through z = to_z w64 (of_z w64 z)
 

@@ -1,2 +1,2 @@
--- What public clauses cite.
+-- Definitions that public clauses cite.
 pub mod LatticeMaps

@@ -1,2 +1,2 @@
--- The laws of mapped points: what follows from the definitions.
+-- The laws of mapped points: consequences of the definitions.
 pub mod MapLaws

@@ -1,2 +1,2 @@
--- What private functions speak of: nothing to believe.
+-- Definitions that only private functions use. A reader of the headline need not trust them.
 pub mod Rows

@@ -8,13 +8,13 @@ use crate::form::{Form, Rows, covariances};
 use qh_model::{COORDINATE_LIMIT, Point};
 use std::num::saturating_f64_to_i32;
 
-/// The greatest number of sweeps over a basis. Each shortens a row by a thousandth at least.
+/// The greatest number of sweeps over a basis. Each sweep shortens a row by at least a thousandth.
 const SWEEPS: usize = 64;
 
-/// The share of its square that a row has to keep at most, to count as shorter.
+/// A row counts as shorter if its new square is at most this share of the old one.
 const SHORTER: f64 = 0.999;
 
-/// Rows of whole numbers, as floats, with the form that belongs to them.
+/// Rows of whole numbers, as floats, and their form.
 #[derive(Clone, Copy, Drop)]
 struct Basis {
     rows: [[f64; 3]; 3],
@@ -26,7 +26,7 @@ fn components(p: Point) -> [f64; 3] {
     [f64::from(p.x()), f64::from(p.y()), f64::from(p.z())]
 }
 
-/// Returns a float that is a whole number as a coordinate, if it is in range.
+/// Converts a float that is a whole number to a coordinate, if it is in range.
 fn coordinate(number: f64) -> Option<i32>
     ensures { IfSome result IsCoordinate }
 {
@@ -38,7 +38,7 @@ fn coordinate(number: f64) -> Option<i32>
     }
 }
 
-/// Returns floats that are whole numbers as a point, if they are in range.
+/// Converts floats that are whole numbers to a point, if they are in range.
 fn point(row: [f64; 3]) -> Option<Point> {
     Some(Point::new(
         coordinate(row[0])?,
@@ -48,7 +48,7 @@ fn point(row: [f64; 3]) -> Option<Point> {
 }
 
 impl Basis {
-    /// Returns the basis of rows, by the covariances of a sample.
+    /// Returns the basis of the rows, with the covariances of a sample.
     fn of(sample: &[Point], rows: &Rows) -> Basis {
         Basis {
             rows: [
@@ -69,7 +69,7 @@ impl Basis {
         })
     }
 
-    /// Adds a row a number of times to another.
+    /// Adds `times` times the row `from` to the row `to`.
     fn add(&mut self, to: usize, from: usize, times: f64)
         requires to { to < 3 }
         requires from { from < 3 }
@@ -102,7 +102,7 @@ impl Basis {
         shortens
     }
 
-    /// Makes a row shorter by the sum or the difference of both others. Returns false if neither does.
+    /// Makes a row shorter by the sum or the difference of the other two. Returns false if neither makes it shorter.
     fn shorten_by_both(&mut self, row: usize) -> bool
         requires { row < 3 }
     {
@@ -121,7 +121,7 @@ impl Basis {
         false
     }
 
-    /// Makes each row shorter by the others, once. Returns false if none got shorter.
+    /// Makes each row shorter by the others, once. Returns false if no row got shorter.
     fn sweep(&mut self) -> bool {
         let mut shortened = false;
         for row in 0..3 {
@@ -133,7 +133,7 @@ impl Basis {
         shortened
     }
 
-    /// Makes the rows as short as sweeps do.
+    /// Reduces the rows by sweeps until none makes them shorter, or the limit is reached.
     fn reduce(&mut self) {
         for _ in 0..SWEEPS {
             if !self.sweep() {
@@ -143,8 +143,8 @@ impl Basis {
     }
 }
 
-/// Returns rows of determinant 1 along which a sample is short, beginning with other such rows. Returns `None` if they
-/// are out of range.
+/// Reduces rows of determinant 1 and returns rows of determinant 1 along which a sample is short. Returns `None` if
+/// they are out of range.
 pub(crate) fn reduced_rows(sample: &[Point], rows: &Rows) -> Option<Rows> {
     let mut basis = Basis::of(sample, rows);
     basis.reduce();

@@ -14,17 +14,17 @@ pub(crate) struct Rows {
 /// A symmetric form of three dimensions, by rows.
 pub(crate) type Form = [[f64; 3]; 3];
 
-/// A determinant of a round form, where the mean of its diagonal is 1. The form of a ball has 1, that of a needle
-/// 4.6 times as long as wide or of a disc 8 times as wide as high this.
+/// The least determinant of a round form whose diagonal has the mean 1. The form of a ball has the determinant 1. That
+/// of a needle 4.6 times as long as wide, or of a disc 8 times as wide as high, has this one.
 const ROUND: f64 = 0.05;
 
-/// Returns the way from one point to another along a row.
+/// Returns the distance from one point to another along a row.
 fn way_along(row: Point, from: Point, to: Point) -> f64 {
     nearest_i64_to_f64(reach(row, to) - reach(row, from))
 }
 
 impl Rows {
-    /// Returns the rows that change nothing.
+    /// Returns the rows of the identity map.
     pub fn identity() -> Rows {
         Rows {
             first: Point::new(1, 0, 0),
@@ -33,7 +33,7 @@ impl Rows {
         }
     }
 
-    /// Returns the way from one point to another along each row.
+    /// Returns the distance from one point to another along each row.
     fn way(&self, from: Point, to: Point) -> [f64; 3] {
         [
             way_along(self.first, from, to),
@@ -43,7 +43,7 @@ impl Rows {
     }
 }
 
-/// Adds the products of each two components of a vector to a form.
+/// Adds the products of all pairs of components of a vector to a form.
 fn add_products(form: &mut Form, way: [f64; 3]) {
     for i in 0..3 {
         form[i][0] += way[i] * way[0];
@@ -52,7 +52,7 @@ fn add_products(form: &mut Form, way: [f64; 3]) {
     }
 }
 
-/// Returns the covariances of a sample along each two rows.
+/// Returns the covariances of a sample along all pairs of rows.
 pub(crate) fn covariances(sample: &[Point], rows: &Rows) -> Form {
     let mut form = [[0.0; 3]; 3];
     let Some(origin) = sample.first() else {
@@ -80,7 +80,7 @@ fn determinant(form: &Form) -> f64 {
         + form[0][2] * (form[1][0] * form[2][1] - form[1][1] * form[2][0])
 }
 
-/// Returns true if a set with this form is about as long as wide and high, in whichever directions.
+/// Returns true if a set with this form extends about equally in all directions.
 pub(crate) fn is_round(form: &Form) -> bool {
     let mean = (form[0][0] + form[1][1] + form[2][2]) / 3.0;
     determinant(form) >= ROUND * mean * mean * mean

@@ -1,4 +1,4 @@
-//! Maps of space that take whole numbers to whole numbers and keep orientation.
+//! Maps of space that map whole numbers to whole numbers and keep orientation.
 ghost use Rattle.std.specs.Prelude.{◌≡◌, ◌<ℤ◌, ◌↔◌, IfOk, IfSome, IsSome, pos};
 ghost use Rattle.qh_model.specs.headline.Predicates.{vol};
 ghost use Rattle.qh_model.specs.headline.Vector.{origin};

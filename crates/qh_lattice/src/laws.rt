@@ -11,7 +11,7 @@ pub fn map_keeps_signs()
     ensures turn { MovedTurn }
 {}
 
-/// So the hull stays: its dimension, its extreme ids, and of a set that is not flat its faces and edges.
+/// So the map keeps the hull: its dimension, its extreme ids and, if the set is not flat, its faces and edges.
 pub fn map_keeps_hull()
     ensures extreme { MovedExtreme }
     ensures dimension { MovedDimension }

@@ -1,4 +1,4 @@
-//! Sets that are mapped to be about as long as wide and high.
+//! Sets mapped so that they extend about equally in all directions.
 ghost use Rattle.std.specs.Prelude.{◌<◌, ◌≤◌, IfOk, IfSome, IsTrue, length};
 ghost use Rattle.qh_model.specs.declared.limits.TheConstants.{COORDINATE_LIMIT};
 ghost use Rattle.qh_model.specs.contract.IdSets.{AreIndices, IsIdSet};
@@ -16,19 +16,19 @@ use qh_polygon::{Shape, rank};
 use qh_pred::point_at;
 use std::alloc::{AllocError, Global};
 
-/// The number of ids from which on a map pays.
+/// The least number of ids for which a map pays.
 const MANY: usize = 4096;
 
 /// The number of points of a sample.
 const SAMPLE: usize = 1024;
 
-/// How far apart the ids of a sample are: a prime, so that a sample of a grid is not one row of it.
+/// The distance between the ids of a sample: a prime, so that a sample of a grid is not one row of it.
 const STRIDE: u64 = 2654435761;
 
-/// How often rows are reduced, each time by the covariances along those found before.
+/// The number of times that rows are reduced, each time by the covariances along the rows found before.
 const ROUNDS: usize = 4;
 
-/// Returns the points of some ids that are spread evenly over all.
+/// Returns the points of a sample of ids that is spread evenly over all.
 fn sample_of(alloc: Global, pts: &[Point], ids: &[Id]) -> Result<Vec<Point>, AllocError>
     requires some { 0 < length ids.now }
     requires indices { AreIndices pts.now ids.now }
@@ -41,7 +41,7 @@ fn sample_of(alloc: Global, pts: &[Point], ids: &[Id]) -> Result<Vec<Point>, All
     Ok(sample)
 }
 
-/// Returns rows of determinant 1 along which a sample is short, or `None` if it is round as it is.
+/// Returns rows of determinant 1 along which a sample is short, or `None` if it is round already.
 fn short_rows(sample: &[Point]) -> Option<Rows> {
     let mut rows = Rows::identity();
     if is_round(&covariances(sample, &rows)) {
@@ -53,7 +53,7 @@ fn short_rows(sample: &[Point]) -> Option<Rows> {
     Some(rows)
 }
 
-/// Returns the greatest number of times that a coordinate can be taken.
+/// Returns the greatest factor by which a coordinate can be multiplied.
 fn scale_over(half: u32) -> u32
     requires some { 0 < half }
     requires small { half ≤ COORDINATE_LIMIT }
@@ -63,8 +63,7 @@ fn scale_over(half: u32) -> u32
     COORDINATE_LIMIT / half
 }
 
-/// Returns the row that takes the places from `low` to `high` along a vector to coordinates, with as much room between
-/// them as there is.
+/// Returns the row that maps the range from `low` to `high` along a vector to coordinates, scaled as far as possible.
 fn row_between(by: Point, low: i64, high: i64) -> Option<Row> {
     let centre = low.saturating_add(high.saturating_sub(low) / 2);
     let most = high.saturating_sub(centre).max(centre.saturating_sub(low));
@@ -76,7 +75,7 @@ fn row_between(by: Point, low: i64, high: i64) -> Option<Row> {
     Some(Row { by, centre, scale })
 }
 
-/// Returns the row along a vector that takes all points to coordinates.
+/// Returns the row along a vector that maps all points to coordinates.
 fn row_over(by: Point, pts: &[Point]) -> Option<Row> {
     let first = reach(by, *pts.first()?);
     let mut low = first;
@@ -89,7 +88,7 @@ fn row_over(by: Point, pts: &[Point]) -> Option<Row> {
     row_between(by, low, high)
 }
 
-/// Returns the map by rows that takes all points to coordinates, if there is one.
+/// Returns the map by rows that maps all points to coordinates, if there is one.
 fn map_over(rows: &Rows, pts: &[Point]) -> Option<LatticeMap> {
     let first = row_over(rows.first, pts)?;
     let second = row_over(rows.second, pts)?;
@@ -119,11 +118,11 @@ fn is_solid(pts: &[Point], ids: &[Id]) -> bool
     }
 }
 
-/// Returns the images of all points under a map that makes the points of the ids about as long as wide and high, or
-/// `None` where no map is needed or found: when, is not promised.
+/// Returns the images of all points under a map that makes the points of the ids extend about equally in all
+/// directions, or `None` if no map is needed or found. It is not specified when that is the case.
 ///
-/// The ids, at least one, are indices of the points. The map is linear, over whole numbers, with a determinant above 0,
-/// and a shift; the ids are then those of a solid. So the images have the hull of the points.
+/// The ids, at least one, are indices of the points. The map is linear over whole numbers, with a determinant above 0,
+/// and a shift. If there is a map, the ids are those of a solid, so the images have the hull of the points.
 ///
 /// # Errors
 ///

@@ -1,4 +1,4 @@
-//! Rows of whole numbers, and where points lie along them.
+//! Rows of whole numbers, and the coordinates of points along them.
 ghost use Rattle.std.specs.Prelude.{◌≡◌, ◌≤◌, ◌<◌, ◌*◌, ◌<ℤ◌, ◌*ℤ◌, IfSome, pos, unsigned_abs};
 ghost use Rattle.qh_model.specs.declared.limits.TheConstants.{COORDINATE_LIMIT};
 ghost use Rattle.qh_model.specs.headline.Limits.{IsCoordinate};
@@ -7,13 +7,13 @@ ghost use Rattle.qh_lattice.specs.declared.row.TheConstants.{CENTRE_LIMIT};
 
 use qh_model::{COORDINATE_LIMIT, Point};
 
-/// The greatest size of a product of two coordinates: 2^60.
+/// The greatest absolute value of a product of two coordinates: 2^60.
 const PRODUCT_LIMIT: u64 = 1152921504606846976;
 
-/// The greatest size of the centre of a row: 2^62.
+/// The greatest absolute value of the centre of a row: 2^62.
 pub(crate) const CENTRE_LIMIT: u64 = 4611686018427387904;
 
-/// One row of a map: a vector, and the place along it that becomes 0, before the rest is made larger by a whole number.
+/// One row of a map: a vector, and the value along it that becomes 0 before the rest is multiplied by a whole number.
 #[derive(Clone, Copy, Debug, Drop)]
 pub(crate) struct Row {
     pub by: Point,
@@ -42,7 +42,7 @@ pub(crate) fn reach(by: Point, p: Point) -> i64
     product(by.x(), p.x()) + product(by.y(), p.y()) + product(by.z(), p.z())
 }
 
-/// Returns a coordinate at a scale, if it stays a coordinate.
+/// Returns a coordinate at a scale, if the result is in range.
 fn scaled(offset: i64, scale: i64) -> Option<i32>
     requires offset { unsigned_abs offset ≤ COORDINATE_LIMIT }
     requires scale { unsigned_abs scale ≤ COORDINATE_LIMIT }

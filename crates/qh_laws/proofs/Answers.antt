@@ -1,4 +1,4 @@
--- What an answer to a part gives: of its ids those that are the lowest of their points and are extreme.
+-- The result for a part: those of its ids that are the lowest of their points and are extreme.
 use Rattle.std.proofs.Common.{◌≡◌, ◌≢◌, ℕ, ◌<◌, List, length, get_or, map, arith, sym, subst, ◌∙◌}
 use Rattle.std.proofs.lemmas.List.{length-map, get_or-map}
 use Rattle.std.specs.List.Sorted.{IsStrictlyIncreasing}
@@ -9,7 +9,7 @@ use Rattle.qh_model.proofs.renamed.{Lists.rising_map, Positions.at_number, Posit
 use Rattle.qh_model.proofs.renamed.Renaming.{IsRenaming, renaming_back, extreme_renamed}
 use Rattle.qh_laws.specs.laws.TreeLaws.{IsAnswer}
 
--- the id is the lowest of its point among the ids
+-- the id is the lowest id of its point among the ids
 pub record IsLowest (pts : List Vector) (ids : List ℕ) (i : ℕ) : Type 0 where
   pub member : In i ids
   pub lowest : (j : ℕ) → j < i → In j ids → place pts j ≢ place pts i
@@ -24,7 +24,7 @@ module _ (pts : List Vector) (ids : List ℕ) (rising : IsStrictlyIncreasing ids
   position_rises : (i j : ℕ) → In i ids → In j ids → i < j → vertex_number ids i < vertex_number ids j
   position_rises = (by_position pts (Members ids) ids rising (λ i. (λ m. m, λ m. m))).rises
 
-  -- a distinct position is one of the list
+  -- a distinct position is a position of the list
   position_below : (k : ℕ) → In k qs → k < length ids
   position_below k m = subst (λ n. k < n) (length-map ids (place pts)) ((d.members k).0 m).0
 
@@ -45,7 +45,7 @@ module _ (pts : List Vector) (ids : List ℕ) (rising : IsStrictlyIncreasing ids
           let before : get_or ids j 0 < i = subst (λ n. get_or ids j 0 < n) r.1 (rising_between ids j k rising h low) in
           l.lowest (get_or ids j 0) before (In-get_or ids j 0 within) (sym (point_of pts ids j within) ∙ e ∙ point_at pts ids i l.member)
 
-  -- the id at a distinct position is the lowest of its point
+  -- the id at a distinct position is the lowest id of its point
   lowest_at : (k : ℕ) → In k qs → IsLowest pts ids (get_or ids k 0)
   lowest_at k m = record { member = there; lowest = apart }
     where
@@ -62,7 +62,7 @@ module _ (pts : List Vector) (ids : List ℕ) (rising : IsStrictlyIncreasing ids
           subst (λ p. vertex_number ids j < p) here (position_rises j (get_or ids k 0) n there h) in
           ((d.members k).0 m).1 (vertex_number ids j) before (point_at pts ids j n ∙ e ∙ sym (point_of pts ids k low))
 
-  -- so lowest ids and distinct positions name each other
+  -- so lowest ids and distinct positions correspond to each other
   pub lowest_by_position : IsRenaming (place pts) (place (points_of pts ids)) (IsLowest pts ids) (Members qs)
       (vertex_number ids) (λ k. get_or ids k 0)
   lowest_by_position = record {

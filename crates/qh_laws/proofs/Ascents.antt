@@ -1,4 +1,4 @@
--- A walk in a finite list on which a fraction grows at each step comes to an end.
+-- A walk in a finite list on which a fraction grows at each step ends.
 use Rattle.std.proofs.Common.{◌≡◌, ℕ, zero, suc, ◌+◌, ◌<◌, ◌≤◌, refl, sym, ap, ◌∙◌, arith, List, [], ◌∷◌, Bool, true, false, cond, ◌&&◌, ◌⊎◌, inl, inr}
 use Rattle.std.proofs.lemmas.{Bool.and_from, Bool.and_parts, Bool.and_right, Int.ints, Int.by_lt_z}
 use Rattle.std.specs.Prelude.{ℤ, pos, ◌*ℤ◌, ◌<ℤ◌, int_lt}
@@ -6,8 +6,8 @@ use Rattle.qh_model.specs.headline.Sets.{In}
 use Rattle.qh_model.proofs.{algebra.Signs.less_le, algebra.Signs.not_less, closed_surfaces.Sums.count}
 use Rattle.qh_laws.proofs.{Greatest.ratio-trans, Signs.above, Signs.above_is, Signs.is_above}
 
--- ---- tests that are told apart by a member
--- no more pass the narrower test
+-- ---- tests that differ at a member
+-- no more members pass the narrower test
 fewer_le : {X : Type 0} (p q : X → Bool) → ((x : X) → q x ≡ true → p x ≡ true) → (xs : List X) → count q xs ≤ count p xs
 fewer_le p q h [] = omega arith
 fewer_le p q h (x ∷ xs) = plain (q x) (p x) (count q xs) (count p xs) (h x) (fewer_le p q h xs)
@@ -20,7 +20,7 @@ fewer_le p q h (x ∷ xs) = plain (q x) (p x) (count q xs) (count p xs) (h x) (f
         clash : false ≡ true → ⊥
         clash e = cc
 
--- fewer, where one passes the wider alone
+-- fewer members pass the narrower test, if some member passes the wider one only
 fewer : {X : Type 0} (p q : X → Bool) → ((x : X) → q x ≡ true → p x ≡ true) → (xs : List X) (y : X) → In y xs → p y ≡ true → q y ≡ false
     → count q xs < count p xs
 fewer p q h [] y i e f = absurd i
@@ -42,7 +42,7 @@ fewer p q h (x ∷ xs) y (inr i) e f = plain (q x) (p x) (count q xs) (count p x
 
 -- ---- the walk, over members with P, to a place D
 module _ {X : Type 0} (num den : X → ℤ) (P : X → Type 0) (D : Type 0) (xs : List X) where
-  -- is the fraction of y greater?
+  -- true if the fraction of y is greater
   abbrev greater : X → X → Bool
   greater x y = above (den y) && int_lt (num x *ℤ den y) (num y *ℤ den x)
 
@@ -50,7 +50,7 @@ module _ {X : Type 0} (num den : X → ℤ) (P : X → Type 0) (D : Type 0) (xs 
   abbrev pub Next : X → Type 0
   Next x = (y : X) × In y xs × P y × ((num x *ℤ den y) <ℤ (num y *ℤ den x))
 
-  -- and back
+  -- the converse
   is_less : (a b : ℤ) → a <ℤ b → int_lt a b ≡ true
   is_less a b h = by (int_lt a b) refl
     where
@@ -66,7 +66,7 @@ module _ {X : Type 0} (num den : X → ℤ) (P : X → Type 0) (D : Type 0) (xs 
       by false e = e
       by true e = absurd (omega (arith, ints))
 
-  -- fractions are in order
+  -- fractions are ordered
   greater-trans : (x y z : X) → pos 0 <ℤ den x → pos 0 <ℤ den y → (num x *ℤ den y) <ℤ (num y *ℤ den x) → greater y z ≡ true → greater x z ≡ true
   greater-trans x y z hx hy l e =
       let p = and_parts (above (den z)) (int_lt (num y *ℤ den z) (num z *ℤ den y)) e in

@@ -1,4 +1,4 @@
--- What lies between a facet and an inner place is above no facet, and what is above no facet is a convex combination.
+-- A point between a facet and an inner place is above no facet, and a point above no facet is a convex combination.
 use Rattle.std.proofs.Common.{◌≡◌, ℕ, arith, refl, sym, ◌∙◌, inl, inr, ⊎_elim}
 use Rattle.std.proofs.lemmas.Int.{ints}
 use Rattle.std.specs.Prelude.{ℤ, pos, ◌+ℤ◌, ◌-ℤ◌, ◌*ℤ◌, ◌≤ℤ◌, ◌<ℤ◌}
@@ -14,7 +14,7 @@ use Rattle.qh_laws.specs.contract.Seam.{height_over}
 use Rattle.qh_laws.specs.laws.PointLaws.{LevelIsInPolygon, WithinIsBelow, BetweenIsBelow, MiddleIsInner, BetweenFourIsBelow, BelowIsCombination}
 use Rattle.qh_laws.proofs.{Heights.rise_is_height, Heights.blind_rise, Heights.seen_rise}
 
--- the law
+-- proof of the law `WithinIsBelow`
 pub within_is_below : WithinIsBelow
 within_is_below at ids m z o unseen f live p w g i = at_most_zero _ outside
   where
@@ -40,7 +40,7 @@ within_is_below at ids m z o unseen f live p w g i = at_most_zero _ outside
         (mul-nonneg_nonpos _ _ (shares over).2 (corner (m.k f) (inr (inr refl))))
         (mul-nonneg_nonpos _ _ (neg-nonneg _ (blind_rise at m f p w.below)) (equal_nonpos _ _ (sym (value o)) (unseen g i)))
 
--- the law
+-- proof of the law `BetweenIsBelow`
 pub between_is_below : BetweenIsBelow
 between_is_below at ids m z c h f live p b =
     within_is_below at ids m z (weighted (at c)) (λ g i. unseen_above at ids m z g i c h) f live p (record {
@@ -49,7 +49,7 @@ between_is_below at ids m z c h f live p b =
       sides = λ s. equal_nonpos _ _ (sym (rise_is_vol (at (start m f s)) (at (end m f s)) p (at c))) (b.sides s);
     })
 
--- the law
+-- proof of the law `MiddleIsInner`
 pub middle_is_inner : MiddleIsInner
 middle_is_inner at ids m z s t u v hs ht hu hv h f i =
     middle_is_below (home (m.i f)) (home (m.j f)) (home (m.k f)) (home s) (home t) (home u) (home v) (middle_at at z.s z.t z.u z.v)
@@ -59,7 +59,7 @@ middle_is_inner at ids m z s t u v hs ht hu hv h f i =
     home : ℕ → Weighted
     home = weighted_at at
 
--- the law
+-- proof of the law `BetweenFourIsBelow`
 pub between_four_is_below : BetweenFourIsBelow
 between_four_is_below at ids m z s t u v hs ht hu hv h f live p b =
     within_is_below at ids m z (middle_at at s t u v) (λ g i. negative_le _ (inner g i)) f live p (record {
@@ -76,7 +76,7 @@ between_four_is_below at ids m z s t u v hs ht hu hv h f live p b =
     sums : {x y z w x' y' z' w' : ℤ} → x ≡ x' → y ≡ y' → z ≡ z' → w ≡ w' → x +ℤ y +ℤ z +ℤ w ≡ x' +ℤ y' +ℤ z' +ℤ w'
     sums d e f g = cc (d, e, f, g)
 
--- the law
+-- proof of the law `BelowIsCombination`
 pub below_is_combination : BelowIsCombination
 below_is_combination at ids m z p below = ⊎_elim (λ c. c) (λ s. absurd (none s)) (alternative_in at (Members ids) ids (listed_itself ids) p)
   where
@@ -89,7 +89,7 @@ below_is_combination at ids m z p below = ⊎_elim (λ c. c) (λ s. absurd (none
         (nothing_outside m home (middle_at at z.s z.t z.u z.v) z.whole z.sound z.some z.some_live n (weighted p)
         (λ g i l c. low l (z.corners g i l c)) middle_low (λ f i. blind_rise at m f p (below f i)))
       where
-        -- 1 at p, and 0 at most at the members
+        -- a form that is 1 at p, and at most 0 at the members
         n : Weighted
         n = record { w = pos 1 -ℤ dot s.w p; x = s.w.x; y = s.w.y; z = s.w.z }
 
@@ -109,7 +109,7 @@ below_is_combination at ids m z p below = ⊎_elim (λ c. c) (λ s. absurd (none
             four : (x a b c d : ℤ) → x ≡ a +ℤ b +ℤ c +ℤ d → a ≤ℤ pos 0 → b ≤ℤ pos 0 → c ≤ℤ pos 0 → d ≤ℤ pos 0 → x ≤ℤ pos 0
             four x a b c d e ha hb hc hd = omega (arith, ints)
 
--- the law
+-- proof of the law `LevelIsInPolygon`
 pub level_is_in_polygon : LevelIsInPolygon
 level_is_in_polygon at ids m z f i p below on =
     face_combination at (Members ids) ids (listed_itself ids) (m.i f) (m.j f) (m.k f) (z.unseen f i) p on (below_is_combination at ids m z p below)

@@ -1,4 +1,4 @@
--- A point that a direction puts beyond all corners of a convex polygon is past one of its sides, seen from a place below.
+-- A point that is beyond all corners of a convex polygon along a direction is past one of its sides, seen from a place below.
 use Rattle.std.proofs.Common.{◌≡◌, ◌≢◌, ℕ, ◌≤◌, refl, sym, ap, subst, ◌∙◌, arith, List, [], ◌∷◌, length, ◌⊎◌, inl, inr}
 use Rattle.std.proofs.lemmas.Int.{ints}
 use Rattle.std.specs.Prelude.{ℤ, pos, ◌-ℤ◌, ◌*ℤ◌, neg_ℤ, ◌≤ℤ◌, ◌<ℤ◌}
@@ -15,7 +15,7 @@ use Rattle.qh_laws.proofs.Greatest.{IsGreatest, greatest, ratio-trans}
 use Rattle.qh_laws.proofs.{OffPoints.plus, OffPoints.vol-plus, Rounds.vol-round, Rounds.flip_round}
 
 -- ---- members of a cycle
--- an id is in a list or not
+-- membership of an id in a list is decided
 pub in_or_not : (l : ℕ) (q : List ℕ) → In l q ⊎ (¬ (In l q))
 in_or_not l [] = inr (λ i. i)
 in_or_not l (m ∷ q) = dite (ℕ_discrete l m) (λ e. inl (inl e)) (λ n. pick n (in_or_not l q))
@@ -28,7 +28,7 @@ in_or_not l (m ∷ q) = dite (ℕ_discrete l m) (λ e. inl (inl e)) (λ n. pick 
         none (inl e) = n e
         none (inr i) = o i
 
--- what stands on a way has one before it
+-- each id on a path has a predecessor
 before_along : (v t : ℕ) (r : List ℕ) (e : ℕ) → (v ≡ e) ⊎ In v r → (p : ℕ) × FollowsAlong p v t r e
 before_along v t [] e (inl h) = (t, (refl, sym h))
 before_along v t [] e (inr h) = absurd h
@@ -36,7 +36,7 @@ before_along v t (w ∷ r) e (inl h) = let g = before_along v w r e (inl h) in (
 before_along v t (w ∷ r) e (inr (inl h)) = (t, inl (refl, sym h))
 before_along v t (w ∷ r) e (inr (inr h)) = let g = before_along v w r e (inr h) in (g.0, inr g.1)
 
--- each member of a cycle has one before it
+-- each member of a cycle has a predecessor
 pub before_member : (v : ℕ) (q : List ℕ) → In v q → (p : ℕ) × Follows p v q
 before_member v [] i = absurd i
 before_member v (t ∷ r) i = before_along v t r t i
@@ -61,7 +61,7 @@ third_member (a ∷ b ∷ c ∷ r) h o p v = dite (ℕ_discrete a p)
     bc e = o.1.0 (inl e)
 
 -- ---- directions in the plane
--- the volume of two points of a plane and the direction in it that is square to w
+-- the volume of two points of a plane and the direction in the plane that is at right angles to w
 square_volume : (z l m w n : Vector) → dot (cross z l m) (cross_product w n)
     ≡ dot w (minus l z) *ℤ dot n (minus m z) -ℤ dot n (minus l z) *ℤ dot w (minus m z)
 unfolding cross
@@ -69,7 +69,7 @@ square_volume z l m w n =
     ring (put (minus l z) (put (minus m z) (put w (put n [])))) (dotE (crossE (vec 0) (vec 1)) (crossE (vec 2) (vec 3)))
     (less (mul (dotE (vec 2) (vec 0)) (dotE (vec 3) (vec 1))) (mul (dotE (vec 3) (vec 0)) (dotE (vec 2) (vec 1)))) refl
 
--- it is positive where w puts l beyond m, if both are as far from z along n
+-- the volume is positive if l is beyond m along w, and both are at the same distance from z along n
 pub beyond_volume : (z l m w n : Vector) → pos 0 <ℤ dot n (minus l z) → dot n (minus m z) ≡ dot n (minus l z) → dot w (minus m z) <ℤ dot w (minus l z)
     → pos 0 <ℤ vol z l m (plus z (cross_product w n))
 beyond_volume z l m w n h e far =
@@ -97,7 +97,7 @@ module _ (at : ℕ → Vector) (z l : Vector) (q : List ℕ) (sides : (u v : ℕ
     abbrev den : ℕ → ℤ
     den m = vol z l (at m) e
 
-    -- it is to the left
+    -- the second direction is to the left
     left_of : (m : ℕ) → In m q → pos 0 <ℤ vol z l e f
     left_of m i = subst (λ k. pos 0 <ℤ k) (sym (vol-plus z l e (cross z l e))) (square-positive (cross z l e) (λ h. level h))
       where
@@ -107,14 +107,14 @@ module _ (at : ℕ → Vector) (z l : Vector) (q : List ℕ) (sides : (u v : ℕ
         level : AreInLine z l e → ⊥
         level h = zero (vol z l (at m) e) (vol z l e (at m)) (vol-swap_last z l (at m) e) (in_line-vol z l e (at m) h) (ahead m i)
 
-    -- a side is as far from l as the fractions of its ends differ
+    -- the difference of the fractions of a side's ends, up to a factor, is the volume of the side and l
     step : (u v : ℕ) → num v *ℤ den u -ℤ num u *ℤ den v ≡ vol z l (at u) (at v) *ℤ vol z l e f
     step u v = turned (num v) (den u) (num u) (den v) ∙ edge_product z l (at u) (at v) e f
       where
         turned : (a b c d : ℤ) → a *ℤ b -ℤ c *ℤ d ≡ b *ℤ a -ℤ c *ℤ d
         turned a b c d = omega (arith, ints)
 
-    -- none is left over where one is greatest
+    -- if the fraction of u is greatest, l is level with the side from u to v, and the fraction of v is greatest, too
     none_left : (u : ℕ) → In u q → IsGreatest num den u q → (v : ℕ) → Follows u v q → (vol z l (at u) (at v) ≡ pos 0) × IsGreatest num den v q
     none_left u i g v k = (zero, next)
       where
@@ -137,7 +137,7 @@ module _ (at : ℕ → Vector) (z l : Vector) (q : List ℕ) (sides : (u v : ℕ
             ratio-trans (num s) (num u) (num v) (den s) (den u) (den v) (ahead s m) (ahead u i) (ahead v j) (g s m)
             (omega (arith, ints, step u v, ap (λ k. k *ℤ vol z l e f) zero ∙ zero_mul (vol z l e f)))
 
-    -- so there is no such direction
+    -- so there is no direction of this kind
     pub none_ahead : (m : ℕ) → In m q → ⊥
     none_ahead m i = start (greatest_of q m i ahead)
       where

@@ -1,19 +1,19 @@
--- Claims that are decided, as marks.
+-- Decided claims as truth values.
 use Rattle.std.proofs.Common.{◌≡◌, refl, sym, ◌⊎◌, inl, inr, Bool, true, false}
 use Rattle.std.proofs.lemmas.{Bool.both_ways}
 
--- the mark of a claim
+-- the truth value of a claim
 pub flag : {P : Type 0} → P ⊎ (¬ P) → Bool
 flag (inl p) = true
 flag (inr n) = false
 
--- a marked claim holds
+-- a claim with the value true holds
 pub flag-holds : {P : Type 0} (d : P ⊎ (¬ P)) → flag d ≡ true → P
 unfolding flag
 flag-holds (inl p) e = p
 flag-holds (inr n) e = absurd (both_ways true (sym e) refl)
 
--- a claim that holds is marked
+-- a claim that holds has the value true
 pub flag-true : {P : Type 0} (d : P ⊎ (¬ P)) → P → flag d ≡ true
 unfolding flag
 flag-true (inl p) q = refl

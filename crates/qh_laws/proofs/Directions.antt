@@ -1,4 +1,4 @@
--- As many triangles of a closed surface are met in one direction as in another.
+-- The number of triangles of a closed surface that are met is the same in every direction.
 use Rattle.std.proofs.Common.{◌≡◌, ℕ, ◌+◌, refl, sym, ap, ◌∙◌, arith, List, [], ◌∷◌, Bool, cond, not, inl, inr}
 use Rattle.std.proofs.lemmas.Int.{ints}
 use Rattle.std.specs.Prelude.{ℤ, pos, ◌+ℤ◌, ◌-ℤ◌, neg_ℤ, ◌<ℤ◌}
@@ -19,28 +19,28 @@ module _ (at : ℕ → Vector) (z d x : Vector) where
   abbrev side : ℕ → Bool
   side i = above (vol z (at i) d x)
 
-  -- is the way from d to x crossed upwards?
+  -- true if the line from d to x is crossed upwards
   abbrev up : (ℕ × ℕ) → ℤ
   up e = pos (cond (crosses (side e.0) (side e.1) (turn d e) (turn x e)) 1 0)
 
-  -- crossings upwards less those downwards
+  -- the number of crossings upwards minus the number of crossings downwards
   abbrev crossing : (ℕ × ℕ) → ℤ
   crossing e = up e -ℤ up (back e)
 
-  -- an edge turned round is crossed the other way
+  -- the reversed edge is crossed in the opposite direction
   crossing-back : (e : ℕ × ℕ) → crossing (back e) ≡ neg_ℤ (crossing e)
   crossing-back e = plain (up e) (up (back e))
     where
       plain : (a b : ℤ) → b -ℤ a ≡ neg_ℤ (a -ℤ b)
       plain a b = omega (arith, ints)
 
-  -- e is in no plane with z and d, or x, and its first corner in none with z, d and x
+  -- e is in no plane with z and d, or with z and x, and its first corner is in no plane with z, d and x
   record IsClear (e : ℕ × ℕ) : Type 0 where
     first : ¬ (vol z (at e.0) (at e.1) d ≡ pos 0)
     second : ¬ (vol z (at e.0) (at e.1) x ≡ pos 0)
     start : ¬ (vol z (at e.0) d x ≡ pos 0)
 
-  -- off these planes the crossing is told by the edge one way round
+  -- off these planes the signs of the edge in one direction determine the crossing
   crossing-part : (e : ℕ × ℕ) → IsClear e → crossing e ≡ part (side e.0) (side e.1) (turn d e) (turn x e)
   crossing-part e c =
       ap (λ b. up e -ℤ pos (cond (crosses (side e.1) (side e.0) b (turn x (back e))) 1 0)) (flip d c.first)
@@ -49,7 +49,7 @@ module _ (at : ℕ → Vector) (z d x : Vector) where
       flip : (y : Vector) → ¬ (vol z (at e.0) (at e.1) y ≡ pos 0) → turn y (back e) ≡ not (turn y e)
       flip y n = ap above (flip_round z (at e.0) (at e.1) y) ∙ above-neg (vol z (at e.0) (at e.1) y) n
 
-  -- one triangle
+  -- the crossings of one triangle
   triangle_crossings : (t : Triple) → vol (at t.i) (at t.j) (at t.k) z <ℤ pos 0 → IsClear (t.i, t.j) → IsClear (t.j, t.k) → IsClear (t.k, t.i)
       → crossing (t.i, t.j) +ℤ (crossing (t.j, t.k) +ℤ crossing (t.k, t.i)) ≡ pos (cond (is_met at z d t) 1 0) -ℤ pos (cond (is_met at z x t) 1 0)
   triangle_crossings t h p q r =

@@ -1,4 +1,4 @@
--- An example: the law asks for a point, since the empty list has no hull.
+-- An example: the law requires a point, since the empty list has no hull.
 use Rattle.std.proofs.Common.{ℕ, [], arith, inl, inr}
 use Rattle.qh_model.specs.headline.{Dimension.IsDimension, Hull.HullValue, Hull.IsHull, Polygons.ArePolygons, Predicates.place, Sets.In, Sets.Members}
 

@@ -4,30 +4,30 @@ use Rattle.qh_model.specs.headline.Fan.{fan, fans, pairs_round, edge_count}
 use Rattle.qh_laws.proofs.Tables.{Shows}
 
 -- ---- fans
--- all triangles from the first corner; a triangle is its own fan, and the faces of a segment and of a point stay as they are
+-- all triangles share the first corner; a triangle is its own fan, and the faces of a segment and of a point do not change
 pub of_faces : Shows fan (
     (0 ∷ 2 ∷ 9 ∷ 7 ∷ 5 ∷ [], (0 ∷ 2 ∷ 9 ∷ []) ∷ (0 ∷ 9 ∷ 7 ∷ []) ∷ (0 ∷ 7 ∷ 5 ∷ []) ∷ [])
     ∷ (0 ∷ 3 ∷ 1 ∷ [], (0 ∷ 3 ∷ 1 ∷ []) ∷ []) ∷ (2 ∷ 6 ∷ [], (2 ∷ 6 ∷ []) ∷ []) ∷ (4 ∷ [], (4 ∷ []) ∷ []) ∷ [])
 of_faces = refl
 
--- triangles that share another corner are no fan
+-- triangles that share another corner are not the fan
 pub not_from_1 : ¬ (fan (0 ∷ 1 ∷ 2 ∷ 3 ∷ []) ≡ (1 ∷ 2 ∷ 3 ∷ []) ∷ (1 ∷ 3 ∷ 0 ∷ []) ∷ [])
 not_from_1 e = cc
 
--- nor are its triangles in another order
+-- the triangles in another order are not the fan
 pub not_sorted : ¬ (fan (0 ∷ 3 ∷ 2 ∷ 1 ∷ []) ≡ (0 ∷ 2 ∷ 1 ∷ []) ∷ (0 ∷ 3 ∷ 2 ∷ []) ∷ [])
 not_sorted e = cc
 
--- nor is one that closes round to its first triangle
+-- a fan with one more triangle that closes it is not the fan
 pub not_closed : ¬ (fan (0 ∷ 1 ∷ 2 ∷ 3 ∷ []) ≡ (0 ∷ 1 ∷ 2 ∷ []) ∷ (0 ∷ 2 ∷ 3 ∷ []) ∷ (0 ∷ 3 ∷ 1 ∷ []) ∷ [])
 not_closed e = cc
 
--- fans stand in the order of their polygons: `0 3 2` comes before `0 1 5`, though it is the greater
+-- fans are in the order of their polygons: `0 3 2` comes before `0 1 5`, though it is greater
 pub in_order : fans ((0 ∷ 1 ∷ 3 ∷ 2 ∷ []) ∷ (0 ∷ 1 ∷ 5 ∷ []) ∷ []) ≡ (0 ∷ 1 ∷ 3 ∷ []) ∷ (0 ∷ 3 ∷ 2 ∷ []) ∷ (0 ∷ 1 ∷ 5 ∷ []) ∷ []
 in_order = refl
 
 -- ---- edges
--- neighbours, the lower first; the last and the first too
+-- neighbours, with the lower id first; the last and the first are neighbours, too
 pub neighbours : pairs_round (0 ∷ 9 ∷ 7 ∷ []) ≡ (0, 9) ∷ (7, 9) ∷ (0, 7) ∷ []
 neighbours = refl
 

@@ -6,15 +6,15 @@ use Rattle.qh_model.specs.headline.{Predicates.cross, Predicates.vol, Predicates
 use Rattle.qh_model.proofs.Decisions.{Decided, contrary, decided_as, some_or_none, same_id, same_number, same_vector}
 
 module _ (at : ℕ → Vector) (ids : List ℕ) where
-  -- some member makes a tetrahedron with three
+  -- some member makes a tetrahedron with three others
   abbrev HasFourth : ℕ → ℕ → ℕ → Type 0
   HasFourth i j k = (l : ℕ) × In l ids × (vol (at i) (at j) (at k) (at l) ≢ pos 0)
 
-  -- some member makes a triangle with two
+  -- some member makes a triangle with two others
   abbrev HasThird : ℕ → ℕ → Type 0
   HasThird i j = (k : ℕ) × In k ids × (¬ (AreInLine (at i) (at j) (at k)))
 
-  -- there is a tetrahedron or none
+  -- decides whether there is a tetrahedron
   tetrahedron_or_not : Decided (HasTetrahedron at (Members ids))
   tetrahedron_or_not =
       decided_as ((i : ℕ) × In i ids × ((j : ℕ) × In j ids × ((k : ℕ) × In k ids × HasFourth i j k))) (HasTetrahedron at (Members ids)) into
@@ -36,7 +36,7 @@ module _ (at : ℕ → Vector) (ids : List ℕ) where
       first : (i : ℕ) → Decided ((j : ℕ) × In j ids × ((k : ℕ) × In k ids × HasFourth i j k))
       first i = some_or_none (λ j. (k : ℕ) × In k ids × HasFourth i j k) (second i) ids
 
-  -- there is a triangle or none
+  -- decides whether there is a triangle
   triangle_or_not : Decided (HasTriangle at (Members ids))
   triangle_or_not =
       decided_as ((i : ℕ) × In i ids × ((j : ℕ) × In j ids × HasThird i j)) (HasTriangle at (Members ids)) into
@@ -54,7 +54,7 @@ module _ (at : ℕ → Vector) (ids : List ℕ) where
       first : (i : ℕ) → Decided ((j : ℕ) × In j ids × HasThird i j)
       first i = some_or_none (HasThird i) (second i) ids
 
-  -- there is a segment or none
+  -- decides whether there is a segment
   segment_or_not : Decided (HasSegment (Members ids))
   segment_or_not =
       decided_as ((i : ℕ) × In i ids × ((j : ℕ) × In j ids × (i ≢ j))) (HasSegment (Members ids)) into (λ h. (h.i, h.has_i, (h.j, h.has_j, h.differ)))

@@ -22,7 +22,7 @@ flat_plane at A i j k d = record {
   some = square-positive (cross (at i) (at j) (at k)) d;
 }
 
--- two lists compare
+-- any two lists compare
 compare : (p q : List ℕ) → Compare ComesBefore p q
 compare [] [] = inr (inl refl)
 compare [] (v ∷ q) = inl tt
@@ -36,12 +36,12 @@ compare (u ∷ p) (v ∷ q) = by_cases (cases_order u v) (compare p q)
     by_cases (inl e) (inr (inl d)) = inr (inl (λ i. e i ∷ d i))
     by_cases (inl e) (inr (inr g)) = inr (inr (inr (sym e, g)))
 
--- a row of lists rises from its first
+-- a row of lists rises after its first
 rises_from : (q : List ℕ) (qs : List (List ℕ)) → Rises ComesBefore q qs → RisesFrom q qs
 rises_from q [] r = tt
 rises_from q (p ∷ ps) r = (r.0, rises_from p ps r.1)
 
--- so it rises
+-- so a row rises
 rises_strictly : (qs : List (List ℕ)) → InRow ComesBefore qs → RiseStrictly qs
 rises_strictly [] r = tt
 rises_strictly (q ∷ qs) r = rises_from q qs r
@@ -63,7 +63,7 @@ module _ (at : ℕ → Vector) (ids : List ℕ) (distinct : HasDistinctPoints at
           let p = polygon_found n at F ys l (λ x y a b e. distinct x y a.0 b.0 e) flat (segment_of_triangle at F (own_triangle at (Members ids) i j k t)) in
           (p.0, polygon_as at (Extreme at F) E n n p.0 (extremes_of_face at ids i j k t.supports) (along_itself n) p.1)
 
-  -- three ids are a supporting triple or not
+  -- decides whether three ids are a supporting triple
   supporting_or_not : (i j k : ℕ) → Decided (IsSupportingTriple at (Members ids) i j k)
   supporting_or_not i j k =
       decided_as (In i ids × (In j ids × (In k ids × ((¬ (AreInLine (at i) (at j) (at k))) × Supports at (Members ids) i j k))))
@@ -74,13 +74,13 @@ module _ (at : ℕ → Vector) (ids : List ℕ) (distinct : HasDistinctPoints at
       (contrary (AreInLine (at i) (at j) (at k)) (same_vector (cross (at i) (at j) (at k)) origin)) (each_or_not (λ l. vol (at i) (at j) (at k) (at l) ≤ℤ pos 0)
       (λ l. at_most_or_above (vol (at i) (at j) (at k) (at l)) (pos 0)) ids)))))
 
-  -- the polygons of those of some triples that support
+  -- the polygons of the supporting triples among some triples
   record Polygons (ts : List (ℕ × (ℕ × ℕ))) : Type 0 where
     list : List (List ℕ)
     each : (i j k : ℕ) → In (i, (j, k)) ts → IsSupportingTriple at (Members ids) i j k → (q : List ℕ) × In q list × IsFacePolygon at (Members ids) i j k q
     only : (q : List ℕ) → In q list → (i j k : ℕ) × IsSupportingTriple at (Members ids) i j k × IsFacePolygon at (Members ids) i j k q
 
-  -- each list of triples has these
+  -- each list of triples has such polygons
   polygons : (ts : List (ℕ × (ℕ × ℕ))) → Polygons ts
   polygons [] = record { list = []; each = λ i j k m t. absurd m; only = λ q m. absurd m }
   polygons ((a, (b, c)) ∷ ts) = by_decision (supporting_or_not a b c) (polygons ts)

@@ -1,4 +1,4 @@
--- Sets of dimension 2, 1 and 0 have their one polygon.
+-- Sets of dimension 2, 1 and 0 have their only polygon.
 use Rattle.std.proofs.Common.{◌≡◌, ◌≢◌, ◌∙◌, ℕ, ◌<◌, List, [], ◌∷◌, length, refl, ap, sym, subst, arith, ◌⊎◌, inl, inr}
 use Rattle.std.proofs.lemmas.{Bool.cases_order, Int.ints, Int.by_lt_z}
 use Rattle.std.specs.Prelude.{ℤ, pos, neg_ℤ, ◌-ℤ◌, ◌*ℤ◌, ◌<ℤ◌}
@@ -17,7 +17,7 @@ use Rattle.qh_polygon.proofs.{LinesAndPlanes.between_eq, LinesAndPlanes.none, po
 use Rattle.qh_laws.proofs.FoundPolygons.{polygon_found}
 
 -- ---- directions
--- a number is above 0, is 0 or is below it
+-- a number is above 0, is 0 or is below 0
 sign : (x : ℤ) → (pos 0 <ℤ x) ⊎ ((x ≡ pos 0) ⊎ (pos 0 <ℤ neg_ℤ x))
 sign x = by_lt_z (pos 0) x (λ h. inl h) (λ h. by_lt_z x (pos 0) (λ k. inr (inr (neg-positive x k))) (λ k. inr (inl (le_antisym x (pos 0) h k))))
 

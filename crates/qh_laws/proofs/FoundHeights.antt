@@ -1,4 +1,4 @@
--- A direction along which no two points of a finite set have one height, and the ids in rising height.
+-- A direction along which no two points of a finite set have the same height, and the ids by rising height.
 use Rattle.std.proofs.Common.{◌≡◌, ℕ, ◌+◌, List, [], ◌∷◌, inl, inr, ap, sym, arith}
 use Rattle.std.proofs.{Math.Nat.mul-le-mul_left, lemmas.Int.ints, lemmas.Int.by_lt_z}
 use Rattle.std.specs.{List.AllByRecursion as Every, Prelude.ℤ, Prelude.pos, Prelude.◌+ℤ◌, Prelude.◌*ℤ◌, Prelude.neg_ℤ, Prelude.◌<ℤ◌, Prelude.◌↔◌}
@@ -9,7 +9,7 @@ use Rattle.qh_model.specs.{contract.IdSets.HasDistinctPoints, headline.Sets.In, 
 use Rattle.qh_polygon.proofs.polygons.{TurnLaws.RisesBy, Turns.IsKeyed, Turns.height_of}
 use Rattle.qh_laws.proofs.Sorting.{Compare, Rises, InRow, Sorted, sorted}
 
--- a large factor outweighs what is added to it
+-- a large factor outweighs the number added to its product
 factor_tells : (B C : ℕ) (a b s t : ℤ) → neg_ℤ t <ℤ pos B → neg_ℤ (neg_ℤ s) <ℤ pos C → pos (B + C) *ℤ a +ℤ s ≡ pos (B + C) *ℤ b +ℤ t → a <ℤ b → ⊥
 factor_tells B C a b s t h k e l = omega (arith, ints, mul-le-mul_left (B + C) (lt_out a b l))
 
@@ -43,7 +43,7 @@ factor f g xs = record { N = B.0 + C.0; tells = tells }
         let first = same_factor B.0 C.0 (f i) (f j) (g i) (g j) (between i m) (between j n) e in
         (first, omega (arith, ints, ap (λ v. pos (B.0 + C.0) *ℤ v) first))
 
--- a finite set of distinct points has a direction along which no two have one height
+-- a finite set of distinct points has a direction along which no two have the same height
 pub direction : (at : ℕ → Vector) (A : ℕ → Type 0) (xs : List ℕ) → Listed A xs → HasDistinctPoints at A → (h : Vector) × IsKeyed h at A
 direction at A xs l d = (record { x = pos M.N; y = pos N.N; z = pos 1 }, record { same = same })
   where
@@ -61,19 +61,19 @@ direction at A xs l d = (record { x = pos M.N; y = pos N.N; z = pos 1 }, record 
         let second = N.tells i j m n first.1 in
         d i j a b (vector_path (at i) (at j) first.0 second.0 second.1)
 
--- the members of A in rising height
+-- the members of A by rising height
 pub record Rising (h : Vector) (at : ℕ → Vector) (A : ℕ → Type 0) : Type 0 where
   pub first : ℕ
   pub rest : List ℕ
   pub members : (i : ℕ) → In i (first ∷ rest) ↔ A i
   pub rises : RisesBy (height_of h at) first rest
 
--- a row by height rises by its heights
+-- a row sorted by height rises by height
 rises : (key : ℕ → ℤ) (x : ℕ) (xs : List ℕ) → Rises (λ i j. key i <ℤ key j) x xs → RisesBy key x xs
 rises key x [] r = tt
 rises key x (y ∷ xs) r = (r.0, rises key y xs r.1)
 
--- a finite set that is not empty has that list
+-- a finite set that is not empty has this list
 pub rising : (h : Vector) (at : ℕ → Vector) (A : ℕ → Type 0) (xs : List ℕ) → Listed A xs → IsKeyed h at A → (a : ℕ) → A a → Rising h at A
 rising h at A xs l k a m = along_list row.list row.row row.members
   where

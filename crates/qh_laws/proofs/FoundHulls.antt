@@ -38,7 +38,7 @@ body_found at ids r d some k h =
       dim = refl;
     }
 
--- a hull of the points with the numbers that rank_text tells: of points, of ids, and the dimension
+-- a hull of the points with the numbers of rank_text: of points, of ids, and the dimension
 pub record HullOf (pts : List Vector) (ids : List ℕ) (k : ℕ) : Type 0 where
   pub hull : HullValue
   pub right : IsHull pts hull
@@ -46,7 +46,7 @@ pub record HullOf (pts : List Vector) (ids : List ℕ) (k : ℕ) : Type 0 where
   pub distinct : hull.distinct ≡ length ids
   pub dim : hull.body.dim ≡ k
 
--- the distinct ids and their dimension are those of a hull, so they tell the text of the rank
+-- the distinct ids and their dimension are those of a hull, so they determine the text of the rank
 pub rank_is_text : (pts : List Vector) (ids : List ℕ) (k : ℕ) → AreDistinctIds pts ids → 0 < length pts
     → IsDimension (place pts) (Members ids) k → HullOf pts ids k
 rank_is_text pts ids k a some h =

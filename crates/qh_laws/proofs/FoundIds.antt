@@ -1,4 +1,4 @@
--- Rising lists of the ids of which a decided claim holds: distinct ids and extreme ids.
+-- Rising lists of the ids for which a decided claim holds: distinct ids and extreme ids.
 use Rattle.std.proofs.Common.{◌≡◌, ◌≢◌, ℕ, ◌<◌, inl, inr, List, [], ◌∷◌, length, sym, subst, arith, ⊎_elim}
 use Rattle.std.specs.{List.range_with_len, List.Sorted.IsStrictlyIncreasing, Prelude.◌↔◌}
 use Rattle.qh_model.proofs.Decisions.{Decided, contrary, each_or_not, same_vector}
@@ -8,13 +8,13 @@ use Rattle.qh_model.proofs.lists.{Ranges.range_below, Ranges.range_has, Rising.r
 use Rattle.qh_model.specs.headline.{Combination.Combination, DistinctIds.IsDistinctId, DistinctIds.AreDistinctIds, Extreme.Others, Hull.AreExtremes}
 use Rattle.qh_model.specs.{headline.Predicates.place, headline.Sets.In, headline.Sets.Members, headline.Vector.Vector}
 
--- the rising list of the members of which P holds
+-- the rising list of the members for which P holds
 pub record Passing (P : ℕ → Type 0) (xs : List ℕ) : Type 0 where
   pub list : List ℕ
   pub rising : IsStrictlyIncreasing list
   pub members : (i : ℕ) → In i list ↔ In i xs × P i
 
--- a rising list has it for a decided claim
+-- a rising list has this list for a decided claim
 pub passing : (P : ℕ → Type 0) → ((i : ℕ) → Decided (P i)) → (xs : List ℕ) → IsStrictlyIncreasing xs → Passing P xs
 passing P d [] r = record { list = []; rising = r; members = λ i. (λ m. absurd m, λ h. absurd h.0) }
 passing P d (x ∷ xs) r = by_decision (d x) (passing P d xs (rising_tail x xs r))
@@ -62,7 +62,7 @@ distinct_ids_of pts = (p.list, record { rising = p.rising; members = λ i. (ther
     back : (i : ℕ) → IsDistinctId pts i → In i p.list
     back i h = (p.members i).1 (range_has (length pts) i h.0, λ j m. h.1 j (range_below i j m))
 
--- a point is a convex combination of a listed set or not
+-- decides whether a point is a convex combination of a listed set
 pub combination_or_not : (at : ℕ → Vector) (A : ℕ → Type 0) (xs : List ℕ) → Listed A xs → (p : Vector) → Decided (Combination at A p)
 combination_or_not at A xs l p = ⊎_elim (λ m. inl m)
     (λ s. inr (λ m. all_lower at A p s.w m (s.past m.a m.has_a) (s.past m.b m.has_b) (s.past m.c m.has_c) (s.past m.d m.has_d))) (alternative_in at A xs l p)

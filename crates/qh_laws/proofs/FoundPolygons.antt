@@ -11,13 +11,13 @@ use Rattle.qh_polygon.proofs.polygons.{LeastFirst.polygon_of, Turns.IsFlat, Turn
 use Rattle.qh_polygon.specs.steps.Chains.{chain, joined}
 use Rattle.qh_laws.proofs.FoundHeights.{direction, rising}
 
--- the place of a least number
+-- the position of a least number
 pub record Least (xs : List ℕ) : Type 0 where
   pub at : ℕ
   pub within : 0 < length xs → at < length xs
   pub least : (k : ℕ) → k < length xs → get_or xs at 0 ≤ get_or xs k 0
 
--- each list has one
+-- each list has a least number
 pub least : (xs : List ℕ) → Least xs
 least [] = record { at = 0; within = λ h. h; least = λ k h. absurd (omega arith) }
 least (x ∷ []) = record { at = 0; within = λ h. h; least = here }
@@ -57,7 +57,7 @@ module _ (n : Vector) (at : ℕ → Vector) (A : ℕ → Type 0) (xs : List ℕ)
             up.first up.rest down.first down.rest up.members down.members up.rises down.rises,
       )
 
-  -- so a cycle goes round those of a flat set with two members
+  -- so a cycle goes round the extreme ids of a flat set with two members
   cycle_of : HasSegment A → (c : List ℕ) × GoesRound n at A c
   cycle_of s = from_witness (direction at A xs listed distinct)
     where

@@ -1,4 +1,4 @@
--- The greatest of finitely many fractions, and the one member that passes a test.
+-- The greatest of finitely many fractions, and the only member that passes a test.
 use Rattle.std.proofs.Common.{◌≡◌, ℕ, ◌+◌, ◌≤◌, refl, sym, ap, subst, ◌∙◌, arith, List, [], ◌∷◌, Bool, true, false, cond, inl, inr}
 use Rattle.std.proofs.lemmas.Int.{ints, by_lt_z}
 use Rattle.std.specs.Prelude.{ℤ, pos, ◌-ℤ◌, ◌*ℤ◌, ◌≤ℤ◌, ◌<ℤ◌}
@@ -6,7 +6,7 @@ use Rattle.qh_model.specs.headline.Sets.{In}
 use Rattle.qh_model.proofs.algebra.{Integers.mul_sub, Integers.mul_swap, Integers.mul_comm, Order.mul-le, Order.mul-pos}
 use Rattle.qh_model.proofs.{algebra.Ring.Expr.mul, algebra.Signs.less_le, closed_surfaces.Sums.count}
 
--- a positive factor goes
+-- a positive factor cancels
 cancel-le : (k a b : ℤ) → pos 0 <ℤ k → (k *ℤ a) ≤ℤ (k *ℤ b) → a ≤ℤ b
 cancel-le k a b h e = by_lt_z b a (λ l. absurd (go l)) (λ l. l)
   where
@@ -16,7 +16,7 @@ cancel-le k a b h e = by_lt_z b a (λ l. absurd (go l)) (λ l. l)
     go : b <ℤ a → ⊥
     go l = omega (arith, ints, mul_sub k a b, mul-pos k (a -ℤ b) h (gap a b l))
 
--- fractions are in order
+-- fractions are ordered
 pub ratio-trans : (a b c p q r : ℤ) → pos 0 <ℤ p → pos 0 <ℤ q → pos 0 <ℤ r → (a *ℤ q) ≤ℤ (b *ℤ p) → (b *ℤ r) ≤ℤ (c *ℤ q) → (a *ℤ r) ≤ℤ (c *ℤ p)
 ratio-trans a b c p q r hp hq hr e f =
     cancel-le q (a *ℤ r) (c *ℤ p) hq
@@ -28,7 +28,7 @@ ratio-trans a b c p q r hp hq hr e f =
 
 -- the fractions n / m of a list with positive m have a greatest
 module _ {X : Type 0} (n m : X → ℤ) where
-  -- none of the list is greater
+  -- no fraction of the list is greater
   abbrev pub IsGreatest : X → List X → Type 0
   IsGreatest t xs = (s : X) → In s xs → (n s *ℤ m t) ≤ℤ (n t *ℤ m s)
 
@@ -54,9 +54,9 @@ module _ {X : Type 0} (n m : X → ℤ) where
           old l s (inl e) = subst (λ w. (n w *ℤ m t) ≤ℤ (n t *ℤ m w)) (sym e) l
           old l s (inr j) = g s j
 
--- ---- the one that passes
+-- ---- the member that passes
 module _ {X : Type 0} (p : X → Bool) where
-  -- what passes is counted
+  -- a member that passes is counted
   counted : (xs : List X) (x : X) → In x xs → p x ≡ true → 1 ≤ count p xs
   counted [] x i h = absurd i
   counted (y ∷ ys) x (inl e) h = plain (p y) (count p ys) (ap p (sym e) ∙ h)
@@ -69,12 +69,12 @@ module _ {X : Type 0} (p : X → Bool) where
       plain : (b : Bool) (k : ℕ) → 1 ≤ k → 1 ≤ cond b 1 0 + k
       plain b k e = omega arith
 
-  -- one that passes and another are two
+  -- two different members that pass count as two
   two : (b : Bool) (n : ℕ) → b ≡ true → cond b 1 0 + n ≤ 1 → 1 ≤ n → ⊥
   two true n e l m = omega arith
   two false n e l m = cc
 
-  -- where one passes at most, two that pass are one
+  -- if at most one member passes, two members that pass are equal
   pub only_one : (xs : List X) (x y : X) → count p xs ≤ 1 → In x xs → In y xs → p x ≡ true → p y ≡ true → x ≡ y
   only_one [] x y c i j h k = absurd i
   only_one (w ∷ ws) x y c (inl e) (inl f) h k = e ∙ sym f

@@ -8,23 +8,23 @@ use Rattle.qh_model.proofs.surfaces.{Facets.of_corners, SurfaceLaws.rise_is_vol}
 use Rattle.qh_laws.specs.contract.Seam.{height_over}
 
 module _ (at : ℕ → Vector) (m : Surface) (f : ℕ) (p : Vector) where
-  -- of points of space
+  -- the height of points of space
   pub rise_is_height : rise m (weighted_at at) f (weighted p) ≡ height_over at m f p
   rise_is_height = rise_is_vol (at (m.i f)) (at (m.j f)) (at (m.k f)) p
 
-  -- what is not above
+  -- a point is not above a facet
   pub blind_rise : height_over at m f p ≤ℤ pos 0 → rise m (weighted_at at) f (weighted p) ≤ℤ pos 0
   blind_rise = equal_nonpos _ _ (sym rise_is_height)
 
-  -- and back
+  -- the converse
   pub blind_height : rise m (weighted_at at) f (weighted p) ≤ℤ pos 0 → height_over at m f p ≤ℤ pos 0
   blind_height = equal_nonpos _ _ rise_is_height
 
-  -- what is above
+  -- a point is above a facet
   pub seen_rise : pos 0 <ℤ height_over at m f p → pos 0 <ℤ rise m (weighted_at at) f (weighted p)
   seen_rise = equal_positive _ _ (sym rise_is_height)
 
--- a facet is in the plane of another or not
+-- decides whether a facet is in the plane of another
 pub level_or_not : (at : ℕ → Vector) (m : Surface) (f g : ℕ) → IsLevelFacet at m f g ⊎ (¬ (IsLevelFacet at m f g))
 level_or_not at m f g = decide (test (m.i g)) (test (m.j g)) (test (m.k g))
   where

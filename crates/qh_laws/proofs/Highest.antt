@@ -1,4 +1,4 @@
--- Triangles told from any corner on, and how high they are along a direction, for their distance from z.
+-- Triangles that begin at any corner, and their heights along a direction relative to their distances from z.
 use Rattle.std.proofs.Common.{◌≡◌, ℕ, refl, sym, subst, ◌∙◌, arith, List, [], ◌∷◌, true, inl, inr}
 use Rattle.std.proofs.lemmas.Int.{ints}
 use Rattle.std.specs.Prelude.{ℤ, pos, ◌-ℤ◌, ◌*ℤ◌, neg_ℤ, ◌≤ℤ◌, ◌<ℤ◌}
@@ -9,17 +9,17 @@ use Rattle.qh_model.proofs.algebra.VectorIdentities.{vec, put, volE, edge_produc
 use Rattle.qh_laws.specs.contract.LocallyConvex.{IsRound, HasLowNeighbour, is_met}
 use Rattle.qh_laws.proofs.Greatest.{IsGreatest, ratio-trans}
 
--- a volume goes round its first three points
+-- a volume does not change if its first three points rotate
 pub vol-turn : (a b c y : Vector) → vol a b c y ≡ vol b c a y
 unfolding vol cross
 vol-turn a b c y = ring (put a (put b (put c (put y [])))) (volE (vec 0) (vec 1) (vec 2) (vec 3)) (volE (vec 1) (vec 2) (vec 0) (vec 3)) refl
 
 module _ (at : ℕ → Vector) where
-  -- how far y is above t
+  -- the height of y above t
   abbrev pub rise : Triple → Vector → ℤ
   rise t y = vol (at t.i) (at t.j) (at t.k) y
 
-  -- told from any of its corners on
+  -- the height above the triangle that begins at another corner
   pub rise_round : (t : Triple) (u v w : ℕ) → IsRound t u v w → (y : Vector) → rise t y ≡ vol (at u) (at v) (at w) y
   rise_round t u v w (inl (p, q, r)) y = same (t.i) (t.j) (t.k) u v w p q r
     where
@@ -36,19 +36,19 @@ module _ (at : ℕ → Vector) where
       same i j k u v w p q r = rw (p, q, r) refl
 
   module _ (z x : Vector) (ts : List Triple) where
-    -- how far z is below t
+    -- the distance of z below t
     abbrev pub depth : Triple → ℤ
     depth t = neg_ℤ (rise t z)
 
-    -- how far x is above t
+    -- the height of x above t
     abbrev pub height : Triple → ℤ
     height t = rise t x
 
-    -- a triangle that is highest at x for its depth, and met in the direction of x
+    -- a triangle that is highest at x relative to its depth, and met in the direction of x
     abbrev pub HighestMet : Type 0
     HighestMet = (g : Triple) × In g ts × IsGreatest height depth g ts × (is_met at z x g ≡ true)
 
-    -- past an edge of t, x is higher above the neighbour there
+    -- past an edge of t, x is higher above the neighbour
     pub past_edge : (t : Triple) (u v w : ℕ) → IsRound t u v w → (n : HasLowNeighbour at ts t u v)
         → height n.next *ℤ depth t -ℤ height t *ℤ depth n.next ≡ rise t (at n.third) *ℤ vol z (at u) (at v) x
     past_edge t u v w r n =
@@ -71,7 +71,7 @@ module _ (at : ℕ → Vector) where
             → a *ℤ b' -ℤ a' *ℤ b ≡ w *ℤ e' → nx *ℤ neg_ℤ tz -ℤ tx *ℤ neg_ℤ nz ≡ tw *ℤ e
         plain tz tx nz nx tw e a a' b b' w e' f g h i j k id = rw (f, g, h, i, j, ← k, swapped b' a, kept a' b) id
 
-    -- the neighbour past an edge is at least as high for its depth
+    -- the neighbour past an edge is at least as high relative to its depth
     pub neighbour_greatest : ((s : Triple) → In s ts → rise s z <ℤ pos 0) → (t : Triple) → In t ts → IsGreatest height depth t ts
         → (u v w : ℕ) → IsRound t u v w → (n : HasLowNeighbour at ts t u v) → vol z (at u) (at v) x <ℤ pos 0 → IsGreatest height depth n.next ts
     neighbour_greatest inside t i g u v w r n l s j =
@@ -83,8 +83,8 @@ module _ (at : ℕ → Vector) where
         plain : (a b c : ℤ) → a -ℤ b ≡ c → pos 0 ≤ℤ c → b ≤ℤ a
         plain a b c e h = omega (arith, ints)
 
--- ---- triangles told from any corner on
--- from the next corner on
+-- ---- triangles that begin at any corner
+-- the triangle that begins at its next corner
 pub round_next : (t : Triple) (u v w : ℕ) → IsRound t u v w → IsRound t v w u
 round_next t u v w (inl (p, q, r)) = inr (inl (q, r, p))
 round_next t u v w (inr (inl (p, q, r))) = inr (inr (q, r, p))
@@ -98,7 +98,7 @@ edges_of (s ∷ ts) t (inl e) =
     (inl refl, inr (inl refl), inr (inr (inl refl)))
 edges_of (s ∷ ts) t (inr i) = let r = edges_of ts t i in (inr (inr (inr r.0)), inr (inr (inr r.1)), inr (inr (inr r.2)))
 
--- so from any corner on
+-- the same for any corner
 pub edge_of : (ts : List Triple) (t : Triple) → In t ts → (u v w : ℕ) → IsRound t u v w → In (u, v) (edges ts)
 edge_of ts t i u v w (inl (p, q, r)) = subst (λ a. In (a, v) (edges ts)) p (subst (λ b. In (t.i, b) (edges ts)) q (edges_of ts t i).0)
 edge_of ts t i u v w (inr (inl (p, q, r))) = subst (λ a. In (a, v) (edges ts)) p (subst (λ b. In (t.j, b) (edges ts)) q (edges_of ts t i).1)

@@ -1,4 +1,4 @@
--- Points of a triangle, told from a place below it: their weights over its corners.
+-- Points of a triangle, seen from a place below it: their weights over its corners.
 use Rattle.std.proofs.{Common.◌≡◌, Common.refl, Common.ap, Common.◌∙◌, Common.arith, Common.[], Common.◌∷◌, lemmas.Int.ints}
 use Rattle.std.specs.Prelude.{ℤ, pos, ◌+ℤ◌, ◌-ℤ◌, ◌*ℤ◌, ◌≤ℤ◌, ◌<ℤ◌}
 use Rattle.qh_model.specs.headline.{Predicates.cross, Predicates.vol, Vector.Vector, Vector.minus}
@@ -6,7 +6,7 @@ use Rattle.qh_model.proofs.algebra.{Order.cancel-zero, Ring.ring, Ring.Expr.var,
 use Rattle.qh_model.proofs.algebra.VectorIdentities.{vec, put, detE, vector_path}
 use Rattle.qh_laws.proofs.UnderTriangles.{above_sum}
 
--- its first coordinate
+-- the first coordinate of the point
 first_coordinate : (z a b c p : Vector)
     → vol z a b c *ℤ (p.x -ℤ z.x) ≡ vol z b c p *ℤ (a.x -ℤ z.x) +ℤ vol z c a p *ℤ (b.x -ℤ z.x) +ℤ vol z a b p *ℤ (c.x -ℤ z.x)
 unfolding vol cross
@@ -14,7 +14,7 @@ first_coordinate z a b c p =
     ring (put (minus a z) (put (minus b z) (put (minus c z) (put (minus p z) [])))) (mul (detE (vec 0) (vec 1) (vec 2)) (var 9))
     (add (add (mul (detE (vec 1) (vec 2) (vec 3)) (var 0)) (mul (detE (vec 2) (vec 0) (vec 3)) (var 3))) (mul (detE (vec 0) (vec 1) (vec 3)) (var 6))) refl
 
--- the second
+-- the second coordinate
 second_coordinate : (z a b c p : Vector)
     → vol z a b c *ℤ (p.y -ℤ z.y) ≡ vol z b c p *ℤ (a.y -ℤ z.y) +ℤ vol z c a p *ℤ (b.y -ℤ z.y) +ℤ vol z a b p *ℤ (c.y -ℤ z.y)
 unfolding vol cross
@@ -22,7 +22,7 @@ second_coordinate z a b c p =
     ring (put (minus a z) (put (minus b z) (put (minus c z) (put (minus p z) [])))) (mul (detE (vec 0) (vec 1) (vec 2)) (var 10))
     (add (add (mul (detE (vec 1) (vec 2) (vec 3)) (var 1)) (mul (detE (vec 2) (vec 0) (vec 3)) (var 4))) (mul (detE (vec 0) (vec 1) (vec 3)) (var 7))) refl
 
--- the third
+-- the third coordinate
 third_coordinate : (z a b c p : Vector)
     → vol z a b c *ℤ (p.z -ℤ z.z) ≡ vol z b c p *ℤ (a.z -ℤ z.z) +ℤ vol z c a p *ℤ (b.z -ℤ z.z) +ℤ vol z a b p *ℤ (c.z -ℤ z.z)
 unfolding vol cross
@@ -30,21 +30,21 @@ third_coordinate z a b c p =
     ring (put (minus a z) (put (minus b z) (put (minus c z) (put (minus p z) [])))) (mul (detE (vec 0) (vec 1) (vec 2)) (var 11))
     (add (add (mul (detE (vec 1) (vec 2) (vec 3)) (var 2)) (mul (detE (vec 2) (vec 0) (vec 3)) (var 5))) (mul (detE (vec 0) (vec 1) (vec 3)) (var 8))) refl
 
--- a point of the triangle a, b, c: in its plane, and inwards of each edge
+-- a point of the triangle a, b, c: in its plane, and on the inner side of each edge
 pub record IsInside (z a b c p : Vector) : Type 0 where
   pub level : vol a b c p ≡ pos 0
   pub first : pos 0 ≤ℤ vol z a b p
   pub second : pos 0 ≤ℤ vol z b c p
   pub third : pos 0 ≤ℤ vol z c a p
 
--- its weights add up
+-- the sum of the weights
 pub weights_sum : (z a b c p : Vector) → IsInside z a b c p → vol z a b c ≡ vol z b c p +ℤ vol z c a p +ℤ vol z a b p
 weights_sum z a b c p h = plain (vol a b c p) (vol z a b p) (vol z b c p) (vol z c a p) (vol z a b c) h.level (above_sum z a b c p)
   where
     plain : (s u v w k : ℤ) → s ≡ pos 0 → s ≡ u +ℤ v +ℤ w -ℤ k → k ≡ v +ℤ w +ℤ u
     plain s u v w k e f = omega (arith, ints)
 
--- a point of the triangle as far from the second edge as the first corner is that corner
+-- a point of the triangle as far from the second edge as the first corner equals that corner
 pub at_corner : (z a b c p : Vector) → pos 0 <ℤ vol z a b c → IsInside z a b c p → vol z a b c ≤ℤ vol z b c p → p ≡ a
 at_corner z a b c p out h far =
     vector_path p a (same p.x z.x a.x b.x c.x _ _ _ _ out (first_coordinate z a b c p) ends.0 ends.1 ends.2)

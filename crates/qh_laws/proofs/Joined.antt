@@ -1,4 +1,4 @@
--- Faces of parts and of the kept ids that close up are the faces of all.
+-- Faces of parts and of the kept ids that close up are the faces of the whole set.
 use Rattle.std.proofs.Common.{ℕ, ◌⊎◌, inl, inr, refl, List}
 use Rattle.std.specs.Prelude.{pos, ◌↔◌}
 use Rattle.qh_model.specs.contract.{ClosedPolygons.AreClosedFaces, ClosedPolygons.IsFace, IdSets.HasDistinctPoints}
@@ -20,7 +20,7 @@ part_face at all kept q d k p = (
   (staying_has_polygon at all kept p.ids p.m p.stay d k p.part p.f p.live p.stays p.clear q).0 p.polygon,
 )
 
--- the law
+-- proof of the law `FacesOfKept`
 pub faces_of_kept : FacesOfKept
 faces_of_kept at all kept d k q (i, j, l, t, p) = (
   i,
@@ -39,7 +39,7 @@ faces_of_kept at all kept d k q (i, j, l, t, p) = (
     same : (h : ℕ) → Extreme at (Members kept) h ↔ Extreme at (Members all) h
     same = extremes_between at (Members all) (Members kept) all (listed_itself all) d k.inside k.extremes
 
--- each joined face is a face of all
+-- each joined face is a face of the whole set
 pub closed_faces : (at : ℕ → Vector) (all kept : List ℕ) (qs : List (List ℕ)) → HasDistinctPoints at (Members all) → AreKept at all kept
     → AreJoined at all kept qs → AreClosedFaces at (Members all) qs
 closed_faces at all kept qs d k j = record { some = j.some; there = j.there; faces = λ q i. face q (j.each q i); closed = j.closed }
@@ -48,15 +48,15 @@ closed_faces at all kept qs d k j = record { some = j.some; there = j.there; fac
     face q (inl p) = part_face at all kept q d k p
     face q (inr h) = faces_of_kept at all kept d k q h
 
--- the law
+-- proof of the law `JoinedAreFaces`
 pub joined_are_faces : JoinedAreFaces
 joined_are_faces at all kept qs d k j rising = closed_faces_are_all at all qs d (closed_faces at all kept qs d k j) rising
 
--- the law
+-- proof of the law `JoinedHaveExtremes`
 pub joined_have_extremes : JoinedHaveExtremes
 joined_have_extremes at all kept qs d k j l = closed_faces_have_extremes at all qs d (closed_faces at all kept qs d k j) l
 
--- the law
+-- proof of the law `PartIsSolid`
 pub part_is_solid : PartIsSolid
 part_is_solid at all ids m z sub = inl (
   refl,

@@ -1,4 +1,4 @@
--- A point in the plane of a facet that is above none of the facets beside that plane is above none at all.
+-- A point in the plane of a facet that is above no facet beside that plane is above no facet at all.
 use Rattle.std.proofs.Common.{◌≡◌, ℕ, suc, arith, refl, sym, ◌∙◌, ap, inl, inr, Bool, true, false, List, ⊎_elim}
 use Rattle.std.proofs.lemmas.{Bool.and_parts, Int.ints}
 use Rattle.std.specs.Prelude.{ℤ, pos, ◌+ℤ◌, ◌*ℤ◌, neg_ℤ, ◌≤ℤ◌, ◌<ℤ◌, ◌&&◌}
@@ -15,13 +15,13 @@ use Rattle.qh_laws.specs.{contract.Seam.height_over, contract.Seam.IsBelowAll, c
 use Rattle.qh_laws.proofs.Decisions.{flag, flag-holds, flag-true}
 use Rattle.qh_laws.proofs.Heights.{rise_is_height, blind_rise, seen_rise, level_or_not}
 
--- a plane that y is not below and o strictly below sees what is beyond y
+-- a plane that is not above y, and is strictly above o, sees a point beyond y
 past_sees_beyond : (a b c o y : Weighted) (k : ℕ) → pos 0 ≤ℤ above a b c y → above a b c o <ℤ pos 0 → pos 0 <ℤ above a b c (beyond o y k)
 past_sees_beyond a b c o y k past low =
     let sum = above-last a b c y o (pos k) (neg_ℤ (pos 1)) in
     let share = mul-nonneg (pos k) (above a b c y) (omega (arith, ints)) past in omega (arith, ints, sum, share, low)
 
--- ---- a point in the plane of a facet, moved a little to the facet's middle and then a little out
+-- ---- a point in the plane of a facet, moved slightly to the facet's middle and then slightly outwards
 module _ (at : ℕ → Vector) (ids : List ℕ) (m : Surface) (z : IsFinished at ids m) (f : ℕ) (live : In f m.live) (p : Vector)
     (on : height_over at m f p ≡ pos 0) where
   abbrev home : ℕ → Weighted
@@ -30,7 +30,7 @@ module _ (at : ℕ → Vector) (ids : List ℕ) (m : Surface) (z : IsFinished at
   abbrev o : Weighted
   o = middle_at at z.s z.t z.u z.v
 
-  -- how far the middle is above a facet
+  -- the height of the middle above a facet
   abbrev mid : ℕ → ℤ
   mid g = rise m home g (middle m home f)
 
@@ -40,11 +40,11 @@ module _ (at : ℕ → Vector) (ids : List ℕ) (m : Surface) (z : IsFinished at
   abbrev b : ℕ
   b = (bound (λ g. rise m home g o) m.live).0
 
-  -- a little inwards
+  -- the point moved slightly inwards
   abbrev y : Weighted
   y = towards (middle m home f) (pos (suc a)) (weighted p) (pos 1)
 
-  -- and out
+  -- the point moved outwards
   abbrev x : Weighted
   x = beyond o y b
 
@@ -53,7 +53,7 @@ module _ (at : ℕ → Vector) (ids : List ℕ) (m : Surface) (z : IsFinished at
       above-last (home (m.i g)) (home (m.j g)) (home (m.k g)) (weighted p) (middle m home f) (pos (suc a)) (pos 1)
       ∙ ap (λ v. pos (suc a) *ℤ rise m home g (weighted p) +ℤ v) (one_mul (mid g))
 
-  -- what y is not below sees x
+  -- a facet that y is not below sees x
   sees_x : (g : ℕ) → In g m.live → pos 0 ≤ℤ rise m home g y → Sees m home g x
   sees_x g i past = past_sees_beyond (home (m.i g)) (home (m.j g)) (home (m.k g)) o y b past (z.sound.inner g i)
 
@@ -76,7 +76,7 @@ module _ (at : ℕ → Vector) (ids : List ℕ) (m : Surface) (z : IsFinished at
       flat : mid g ≡ pos 0
       flat = sum_level _ _ _ _ _ _ (corner (m.i f) (inl refl)) (corner (m.j f) (inr (inl refl))) (corner (m.k f) (inr (inr refl)))
 
-  -- a facet beside the plane does not, if p is not above it
+  -- a facet beside the plane does not see x, if p is not above it
   beside_blind : (g : ℕ) → In g m.live → ¬ (IsLevelFacet at m f g) → height_over at m g p ≤ℤ pos 0 → ¬ (Sees m home g x)
   beside_blind g i other below sees = other (level_back at ids m z g f i live level)
     where
@@ -99,13 +99,13 @@ module _ (at : ℕ → Vector) (ids : List ℕ) (m : Surface) (z : IsFinished at
       level : IsLevelFacet at m g f
       level = seen_level at ids m z f live g i (on_sees_beyond _ _ _ o (middle m home f) b mid_level (z.sound.inner g i))
 
-  -- what sees p sees x
+  -- a facet that sees p sees x
   above_sees : (g : ℕ) → In g m.live → pos 0 <ℤ height_over at m g p → Sees m home g x
   above_sees g i h =
       sees_x g i (positive_le _ (equal_positive _ _ (sym (y-is g))
       (scale (mid g) _ a (suc a) ((bound mid m.live).1 g i).1 (omega arith) (seen_rise at m g p h))))
 
-  -- a walk over what sees x does not leave the plane
+  -- a walk over the facets that see x does not leave the plane
   hidden : ((g : ℕ) → IsBeside at m f g → height_over at m g p ≤ℤ pos 0) → IsBelowAll at m p
   hidden sides g i = at_most_zero _ (λ above. less_differ (pos 0) _ above (sym (level_point g i (found above))))
     where
@@ -128,11 +128,11 @@ module _ (at : ℕ → Vector) (ids : List ℕ) (m : Surface) (z : IsFinished at
         grows = grows;
       }) g i (above_sees g i above))
 
--- the law
+-- proof of the law `SidesHideRest`
 pub sides_hide_rest : SidesHideRest
 sides_hide_rest = hidden
 
--- where no facet of the ring lies in the plane of one that stays, all facets in that plane stay
+-- if no facet of the ring lies in the plane of a facet that stays, all facets in that plane stay
 pub level_stay : (at : ℕ → Vector) (ids : List ℕ) (m : Surface) → IsFinished at ids m → (f : ℕ) → In f m.live → (stay : ℕ → Bool)
     → stay f ≡ true → ((g : ℕ) → IsRing m stay g → IsLevelFacet at m f g → ⊥)
     → (g : ℕ) → In g m.live → IsLevelFacet at m f g → stay g ≡ true

@@ -1,16 +1,16 @@
--- Lowest ids: the first number of which a decided claim holds, and of each point the first place in the list.
+-- Lowest ids: the first number for which a decided claim holds, and the first position of each point in the list.
 use Rattle.std.proofs.Common.{◌≡◌, ℕ, zero, suc, ◌<◌, ◌≤◌, inl, inr, List, refl, arith}
 use Rattle.qh_model.proofs.Decisions.{Decided, same_vector}
 use Rattle.qh_model.specs.headline.{Predicates.place, Vector.Vector}
 
--- the first number of which a claim holds
+-- the first number for which a claim holds
 pub record First (P : ℕ → Type 0) (n : ℕ) : Type 0 where
   pub id : ℕ
   pub holds : P id
   pub below : id ≤ n
   pub first : (j : ℕ) → j < id → ¬ (P j)
 
--- there is one where a decided claim holds of some number
+-- there is a first number if a decided claim holds for some number
 first_of : (P : ℕ → Type 0) → ((i : ℕ) → Decided (P i)) → (n : ℕ) → P n → First P n
 first_of P d zero p = record { id = 0; holds = p; below = omega arith; first = λ j h. absurd (omega (arith, h)) }
 first_of P d (suc n) p = by_cases (d 0) (first_of (λ i. P (suc i)) (λ i. d (suc i)) n p)

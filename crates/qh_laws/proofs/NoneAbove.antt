@@ -1,5 +1,5 @@
--- No corner of a locally convex surface is above a triangle of it: over a corner that were, a direction would meet two
--- triangles, the corner's and one that is highest there.
+-- No corner of a locally convex surface is above a triangle of it: otherwise a direction over the corner would meet two triangles, one at the corner and one
+-- that is highest there.
 use Rattle.std.proofs.Common.{◌≡◌, ℕ, ◌≤◌, refl, sym, ap, subst, ◌∙◌, arith, List, [], ◌∷◌, true, inl, inr}
 use Rattle.std.proofs.lemmas.{Bool.and_from, Int.ints, Int.by_lt_z}
 use Rattle.std.specs.Prelude.{ℤ, pos, ◌+ℤ◌, ◌-ℤ◌, ◌*ℤ◌, neg_ℤ, ◌≤ℤ◌, ◌<ℤ◌}
@@ -19,25 +19,25 @@ use Rattle.qh_laws.proofs.{Perturbed.AllUp, Perturbed.Rises, Perturbed.risen, Ro
 abbrev pub middle : (z a b c : Vector) → Vector
 middle z a b c = plus (plus (minus a z) (minus b z)) (minus c z)
 
--- the same of expressions
+-- the same for expressions
 abbrev pub plusE : VE → VE → VE
 plusE p q = record { x = add p.x q.x; y = add p.y q.y; z = add p.z q.z }
 
--- it is inside of the first edge
+-- the sum is inside the first edge
 pub middle-first : (z a b c : Vector) → dot (cross z a b) (middle z a b c) ≡ vol z a b c
 unfolding vol cross
 middle-first z a b c =
     ring (put (minus a z) (put (minus b z) (put (minus c z) [])))
     (dotE (crossE (vec 0) (vec 1)) (plusE (plusE (vec 0) (vec 1)) (vec 2))) (detE (vec 0) (vec 1) (vec 2)) refl
 
--- of the second
+-- the sum is inside the second edge
 pub middle-second : (z a b c : Vector) → dot (cross z b c) (middle z a b c) ≡ vol z a b c
 unfolding vol cross
 middle-second z a b c =
     ring (put (minus a z) (put (minus b z) (put (minus c z) [])))
     (dotE (crossE (vec 1) (vec 2)) (plusE (plusE (vec 0) (vec 1)) (vec 2))) (detE (vec 0) (vec 1) (vec 2)) refl
 
--- and of the third
+-- the sum is inside the third edge
 pub middle-third : (z a b c : Vector) → dot (cross z c a) (middle z a b c) ≡ vol z a b c
 unfolding vol cross
 middle-third z a b c =
@@ -48,7 +48,7 @@ middle-third z a b c =
 abbrev balance : ℤ → Vector → ℤ → Vector → Vector
 balance p n q m = record { x = p *ℤ n.x -ℤ q *ℤ m.x; y = p *ℤ n.y -ℤ q *ℤ m.y; z = p *ℤ n.z -ℤ q *ℤ m.z }
 
--- its scalar products
+-- the scalar products of this vector
 dot-balance : (p : ℤ) (n : Vector) (q : ℤ) (m y : Vector) → dot (balance p n q m) y ≡ p *ℤ dot n y -ℤ q *ℤ dot m y
 dot-balance p n q m y =
     ring (put n (put m (put y (p ∷ q ∷ []))))
@@ -59,7 +59,7 @@ dot-balance p n q m y =
     }) (vec 2))
     (less (mul (var 9) (dotE (vec 0) (vec 2))) (mul (var 10) (dotE (vec 1) (vec 2)))) refl
 
--- the volume with a point by its direction from z
+-- the volume with a point, from its direction from z
 pub vol-from : (a b c z q : Vector) → vol a b c q ≡ dot (cross a b c) (minus q z) +ℤ vol a b c z
 vol-from a b c z q = vol-dot a b c q ∙ linear (cross a b c) ∙ ap (λ v. dot (cross a b c) (minus q z) +ℤ v) (sym (vol-dot a b c z))
   where
@@ -73,26 +73,26 @@ module _ (at : ℕ → Vector) (z : Vector) (ts : List Triple) (inside : (t : Tr
   abbrev normal : Triple → Vector
   normal t = cross (at t.i) (at t.j) (at t.k)
 
-  -- how far z is below it
+  -- the distance of z below the triangle
   abbrev sunk : Triple → ℤ
   sunk t = neg_ℤ (rise at t z)
 
-  -- positive where a direction rises more over t than over s, for their depths
+  -- positive if a direction rises more over t than over s, relative to their depths
   abbrev over : Triple → Triple → Vector
   over s t = balance (sunk s) (normal t) (sunk t) (normal s)
 
-  -- the forms that are positive inside s, and where t is higher
+  -- the forms that are positive inside s and where t is higher
   abbrev forms : Triple → Triple → List Vector
   forms s t = cross z (at s.i) (at s.j) ∷ cross z (at s.j) (at s.k) ∷ cross z (at s.k) (at s.i) ∷ over s t ∷ []
 
-  -- a point where they are positive meets s
+  -- a direction to a point where they are positive meets s
   met_there : (s t : Triple) (y : Vector) → AllUp (forms s t) y → is_met at z (plus z y) s ≡ true
   met_there s t y up =
       and_from _ _ (edge_above z y (at s.i) (at s.j) (up (cross z (at s.i) (at s.j)) (inl refl)))
       (and_from _ _ (edge_above z y (at s.j) (at s.k) (up (cross z (at s.j) (at s.k)) (inr (inl refl))))
       (edge_above z y (at s.k) (at s.i) (up (cross z (at s.k) (at s.i)) (inr (inr (inl refl))))))
 
-  -- and t is higher there
+  -- t is higher there
   higher_there : (s t : Triple) (y : Vector) → AllUp (forms s t) y
       → (height at z (plus z y) ts s *ℤ depth at z (plus z y) ts t) <ℤ (height at z (plus z y) ts t *ℤ depth at z (plus z y) ts s)
   higher_there s t y up =
@@ -148,7 +148,7 @@ module _ (at : ℕ → Vector) (z : Vector) (ts : List Triple) (inside : (t : Tr
       })
       pick (inr (inr (inr x))) = absurd x
 
-  -- where a corner of s is above t, the forms are positive somewhere
+  -- if a corner of s is above t, the forms are positive somewhere
   forms_up : (s t : Triple) → In s ts → In t ts → (l : Vector) → IsIn s l → pos 0 <ℤ rise at t l → (y : Vector) × AllUp (forms s t) y
   forms_up s t i j l m h = risen (forms s t) (minus l z) (middle z (at s.i) (at s.j) (at s.k)) each
     where
@@ -195,7 +195,7 @@ module _ (at : ℕ → Vector) (z : Vector) (ts : List Triple) (inside : (t : Tr
       → (l : ℕ) → IsCornerOf ts l → (t : Triple) → In t ts → rise at t (at l) ≤ℤ pos 0
   none_above closed d apart once highest l (s, i, m) t j = by_lt_z (pos 0) (rise at t (at l)) (λ h. absurd (start h)) (λ h. h)
     where
-      -- two are met in one direction
+      -- two triangles are met in one direction
       two : (y : Vector) → AllUp (forms s t) y → count (is_met at z (plus z y)) ts ≤ 1 → HighestMet at z (plus z y) ts → ⊥
       two y up one (g, there, top, met) =
           not_less (height at z (plus z y) ts s *ℤ depth at z (plus z y) ts t) (height at z (plus z y) ts t *ℤ depth at z (plus z y) ts s)

@@ -14,22 +14,22 @@ use Rattle.qh_laws.proofs.{Rounds.vol-outwards, Signs.above, Signs.is_above}
 abbrev pub plus : Vector → Vector → Vector
 plus z y = record { x = z.x +ℤ y.x; y = z.y +ℤ y.y; z = z.z +ℤ y.z }
 
--- seen from z it is y
+-- seen from z, z + y is y
 pub minus-plus : (z y : Vector) → minus (plus z y) z ≡ y
 minus-plus z y = vector_path (minus (plus z y) z) y (back z.x y.x) (back z.y y.y) (back z.z y.z)
   where
     back : (a b : ℤ) → a +ℤ b -ℤ a ≡ b
     back a b = omega (arith, ints)
 
--- a volume from z with it
+-- a volume with z and z + y
 pub vol-plus : (z a b y : Vector) → vol z a b (plus z y) ≡ dot (cross z a b) y
 vol-plus z a b y = vol-dot z a b (plus z y) ∙ ap (dot (cross z a b)) (minus-plus z y)
 
--- so z + y is above the plane through z and an edge where y goes along its normal
+-- so z + y is above the plane through z and an edge if y has the direction of its normal
 pub edge_above : (z y a b : Vector) → pos 0 <ℤ dot (cross z a b) y → above (vol z a b (plus z y)) ≡ true
 edge_above z y a b h = is_above (vol z a b (plus z y)) (subst (λ v. pos 0 <ℤ v) (sym (vol-plus z a b y)) h)
 
--- no edge of triangles that have z below is in line with z
+-- no edge of triangles with z below them is in line with z
 pub edge_spans : (at : ℕ → Vector) (z : Vector) (ts : List Triple) → ((t : Triple) → In t ts → vol (at t.i) (at t.j) (at t.k) z <ℤ pos 0)
     → (e : ℕ × ℕ) → In e (edges ts) → ¬ (AreInLine z (at e.0) (at e.1))
 edge_spans at z [] h e i = absurd i
@@ -68,11 +68,11 @@ module _ (at : ℕ → Vector) (z : Vector) (ts : List Triple) (inside : (t : Tr
   abbrev edge_normal : (ℕ × ℕ) → Vector
   edge_normal e = cross z (at e.0) (at e.1)
 
-  -- those of the planes through z, the first corner of an edge, and d
+  -- the normals of the planes through z, the first corner of an edge, and d
   abbrev corner_normal : Vector → (ℕ × ℕ) → Vector
   corner_normal d e = cross z (at e.0) d
 
-  -- a point where the same forms are positive, off the edges
+  -- a point at which the same forms are positive, off the edges
   abbrev pub PointOffEdges : List Vector → Type 0
   PointOffEdges ps = (y : Vector) × AllUp ps y × IsOffEdges at ts z (plus z y)
 
@@ -84,7 +84,7 @@ module _ (at : ℕ → Vector) (z : Vector) (ts : List Triple) (inside : (t : Tr
       none l i = let r = of_map edge_normal (edges ts) l i in
           (λ f. edge_spans at z ts inside r.0 r.1 (sym r.2 ∙ f))
 
-  -- the same, off the planes with the corners too
+  -- the same, off the planes with the corners, too
   abbrev pub PointOff : Vector → List Vector → Type 0
   PointOff d ps = (y : Vector) × AllUp ps y × IsOffEdges at ts z (plus z y) × IsOffCorners d (plus z y)
 

@@ -12,7 +12,7 @@ line text = text ++ 10 ∷ []
 abbrev word : List ℕ → ℕ → Word
 word text n = record { text = text; line = n }
 
--- a comment ends a word, and runs to the end of its line
+-- a comment ends a word, and extends to the end of its line
 pub commented : off_words (line (codes "5#5 5") ++ codes "x y#") ≡ word (codes "5") 1 ∷ word (codes "x") 2 ∷ word (codes "y") 2 ∷ []
 commented = refl
 
@@ -20,7 +20,7 @@ commented = refl
 pub one_point : first_fault_in Off (line (codes "OFF 1 0 0 # one") ++ codes "5 5 5") ≡ None
 one_point = refl
 
--- the first faults of lines; faces are not looked at
+-- the first faults of lines; faces are not read
 pub faults : Shows (λ lines. first_fault_in Off (flat_map line lines)) (
     (codes "OFF" ∷ codes "1 1 0" ∷ codes "5 5 5" ∷ codes "1 zero" ∷ [], None)
     ∷ (codes "COFF" ∷ codes "1 0 0" ∷ codes "5 5 5" ∷ [], Some NotOff)

@@ -1,4 +1,4 @@
--- The facets of a part that stay support all, and those in clear planes have the polygons of all.
+-- The facets of a part that stay support the whole set, and those in clear planes have its polygons.
 use Rattle.std.proofs.Common.{◌≡◌, ℕ, refl, subst, ◌∙◌, ap, ◌⊎◌, inl, inr, Bool, true, false, List, ◌∷◌, ⊎_elim}
 use Rattle.std.specs.Prelude.{pos, ◌≤ℤ◌, ◌<ℤ◌, ◌↔◌}
 use Rattle.qh_model.specs.contract.{FinishedSurface.IsFinished, IdSets.HasDistinctPoints, Surface.Surface}
@@ -13,7 +13,7 @@ use Rattle.qh_laws.specs.laws.PartLaws.{StrictIsClear, SeamOfOthers, ExtremesAre
 use Rattle.qh_laws.specs.laws.PointLaws.{IsBeside}
 use Rattle.qh_laws.proofs.{LevelPoints.sides_hide_rest, LevelPoints.level_point, LevelPoints.level_stay, Rings.ring_hides_rest}
 
--- the law
+-- proof of the law `ExtremesAreKept`
 pub extremes_are_kept : ExtremesAreKept
 extremes_are_kept at all ids m z sub l x i =
     extremes_are_corners at ids m z l (i, λ c. x.1 (combination_within at (Others (Members ids) l) (Others (Members all) l) (at l) c (λ j o. (sub j o.0, o.1))))
@@ -28,11 +28,11 @@ module _ (at : ℕ → Vector) (all kept ids : List ℕ) (m : Surface) (stay : �
   below l h f live stays =
       ⊎_elim (λ b. b f live) (λ s. ring_hides_rest at ids m z stay (at l) s (λ g r. part.seam.ring g r l h) f live stays) (part.seam.answer l h)
 
-  -- so what stays supports all
+  -- so a facet that stays supports the whole set
   supports : (f : ℕ) → In f m.live → stay f ≡ true → Supports at (Members all) (m.i f) (m.j f) (m.k f)
   supports f live stays = support_of_extremes at all distinct (m.i f) (m.j f) (m.k f) (λ l e. below l (known.extremes l e) f live stays)
 
-  -- an extreme id that is above no facet is one of the part
+  -- an extreme id that is above no facet is in the part
   extreme_inside : (l : ℕ) → Extreme at (Members all) l → IsBelowAll at m (at l) → In l ids
   extreme_inside l x b = corner (extremes_are_kept at (l ∷ all) (l ∷ ids) m (finished_with at ids m z l b) more l again (inl refl))
     where
@@ -56,7 +56,7 @@ module _ (at : ℕ → Vector) (all kept ids : List ℕ) (m : Surface) (stay : �
     level_below : (l : ℕ) → In l kept → height_over at m f (at l) ≡ pos 0 → IsBelowAll at m (at l)
     level_below l h on w i = at_most_zero _ (λ above. not_less (pos 0) _ above (hidden above w i))
       where
-        -- where it is above some facet no facet of the ring lies in the plane
+        -- if a kept id in the plane of f is above some facet, no facet of the ring lies in the plane
         no_ring : pos 0 <ℤ height_over at m w (at l) → (g : ℕ) → IsRing m stay g → IsLevelFacet at m f g → ⊥
         no_ring above g r level = not_less (pos 0) _ above (clear g r level l (h, level_point at ids m z f live (at l) on g r.live level) w i)
 
@@ -81,11 +81,11 @@ module _ (at : ℕ → Vector) (all kept ids : List ℕ) (m : Surface) (stay : �
     abbrev Own : ℕ → Type 0
     Own = OnPlane at (Members ids) (m.i f) (m.j f) (m.k f)
 
-    -- and of all
+    -- the members of the whole set in the plane
     abbrev Whole : ℕ → Type 0
     Whole = OnPlane at (Members all) (m.i f) (m.j f) (m.k f)
 
-    -- have the same extreme ids
+    -- both have the same extreme ids
     same_extremes : (l : ℕ) → OnPlane at (Extreme at (Members ids)) (m.i f) (m.j f) (m.k f) l ↔ OnPlane at (Extreme at (Members all)) (m.i f) (m.j f) (m.k f) l
     same_extremes l = between (listed_part (Members all) (λ h. height_over at m f (at h) ≡ pos 0) (λ h. zero_or_not _) all (listed_itself all))
       where
@@ -105,7 +105,7 @@ module _ (at : ℕ → Vector) (all kept ids : List ℕ) (m : Surface) (stay : �
             same : (h : ℕ) → Extreme at Own h ↔ Extreme at Whole h
             same = extremes_between at Whole Own ys q (λ x y fx fy e. distinct x y fx.0 fy.0 e) (λ h c. (part.inside h c.0, c.1)) inside
 
--- the law
+-- proof of the law `StayingSupports`
 pub staying_supports : StayingSupports
 staying_supports at all kept ids m stay distinct known part f live stays = record {
   has_i = part.inside (m.i f) (part.finished.corners f live (m.i f) (inl refl));
@@ -126,7 +126,7 @@ polygon_of_same at A B i j k to from q p = record {
   least = p.least;
 }
 
--- the law
+-- proof of the law `StayingHasPolygon`
 pub staying_has_polygon : StayingHasPolygon
 staying_has_polygon at all kept ids m stay distinct known part f live stays clear q = (
   polygon_of_same at (Members ids) (Members all) (m.i f) (m.j f) (m.k f) (λ l. (same l).0) (λ l. (same l).1) q,
@@ -136,12 +136,12 @@ staying_has_polygon at all kept ids m stay distinct known part f live stays clea
     same : (l : ℕ) → OnPlane at (Extreme at (Members ids)) (m.i f) (m.j f) (m.k f) l ↔ OnPlane at (Extreme at (Members all)) (m.i f) (m.j f) (m.k f) l
     same = same_extremes at all kept ids m stay distinct known part f live stays clear
 
--- the law
+-- proof of the law `StrictIsClear`
 pub strict_is_clear : StrictIsClear
 strict_is_clear at kept ids m stay z strict f g r level l h =
     ⊎_elim (λ i. λ f live. z.unseen f live l i) (λ b. absurd (less_differ _ (pos 0) b h.1)) (strict g r l h.0)
 
--- the law
+-- proof of the law `SeamOfOthers`
 pub seam_of_others : SeamOfOthers
 seam_of_others at kept others ids m stay z split seam = record { answer = λ l h. answer l (split l h); ring = λ f r l h. ring f r l (split l h) }
   where

@@ -1,4 +1,4 @@
--- A point moved a little, by the scale of whole numbers, so that finitely many scalar products are positive or not 0.
+-- A point moved slightly, at a scale of whole numbers, so that finitely many scalar products are positive or not 0.
 use Rattle.std.proofs.Common.{◌≡◌, ℕ, refl, sym, subst, arith, List, [], ◌∷◌, ◌⊎◌, inl, inr}
 use Rattle.std.proofs.lemmas.Int.{ints, by_lt_z}
 use Rattle.std.specs.Prelude.{ℤ, pos, ◌+ℤ◌, ◌*ℤ◌, neg_ℤ, ◌≤ℤ◌, ◌<ℤ◌}
@@ -13,24 +13,24 @@ use Rattle.qh_model.proofs.{closed_surfaces.Supporting.ceiling, extremes.Directi
 abbrev pub along : ℤ → Vector → Vector → Vector
 along n x v = record { x = n *ℤ x.x +ℤ v.x; y = n *ℤ x.y +ℤ v.y; z = n *ℤ x.z +ℤ v.z }
 
--- the same of expressions
+-- the same for expressions
 abbrev alongE : Expr → VE → VE → VE
 alongE n x v = record { x = add (mul n x.x) v.x; y = add (mul n x.y) v.y; z = add (mul n x.z) v.z }
 
--- its scalar products
+-- the scalar products of n x + v
 pub dot-along : (p : Vector) (n : ℤ) (x v : Vector) → dot p (along n x v) ≡ n *ℤ dot p x +ℤ dot p v
 dot-along p n x v =
     ring (put p (put x (put v (n ∷ [])))) (dotE (vec 0) (alongE (var 9) (vec 1) (vec 2))) (add (mul (var 9) (dotE (vec 0) (vec 1))) (dotE (vec 0) (vec 2))) refl
 
--- p is positive at x, or not below 0 and positive along v
+-- p is positive at x, or it is not below 0 and positive along v
 abbrev pub Rises : Vector → Vector → Vector → Type 0
 Rises p x v = (pos 0 <ℤ dot p x) ⊎ ((pos 0 ≤ℤ dot p x) × (pos 0 <ℤ dot p v))
 
--- all are positive at x
+-- all forms are positive at x
 abbrev pub AllUp : List Vector → Vector → Type 0
 AllUp ps x = (p : Vector) → In p ps → pos 0 <ℤ dot p x
 
--- a sum with a large multiple of a positive number
+-- a number plus a large multiple of a positive number
 big_sum : (n : ℕ) (a b s : ℤ) → s ≡ pos n *ℤ a +ℤ b → pos 0 <ℤ a → neg_ℤ b <ℤ pos n → pos 0 <ℤ s
 big_sum n a b s e h l = plain (pos n) (pos n *ℤ pos 1) (pos n *ℤ a) b s e one l (mul-le (pos n) (pos 1) a (omega (arith, ints)) (omega (arith, ints)))
   where
@@ -40,7 +40,7 @@ big_sum n a b s e h l = plain (pos n) (pos n *ℤ pos 1) (pos n *ℤ a) b s e on
     plain : (n m p b s : ℤ) → s ≡ p +ℤ b → m ≡ n → neg_ℤ b <ℤ n → m ≤ℤ p → pos 0 <ℤ s
     plain n m p b s e f l k = omega (arith, ints)
 
--- a sum with a multiple of a number not below 0
+-- a positive number plus a multiple of a number not below 0
 small_sum : (n : ℕ) (a b s : ℤ) → s ≡ pos n *ℤ a +ℤ b → pos 0 ≤ℤ a → pos 0 <ℤ b → pos 0 <ℤ s
 small_sum n a b s e h l = plain (pos n *ℤ a) b s e (mul-nonneg (pos n) a (omega (arith, ints)) h) l
   where
@@ -62,16 +62,16 @@ risen ps x v h = go (ceiling (λ p. neg_ℤ (dot p v)) ps)
 abbrev pub AllOff : List Vector → Vector → Type 0
 AllOff ls x = (l : Vector) → In l ls → ¬ (dot l x ≡ pos 0)
 
--- what is positive stays positive, and no other is 0 any more
+-- positive products stay positive, and no other product is 0
 abbrev pub Perturbed : List Vector → List Vector → Type 0
 Perturbed ls ps = (y : Vector) × AllUp ps y × AllOff ls y
 
--- one more to be positive
+-- one more product becomes positive
 more_up : (l : Vector) (ps : List Vector) (x : Vector) → pos 0 <ℤ dot l x → AllUp ps x → AllUp (l ∷ ps) x
 more_up l ps x h f p (inl e) = subst (λ q. pos 0 <ℤ dot q x) (sym e) h
 more_up l ps x h f p (inr i) = f p i
 
--- with a sign to keep for l, one more that is not 0
+-- one more product is not 0, since it is positive for l or for the opposite of l
 more_off : (l : Vector) (ls ps : List Vector) → Perturbed ls (l ∷ ps) ⊎ Perturbed ls (opposite l ∷ ps) → Perturbed (l ∷ ls) ps
 more_off l ls ps (inl (y, up, off)) = (y, λ p i. up p (inr i), each)
   where

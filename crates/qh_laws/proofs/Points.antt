@@ -10,7 +10,7 @@ use Rattle.qh_model.specs.headline.{Predicates.left, Sets.Members, SupportingPla
 abbrev on_line : ℕ → Vector
 on_line i = record { x = pos i; y = pos 5; z = pos 7 }
 
--- the middle one is half the first and half the last
+-- the middle point is half the first plus half the last
 middle : Combination on_line (Others (Members (0 ∷ 1 ∷ 2 ∷ [])) 1) (on_line 1)
 middle = record {
   a = 0;
@@ -31,11 +31,11 @@ middle = record {
   z = refl;
 }
 
--- so it is no extreme id
+-- so the middle id is not extreme
 pub middle_is_no_extreme : ¬ (Extreme on_line (Members (0 ∷ 1 ∷ 2 ∷ [])) 1)
 middle_is_no_extreme h = h.1 middle
 
--- an id alone is extreme
+-- a single id is extreme
 pub one_is_extreme : Extreme on_line (Members (3 ∷ [])) 3
 one_is_extreme = (inl refl, λ m. m.has_a.1 (only m.a m.has_a.0))
   where
@@ -47,7 +47,7 @@ one_is_extreme = (inl refl, λ m. m.has_a.1 (only m.a m.has_a.0))
 abbrev point : ℕ → ℕ → ℕ → Vector
 point x y z = record { x = pos x; y = pos y; z = pos z }
 
--- its corners
+-- the corners of the tetrahedron
 abbrev pub tetrahedron : ℕ → Vector
 tetrahedron = one_of (point 0 0 0) (point 1 0 0) (point 0 1 0) (point 0 0 1)
 
@@ -64,7 +64,7 @@ pub to_the_left : left (point 0 0 1) (tetrahedron 0) (tetrahedron 1) (tetrahedro
 unfolding left cross
 to_the_left = refl
 
--- it has dimension 3
+-- the tetrahedron has dimension 3
 pub solid : IsDimension tetrahedron all 3
 unfolding vol cross
 solid = inl (
@@ -82,7 +82,7 @@ solid = inl (
   },
 )
 
--- its lower face, seen from below, leaves none outside
+-- its lower face, seen from below, has no point outside
 pub lower_face : IsSupportingTriple tetrahedron all 0 2 1
 unfolding vol cross
 lower_face = record {
@@ -103,7 +103,7 @@ lower_face = record {
     none l (inr (inr (inr (inl e)))) = subst Under (sym e) (omega (arith, ints))
     none l (inr (inr (inr (inr n)))) = absurd n
 
--- seen from above it does not: the fourth corner lies there
+-- seen from above it does not support the set: the fourth corner lies there
 pub not_from_above : ¬ (IsSupportingTriple tetrahedron all 0 1 2)
 unfolding vol cross
 not_from_above t = let above = t.supports 3 (inr (inr (inr (inl refl)))) in omega (arith, ints, above)

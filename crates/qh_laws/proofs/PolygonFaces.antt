@@ -1,5 +1,4 @@
--- A convex polygon along edges with what is past them strictly below is a face: what lies in its plane is past none of
--- its sides.
+-- A convex polygon along sharp edges is a face: a point in its plane is past none of its sides.
 use Rattle.std.proofs.Common.{◌≡◌, ◌≢◌, ℕ, refl, sym, ap, subst, ◌∙◌, arith, List, [], ◌∷◌, ◌⊎◌, inl, inr}
 use Rattle.std.proofs.lemmas.Int.{ints, by_lt_z}
 use Rattle.std.specs.Prelude.{ℤ, pos, ◌+ℤ◌, ◌-ℤ◌, ◌*ℤ◌, neg_ℤ, ◌≤ℤ◌, ◌<ℤ◌}
@@ -25,7 +24,7 @@ pub dot-plus : (a b p : Vector) → dot (plus a b) p ≡ dot a p +ℤ dot b p
 dot-plus a b p = ring (put a (put b (put p []))) (dotE (plusE (vec 0) (vec 1)) (vec 2)) (add (dotE (vec 0) (vec 2)) (dotE (vec 1) (vec 2))) refl
 
 module _ (at : ℕ → Vector) (ids : List ℕ) (ts : List Triple) (z d : Vector) (c : IsLocallyConvex at ts z d) (all : HasAllUnder at ids ts z) where
-  -- no member in the plane of a triangle is past an edge with what is past it strictly below
+  -- no member in the plane of a triangle is past a sharp edge
   not_past : (s : Triple) → In s ts → (u v w : ℕ) → IsRound s u v w → (n : HasLowNeighbour at ts s u v) → rise at s (at n.third) <ℤ pos 0
       → (l : ℕ) → In l ids → rise at s (at l) ≡ pos 0 → pos 0 ≤ℤ vol z (at u) (at v) (at l)
   not_past s i u v w r n low l m e = by_lt_z (vol z (at u) (at v) (at l)) (pos 0) (λ h. absurd (past h)) (λ h. h)
@@ -52,7 +51,7 @@ module _ (at : ℕ → Vector) (ids : List ℕ) (ts : List Triple) (z d : Vector
     abbrev normal : Vector
     normal = cross (at t.i) (at t.j) (at t.k)
 
-    -- its square
+    -- the square of the normal
     square : pos 0 <ℤ dot normal normal
     square = square-positive normal ((local_supports at ids ts z d c all).0.area t i)
 
@@ -97,13 +96,13 @@ module _ (at : ℕ → Vector) (ids : List ℕ) (ts : List Triple) (z d : Vector
         zero : (a : ℤ) → a ≡ pos 0 → pos 0 <ℤ a → ⊥
         zero a e h = omega (arith, ints)
 
-    -- nor right before and right after another
+    -- no corner comes both right before and right after another
     no_return : (u v : ℕ) → Follows u v q → Follows v u q → ⊥
     no_return u v f g = let w = third_member q p.three p.once u v in
         let turn = left-turn normal (at v) (at w.0) (at u) ∙ left-turn normal (at w.0) (at u) (at v) in
         omega (arith, ints, left-flip normal (at v) (at u) (at w.0), turn, p.round v u g w.0 w.1 w.3 w.2, p.round u v f w.0 w.1 w.2 w.3)
 
-    -- it turns at each corner, seen from z
+    -- the polygon turns at each corner, seen from z
     turns : (u v x : ℕ) → Follows u v q → Follows v x q → pos 0 <ℤ vol z (at u) (at v) (at x)
     turns u v x f g =
         let under = below (dot normal normal) (vol (at u) (at v) (at x) z) (left normal (at u) (at v) (at x) *ℤ rise at t z) square
@@ -130,14 +129,14 @@ module _ (at : ℕ → Vector) (ids : List ℕ) (ts : List Triple) (z d : Vector
             clash a b e h k = omega (arith, ints)
 
     -- ---- an extreme id of the plane is a corner
-    -- how far it is from z along the normal
+    -- the distance from z along the normal
     distance : (l : ℕ) → rise at t (at l) ≡ pos 0 → dot normal (minus (at l) z) ≡ neg_ℤ (rise at t z)
     distance l e = plain (rise at t (at l)) (dot normal (minus (at l) z)) (rise at t z) (vol-from (at t.i) (at t.j) (at t.k) z (at l)) e
       where
         plain : (a b k : ℤ) → a ≡ b +ℤ k → a ≡ pos 0 → b ≡ neg_ℤ k
         plain a b k e f = omega (arith, ints)
 
-    -- no direction puts it beyond all corners
+    -- no direction puts the id beyond all corners
     none_beyond : (l : ℕ) → Level l → Separator at (Members q) (at l) → ⊥
     none_beyond l m s =
         let w = third_member q p.three p.once 0 0 in
@@ -161,7 +160,7 @@ module _ (at : ℕ → Vector) (ids : List ℕ) (ts : List Triple) (z d : Vector
             either (inr s) = none_beyond l (e.0, level) s
 
     -- ---- a corner is extreme
-    -- what is past neither side at a corner is that corner, or more inwards of one
+    -- a point that is past neither side at a corner is that corner, or further inwards from one of the sides
     at_vertex : (a v b : ℕ) → Follows a v q → Follows v b q → (x : ℕ) → Level x
         → (vol z (at a) (at v) (at x) +ℤ vol z (at v) (at b) (at x)) ≤ℤ pos 0 → at x ≡ at v
     at_vertex a v b f g x m h =
@@ -219,6 +218,6 @@ module _ (at : ℕ → Vector) (ids : List ℕ) (ts : List Triple) (z d : Vector
     pub face : IsFacePolygon at (Members ids) t.i t.j t.k q
     face = record { members = λ l. (corner_extreme l, extreme_corner l); once = p.once; round = p.round; least = p.least }
 
--- the law
+-- proof of the law `SharpPolygonIsFace`
 pub sharp_polygon_is_face : SharpPolygonIsFace
 sharp_polygon_is_face at ids ts z d c all distinct t i q p = face at ids ts z d c all distinct t i q p

@@ -1,4 +1,4 @@
--- Where all outputs are the rank, three numbers tell the text, and no hull has to be taken.
+-- If all outputs are the rank, three numbers determine the text, and the hull need not be computed.
 use Rattle.std.proofs.Common.{◌≡◌, ◌∙◌, ℕ, suc, ◌<◌, ◌++◌, List, [], ◌∷◌, length, refl, ap, sym, arith}
 use Rattle.std.specs.Prelude.{All, decimal}
 use Rattle.qh_model.specs.declared.out.Out.{Out, TheVariants.Rank}
@@ -6,11 +6,11 @@ use Rattle.qh_model.specs.headline.{Dimension.IsDimension, DistinctIds.AreDistin
 use Rattle.qh_model.specs.headline.{Text.rank_text, Text.output_text, Text.hull_text, Text.IsText, Vector.Vector}
 use Rattle.qh_laws.proofs.FoundHulls.{HullOf, rank_is_text}
 
--- the rank of a hull is told by its three numbers
+-- the three numbers of a hull determine its rank
 rank_same : (a b : HullValue) → a.given ≡ b.given → a.distinct ≡ b.distinct → a.body.dim ≡ b.body.dim → rank_text a ≡ rank_text b
 rank_same a b e f g = λ i. line (decimal (e i) ++ spaced (f i) ++ spaced (g i))
 
--- whatever tells the number of points, that of distinct ids and the dimension tells the text of outputs that all are the rank
+-- the number of points, the number of distinct ids and the dimension determine the text of outputs that are all the rank
 pub ranks_are_text : (pts : List Vector) (ids : List ℕ) (k : ℕ) → AreDistinctIds pts ids → 0 < length pts → IsDimension (place pts) (Members ids) k
     → (h : HullValue) → h.given ≡ length pts → h.distinct ≡ length ids → h.body.dim ≡ k
     → (outs : List Out) → All (λ o. o ≡ Rank) outs → IsText pts outs (hull_text h pts outs)

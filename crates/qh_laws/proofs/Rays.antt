@@ -1,4 +1,4 @@
--- Near a ray that meets or misses each triangle there is one off all planes through z and an edge that meets the same.
+-- Near a ray that meets or misses each triangle there is a ray that meets the same triangles and is off all planes through z and an edge.
 use Rattle.std.proofs.Common.{◌≡◌, ℕ, refl, sym, ap, subst, ◌∙◌, arith, List, [], ◌∷◌, ◌++◌, Bool, true, false, ◌⊎◌, inl, inr, ⊎_elim}
 use Rattle.std.proofs.lemmas.{Bool.and_parts, Bool.and_from, Bool.and_left, Bool.and_right, Int.ints}
 use Rattle.std.specs.Prelude.{ℤ, pos, neg_ℤ, ◌<ℤ◌}
@@ -9,23 +9,23 @@ use Rattle.qh_model.proofs.{closed_surfaces.Sums.count, lists.Joined.in_append, 
 use Rattle.qh_laws.specs.contract.LocallyConvex.{is_met, IsMissed}
 use Rattle.qh_laws.proofs.{OffPoints.plus, OffPoints.edge_above, OffPoints.vol-plus, Perturbed.AllUp, Signs.above, Signs.above_is, Signs.not_above}
 
--- tests that are alike count alike
+-- tests with equal results have equal counts
 pub count-alike : {X : Type 0} (p q : X → Bool) (xs : List X) → ((x : X) → In x xs → p x ≡ q x) → count p xs ≡ count q xs
 count-alike p q [] h = refl
 count-alike p q (x ∷ xs) h = rw (h x (inl refl), count-alike p q xs (λ y i. h y (inr i))) refl
 
 module _ (at : ℕ → Vector) (z d : Vector) where
-  -- forms that are positive at d, and tell of each point where they are that it meets the same
+  -- forms that are positive at d; each direction at which they are positive meets the same triangles
   pub record Forms (Same : Vector → Type 0) : Type 0 where
     pub list : List Vector
     pub here : AllUp list (minus d z)
     pub tell : (y : Vector) → AllUp list y → Same y
 
-  -- the same triangle is met or not
+  -- both directions meet the triangle, or neither does
   abbrev pub MeetsSame : Triple → Vector → Type 0
   MeetsSame t y = is_met at z (plus z y) t ≡ is_met at z d t
 
-  -- the sign of a volume with a point, by the direction from z
+  -- the sign of a volume with a point, from the direction from z
   at_least : (a b : Vector) → pos 0 <ℤ vol z a b d → pos 0 <ℤ dot (cross z a b) (minus d z)
   at_least a b h = subst (λ v. pos 0 <ℤ v) (vol-dot z a b d) h
 
@@ -48,7 +48,7 @@ module _ (at : ℕ → Vector) (z d : Vector) where
           (and_from _ _ (edge_above z y (at t.j) (at t.k) (up (cross z (at t.j) (at t.k)) (inr (inl refl))))
           (edge_above z y (at t.k) (at t.i) (up (cross z (at t.k) (at t.i)) (inr (inr (inl refl)))))) ∙ sym e
 
-  -- a triangle that is missed over an edge
+  -- a triangle that is missed beyond an edge
   of_edge : (t : Triple) (a b : Vector) → vol z a b d <ℤ pos 0 → ((q : Vector) → above (vol z a b q) ≡ false → is_met at z q t ≡ false) → Forms (MeetsSame t)
   of_edge t a b h out = record { list = opposite (cross z a b) ∷ []; here = here; tell = tell }
     where

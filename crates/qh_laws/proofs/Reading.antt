@@ -13,7 +13,7 @@ use Rattle.qh_laws.proofs.Tables.{Shows}
 abbrev word : ℕ → ℕ → Word
 word c n = record { text = c ∷ []; line = n }
 
--- the lines `3 rbox c z`, `4`, `0 0 0 origin`, `1 0 0 # 7 8`, `0 1 0`, `0 0 1`, each ended by the bytes 13 and 10 but the last
+-- the lines `3 rbox c z`, `4`, `0 0 0 origin`, `1 0 0 # 7 8`, `0 1 0`, `0 0 1`; each but the last ends with the bytes 13 and 10
 abbrev file : List ℕ
 file =
     51 ∷ 32 ∷ 114 ∷ 98 ∷ 111 ∷ 120 ∷ 32 ∷ 99 ∷ 32 ∷ 122 ∷ 13 ∷ 10 ∷
@@ -23,14 +23,14 @@ file =
     48 ∷ 32 ∷ 49 ∷ 32 ∷ 48 ∷ 13 ∷ 10 ∷
     48 ∷ 32 ∷ 48 ∷ 32 ∷ 49 ∷ []
 
--- its data words, each with its line
+-- the data words of the file, each with its line
 pub words_of_file : data_words file
     ≡ word 51 1 ∷ word 52 2 ∷ word 48 3 ∷ word 48 3 ∷ word 48 3 ∷ word 49 4 ∷ word 48 4 ∷ word 48 4 ∷ word 48 5
     ∷ word 49 5 ∷ word 48 5 ∷ word 48 6 ∷ word 48 6 ∷ word 49 6 ∷ []
 words_of_file = refl
 
 -- ---- words
--- which of them are numbers
+-- the words that are numbers
 pub numbers : Shows number_of (
     (codes "007", Some (pos 7)) ∷ (codes "+7", Some (pos 7)) ∷ (codes "7", Some (pos 7)) ∷ (codes "-7", Some (negsuc 6))
     ∷ (codes "-0", Some (pos 0)) ∷ (codes "+0", Some (pos 0)) ∷ (codes "000", Some (pos 0))
@@ -38,11 +38,11 @@ pub numbers : Shows number_of (
     ∷ (codes "+", None) ∷ (codes "-", None) ∷ (codes "--7", None) ∷ [])
 numbers = refl
 
--- which are data, and which begin a comment
+-- the words that are data, and those that begin a comment
 pub comment_begins : Shows is_data ((codes "x7", false) ∷ (codes "#7", false) ∷ (codes "(7", false) ∷ (codes "-x", true) ∷ [])
 comment_begins = refl
 
--- the tab, 9, and the byte 13 are blanks; the byte 10 ends a line, and is no blank
+-- the tab, 9, and the byte 13 are blanks; the byte 10 ends a line, and is not a blank
 pub blanks : Shows is_blank ((9, true) ∷ (13, true) ∷ (10, false) ∷ [])
 blanks = refl
 
@@ -69,7 +69,7 @@ pub one_point_has_no_fault : first_fault one_point ≡ None
 one_point_has_no_fault = refl
 
 -- ---- first faults
--- a header of one point, and then the text
+-- a header of one point, followed by the text
 abbrev after_header : List ℕ → List ℕ
 after_header text = codes "3" ++ 10 ∷ codes "1" ++ 10 ∷ text
 
@@ -79,7 +79,7 @@ pub headers : Shows (first_fault_in Qhull) (
     ∷ (codes "3" ++ 10 ∷ codes "0", Some Count) ∷ [])
 headers = refl
 
--- what follows a header of one point; a comment is no word too many
+-- the words after a header of one point; a comment is not a word too many
 pub points : Shows (λ text. first_fault_in Qhull (after_header text)) (
     (codes "0 0.5 0", Some (BadNumber 3)) ∷ (codes "0 0 99999999999 x", Some (Range 3)) ∷ (codes "0 0", Some Short)
     ∷ (codes "0 0 0 7", Some (Long 3)) ∷ (codes "0 0 0 origin 7", None) ∷ [])

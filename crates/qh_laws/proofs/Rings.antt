@@ -1,4 +1,4 @@
--- What a point sees hangs together, so a ring hides what lies inside it.
+-- The facets that a point sees are connected, so a ring hides the facets inside it.
 use Rattle.std.proofs.Common.{◌≡◌, ℕ, refl, ◌∙◌, ap, Bool, true, false}
 use Rattle.std.proofs.lemmas.Bool.{both_ways, not-true}
 use Rattle.std.specs.Prelude.{pos, ◌≤ℤ◌, not}
@@ -9,7 +9,7 @@ use Rattle.qh_model.proofs.{algebra.Signs.at_most_zero, algebra.Signs.not_less, 
 use Rattle.qh_laws.specs.{contract.Seam.IsRing, laws.PointLaws.RingHidesRest}
 use Rattle.qh_laws.proofs.{Heights.blind_rise, Heights.blind_height, Heights.seen_rise}
 
--- a walk over what p sees does not come from what goes to what stays but over the ring
+-- a walk over the facets that p sees reaches a facet that stays from one that does not stay only through the ring
 ring_hides : (m : Surface) (home : ℕ → Weighted) (o : Weighted) → IsWhole m → IsSound m home o → (stay : ℕ → Bool) (p : Weighted)
     → (w : ℕ) → In w m.live → stay w ≡ false → Sees m home w p → ((g : ℕ) → IsRing m stay g → rise m home g p ≤ℤ pos 0)
     → (f : ℕ) → In f m.live → stay f ≡ true → rise m home f p ≤ℤ pos 0
@@ -31,7 +31,7 @@ ring_hides m home o whole sound stay p w i gone sees ring f live stays =
     walked : IsWalked m home p (λ g. not (stay g))
     walked = record { f0 = w; live = i; seen = sees; has = rw gone refl; grows = grows }
 
--- the law
+-- proof of the law `RingHidesRest`
 pub ring_hides_rest : RingHidesRest
 ring_hides_rest at ids m z stay p s ring f live stays =
     blind_height at m f p (ring_hides m (weighted_at at) (middle_at at z.s z.t z.u z.v) z.whole z.sound stay (weighted p) s.f s.live s.gone

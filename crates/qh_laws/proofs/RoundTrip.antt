@@ -5,7 +5,7 @@ use Rattle.qh_model.specs.declared.out.Out.TheVariants.{Off}
 use Rattle.qh_model.specs.headline.{Hull.HullValue, OffFile.ReadsOff, Predicates.place, Text.line, Text.hull_text, Vector.Vector, Words.on_line}
 use Rattle.qh_laws.proofs.Texts.{point, square_corners, square}
 
--- its text: the point in the middle has no line, so vertex 0 is point 1
+-- the text of the square: the point in the middle has no line, so vertex 0 is point 1
 abbrev text : List ℕ
 text =
     line (codes "OFF") ++ line (codes "4 1 4")
@@ -20,7 +20,7 @@ written = refl
 abbrev four : List Vector
 four = point 5 0 0 ∷ point 5 2 0 ∷ point 5 2 2 ∷ point 5 0 2 ∷ []
 
--- are what is read
+-- reading the text returns these corners
 pub read : ReadsOff text four
 read = record {
   small = omega arith;
@@ -42,7 +42,7 @@ read = record {
   limit = search arith;
 }
 
--- and their hull has the same text
+-- the hull of the corners has the same text
 abbrev again : HullValue
 again = record { given = 4; distinct = 4; body = record { dim = 2; extremes = 0 ∷ 1 ∷ 2 ∷ 3 ∷ []; polygons = (0 ∷ 1 ∷ 2 ∷ 3 ∷ []) ∷ []; edges = 4 } }
 

@@ -6,7 +6,7 @@ use Rattle.qh_model.proofs.algebra.{Integers.mul_sub, Integers.mul_swap, Order.c
 use Rattle.qh_model.proofs.algebra.VectorIdentities.{vec, put, volE, dotE, left-dot}
 use Rattle.qh_model.proofs.closed_surfaces.Beyond.{scaled, scaledE, cross-scaled}
 
--- a volume grows by the third power of the scale
+-- the scale multiplies a volume by its third power
 pub volume_scaled : (m : ℤ) (a b c d : Vector) → vol (scaled m a) (scaled m b) (scaled m c) (scaled m d) ≡ m *ℤ m *ℤ m *ℤ vol a b c d
 unfolding vol cross
 volume_scaled m a b c d =
@@ -14,7 +14,7 @@ volume_scaled m a b c d =
     ring (put a (put b (put c (put d (m ∷ []))))) (volE (scaledE M (vec 0)) (scaledE M (vec 1)) (scaledE M (vec 2)) (scaledE M (vec 3)))
     (mul (mul (mul M M) M) (volE (vec 0) (vec 1) (vec 2) (vec 3))) refl
 
--- a scalar product by the product of two scales
+-- two scales multiply a scalar product by their product
 dot-scaled : (k : ℤ) (p q : Vector) → dot (scaled k p) (scaled k q) ≡ k *ℤ k *ℤ dot p q
 dot-scaled k p q =
     let K = var 6 in ring (put p (put q (k ∷ []))) (dotE (scaledE K (vec 0)) (scaledE K (vec 1))) (mul (mul K K) (dotE (vec 0) (vec 1))) refl
@@ -29,7 +29,7 @@ left-scaled m i j k u v w =
     ∙ dot-scaled (m *ℤ m) (cross u v w) (cross i j k)
     ∙ ap (λ s. m *ℤ m *ℤ (m *ℤ m) *ℤ s) (sym (left-dot (cross i j k) u v w))
 
--- a factor over a weighted sum
+-- a factor of a weighted sum
 pub weigh : (m a b c d r s t u : ℤ) → m *ℤ (r *ℤ a +ℤ s *ℤ b +ℤ t *ℤ c +ℤ u *ℤ d) ≡ r *ℤ (m *ℤ a) +ℤ s *ℤ (m *ℤ b) +ℤ t *ℤ (m *ℤ c) +ℤ u *ℤ (m *ℤ d)
 weigh m a b c d r s t u =
     ring (m ∷ a ∷ b ∷ c ∷ d ∷ r ∷ s ∷ t ∷ u ∷ [])
@@ -43,11 +43,11 @@ pub balanced_up : (m : ℤ) (w₁ w₂ w₃ w₄ : ℕ) (p a b c d : ℤ) → Is
 balanced_up m w₁ w₂ w₃ w₄ p a b c d e =
     mul_swap (pos (w₁ + w₂ + w₃ + w₄)) m p ∙ ap (λ s. m *ℤ s) e ∙ weigh m a b c d (pos w₁) (pos w₂) (pos w₃) (pos w₄)
 
--- a positive factor goes from both sides
+-- a positive factor cancels on both sides
 pub cancel-both : (m a b : ℤ) → pos 0 <ℤ m → m *ℤ a ≡ m *ℤ b → a ≡ b
 cancel-both m a b h e = omega (arith, ints, cancel-zero m (a -ℤ b) h (mul_sub m a b ∙ (omega (arith, ints))))
 
--- and back
+-- the converse
 pub balanced_down : (m : ℤ) → pos 0 <ℤ m → (w₁ w₂ w₃ w₄ : ℕ) (p a b c d : ℤ)
     → IsBalanced w₁ w₂ w₃ w₄ (m *ℤ p) (m *ℤ a) (m *ℤ b) (m *ℤ c) (m *ℤ d) → IsBalanced w₁ w₂ w₃ w₄ p a b c d
 balanced_down m h w₁ w₂ w₃ w₄ p a b c d e =

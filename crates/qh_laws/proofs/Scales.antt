@@ -198,7 +198,7 @@ module _ (m : ℕ) (some : 0 < m) (at : ℕ → Vector) where
     each = λ t i. let r = p.each t i in (r.0, r.1, polygon_up ts t r.0 r.2);
   }
 
-  -- points stay apart
+  -- different points stay different
   distinct_up : (A : ℕ → Type 0) → HasDistinctPoints at A → HasDistinctPoints up A
   distinct_up A d i j a b e = d i j a b
       (vector_path (at i) (at j) (cancel-both M (at i).x (at j).x positive (ap (λ p. p.x) e)) (cancel-both M (at i).y (at j).y positive (ap (λ p. p.y) e))

@@ -1,13 +1,13 @@
--- Signs of whole numbers as tests, and what the signs round a triangle can be.
+-- Signs of whole numbers as tests, and the possible signs round a triangle.
 use Rattle.std.proofs.{Common.◌≡◌, Common.arith, Common.refl, Common.Bool, Common.true, Common.false, Common.not, Common.◌&&◌, Common.◌||◌, lemmas.Int.ints}
 use Rattle.std.specs.Prelude.{ℤ, pos, ◌+ℤ◌, ◌-ℤ◌, ◌*ℤ◌, neg_ℤ, int_lt, ◌≤ℤ◌, ◌<ℤ◌}
 use Rattle.qh_model.proofs.algebra.Order.{mul-pos, mul-pos_neg, mul-neg_pos, mul-neg_neg, le_less, neg-positive, negative_le}
 
--- is a number above 0?
+-- true if a number is above 0
 abbrev pub above : ℤ → Bool
 above x = int_lt (pos 0) x
 
--- it is
+-- the test of a number above 0 is true
 pub is_above : (x : ℤ) → pos 0 <ℤ x → above x ≡ true
 is_above x h = by (above x) refl
   where
@@ -15,7 +15,7 @@ is_above x h = by (above x) refl
     by true e = e
     by false e = absurd (omega (arith, ints))
 
--- it is not
+-- the test of a number not above 0 is false
 pub not_above : (x : ℤ) → x ≤ℤ pos 0 → above x ≡ false
 not_above x h = by (above x) refl
   where
@@ -23,18 +23,18 @@ not_above x h = by (above x) refl
     by false e = e
     by true e = absurd (omega (arith, ints))
 
--- and back
+-- the converse
 pub above_is : (x : ℤ) → above x ≡ true → pos 0 <ℤ x
 above_is x e = omega (arith, ints)
 
--- where it is not 0 it is below
+-- a number that is not above 0 and not 0 is below 0
 pub below_is : (x : ℤ) → ¬ (x ≡ pos 0) → above x ≡ false → x <ℤ pos 0
 below_is x n e = le_less x (pos 0) (plain x e) n
   where
     plain : (x : ℤ) → above x ≡ false → x ≤ℤ pos 0
     plain x e = omega (arith, ints)
 
--- are two tests alike?
+-- true if two tests are equal
 abbrev pub same : Bool → Bool → Bool
 same true b = b
 same false b = not b
@@ -57,12 +57,12 @@ above-neg x n = by (above x) refl
     by true e = rw e (not_above (neg_ℤ x) (omega (arith, ints, above_is x e)))
     by false e = rw e (is_above (neg_ℤ x) (neg-positive x (below_is x n e)))
 
--- ---- what signs can be together
+-- ---- possible combinations of signs
 -- the signs of p, q and r with p - q = r
 abbrev pub fits_difference : Bool → Bool → Bool → Bool
 fits_difference p q r = not (not (same p r) && same q r)
 
--- no other are there
+-- there are no other combinations
 pub difference_fits : (p q r : ℤ) → p -ℤ q ≡ r → fits_difference (above p) (above q) (above r) ≡ true
 difference_fits p q r e = by (above p) (above q) (above r) refl refl refl
   where
@@ -80,7 +80,7 @@ difference_fits p q r e = by (above p) (above q) (above r) refl refl refl
 abbrev pub fits_sum : Bool → Bool → Bool → Bool
 fits_sum p q r = not (p && (q && r)) && (p || (q || r))
 
--- no other are there
+-- there are no other combinations
 pub sum_fits : (p q r : ℤ) → ¬ (p ≡ pos 0) → ¬ (q ≡ pos 0) → ¬ (r ≡ pos 0) → p +ℤ q +ℤ r ≡ pos 0 → fits_sum (above p) (above q) (above r) ≡ true
 sum_fits p q r l m n e = by (above p) (above q) (above r) refl refl refl
   where

@@ -6,7 +6,7 @@ use Rattle.qh_model.proofs.algebra.{Order.mul-le, Ring.Expr, Ring.ring, Ring.Exp
 use Rattle.qh_model.proofs.algebra.VectorIdentities.{vec, dotE, put, VE}
 use Rattle.qh_laws.specs.laws.PointLaws.{less_times, SlabIsBelow}
 
--- n is l m and the rest
+-- n is l m plus the rest
 parts : (n m p : Vector) (l : ℤ) → dot n p ≡ l *ℤ dot m p +ℤ dot (less_times n l m) p
 parts n m p l =
     let N = vec 0 in let M = vec 1 in let P = vec 2 in let L = var 9 in
@@ -15,7 +15,7 @@ parts n m p l =
     rest : VE → Expr → VE → VE
     rest n l m = record { x = less n.x (mul l m.x); y = less n.y (mul l m.y); z = less n.z (mul l m.z) }
 
--- the law
+-- proof of the law `SlabIsBelow`
 pub slab_is_below : SlabIsBelow
 slab_is_below n m p l h g c some low rest total =
     finish (dot n p) (l *ℤ dot m p) (l *ℤ h) (dot (less_times n l m) p) (parts n m p l) (mul-le l (dot m p) h some low) rest total

@@ -1,4 +1,4 @@
--- Polygons with what is past them strictly below that close up are the faces of a solid.
+-- Sharp polygons that close up are the faces of a solid.
 use Rattle.std.proofs.Common.{◌≡◌, ℕ, refl, sym, List, [], ◌∷◌, inl, inr}
 use Rattle.std.specs.Prelude.{pos}
 use Rattle.qh_model.specs.contract.{ClosedPolygons.IsFace, ClosedSurface.Triple, ClosedSurface.IsClosedSurface, IdSets.HasDistinctPoints}
@@ -26,16 +26,16 @@ module _ (at : ℕ → Vector) (ids : List ℕ) (ts : List Triple) (z d : Vector
   supporting : IsClosedSurface at ts × AreSupporting at (Members ids) ts
   supporting = local_supports at ids ts z d c all
 
-  -- each is a face
+  -- each polygon is a face
   face : (q : List ℕ) → In q qs → IsFace at (Members ids) q
   face q m = let s = p.sharp q m in
       (s.0.i, s.0.j, s.0.k, supporting.1 s.0 s.1, sharp_polygon_is_face at ids ts z d c all distinct s.0 s.1 q s.2)
 
-  -- a triangle's polygon
+  -- the polygon of a triangle's plane
   own_face : (t : Triple) → In t ts → (q : List ℕ) × In q qs × IsFacePolygon at (Members ids) t.i t.j t.k q
   own_face t i = let s = p.each t i in (s.0, s.1, sharp_polygon_is_face at ids ts z d c all distinct t i s.0 s.2)
 
-  -- each supporting plane has one
+  -- each supporting plane has its polygon in the list
   each : (i j k : ℕ) → IsSupportingTriple at (Members ids) i j k → (q : List ℕ) × In q qs × IsFacePolygon at (Members ids) i j k q
   each i j k plane = go (closed_miss_no_plane at ids ts supporting.0 supporting.1 i j k plane)
     where
@@ -51,11 +51,11 @@ module _ (at : ℕ → Vector) (ids : List ℕ) (ts : List Triple) (z d : Vector
       go : (t : Triple) × In t ts × (vol (at t.i) (at t.j) (at t.k) (at l) ≡ pos 0) → (q : List ℕ) × In q qs × In l q
       go (t, i, level) = let f = own_face t i in (f.0, f.1, (f.2.members l).1 (e, level))
 
-  -- and back
+  -- the converse
   back : (l : ℕ) → (q : List ℕ) × In q qs × In l q → Extreme at (Members ids) l
   back l (q, m, i) = let f = face q m in ((f.4.members l).0 i).0
 
--- the law of faces, of all triangles
+-- the law of the faces of all triangles
 pub triangle_polygons_are_faces : TrianglePolygonsAreFaces
 triangle_polygons_are_faces at ids ts z d c all distinct qs p rising =
     record { rising = rising; each = each at ids ts z d c all distinct qs p; only = face at ids ts z d c all distinct qs p }

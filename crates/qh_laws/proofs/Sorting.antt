@@ -3,27 +3,27 @@ use Rattle.std.proofs.Common.{◌≡◌, ◌∙◌, List, [], ◌∷◌, ◌⊎�
 use Rattle.std.specs.Prelude.{◌↔◌}
 use Rattle.qh_model.specs.headline.Sets.{In}
 
--- one comes before the other, or they are equal
+-- one element comes before the other, or they are equal
 abbrev pub Compare : {X : Type 0} → (X → X → Type 0) → X → X → Type 0
 Compare R x y = R x y ⊎ ((x ≡ y) ⊎ R y x)
 
--- from t on each comes before the next
+-- each element from t on comes before the next
 abbrev pub Rises : {X : Type 0} → (X → X → Type 0) → X → List X → Type 0
 Rises R t [] = Unit {0}
 Rises R t (y ∷ ys) = R t y × Rises R y ys
 
--- each comes before the next
+-- each element comes before the next
 abbrev pub InRow : {X : Type 0} → (X → X → Type 0) → List X → Type 0
 InRow R [] = Unit {0}
 InRow R (y ∷ ys) = Rises R y ys
 
--- the members of a list, each before the next
+-- the members of a list as a row, in which each comes before the next
 pub record Sorted {X : Type 0} (R : X → X → Type 0) (xs : List X) : Type 0 where
   pub list : List X
   pub row : InRow R list
   pub members : (x : X) → In x list ↔ In x xs
 
--- the members of a row and x; it rises from what comes before x and rose from before
+-- the members of a row and x, as a row; it rises from any element that comes before x and from which the old row rose
 record Inserted {X : Type 0} (R : X → X → Type 0) (x : X) (ys : List X) : Type 0 where
   list : List X
   row : InRow R list
@@ -59,7 +59,7 @@ module _ {X : Type 0} (R : X → X → Type 0) (A : X → Type 0) (compare : (x 
           back z (inr (inl e)) = inl e
           back z (inr (inr i)) = inr ((s.members z).1 (inr i))
 
-  -- a list can be sorted where any two of its members compare
+  -- a list can be sorted if any two of its members compare
   pub sorted : (xs : List X) → ((x : X) → In x xs → A x) → Sorted R xs
   sorted [] f = record { list = []; row = tt; members = λ x. (λ i. i, λ i. i) }
   sorted (x ∷ xs) f = inserted_into (sorted xs (λ y i. f y (inr i)))

@@ -1,4 +1,4 @@
--- Examples in a table: the first of each row, and what a function makes of it.
+-- Examples in a table: the first entry of each row, and the value of a function at it.
 use Rattle.std.proofs.Common.{◌≡◌, List, map}
 
 abbrev pub Shows : {A B : Type 0} → (A → B) → List (A × B) → Type 0

@@ -28,7 +28,7 @@ pub rank : hull_text hull corners (Rank ∷ []) ≡ line (codes "4 4 3")
 unfolding digits
 rank = refl
 
--- `Fx` and then `rank`: outputs are joined in their order
+-- `Fx` and then `rank`: outputs are joined in order
 pub extremes : hull_text hull corners (Fx ∷ Rank ∷ [])
     ≡ line (codes "4") ++ line (codes "0") ++ line (codes "1") ++ line (codes "2") ++ line (codes "3") ++ line (codes "4 4 3")
 unfolding digits
@@ -46,7 +46,7 @@ off = refl
 pub triangles : hull_text hull corners (OffTriangles ∷ []) ≡ hull_text hull corners (Off ∷ [])
 triangles = refl
 
--- the square (5,0,0) (5,2,0) (5,2,2) (5,0,2), given after another point of it
+-- the square (5,0,0) (5,2,0) (5,2,2) (5,0,2), listed after another point of it
 abbrev pub square_corners : List Vector
 square_corners = point 5 1 1 ∷ point 5 0 0 ∷ point 5 2 0 ∷ point 5 2 2 ∷ point 5 0 2 ∷ []
 

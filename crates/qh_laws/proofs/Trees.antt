@@ -1,4 +1,4 @@
--- Whatever tree joins the parts of a list of points, its extreme ids come out, and their hull is that of all.
+-- Any tree over the parts of a list of points results in the extreme ids of the list, and their hull is that of all points.
 use Rattle.std.proofs.Common.{◌≡◌, ◌≢◌, ℕ, ◌<◌, List, length, arith, sym, subst, ◌∙◌, ◌⊎◌, inl, inr}
 use Rattle.std.specs.List.Sorted.{IsStrictlyIncreasing}
 use Rattle.qh_model.specs.headline.{Combination.Combination, DistinctIds.AreDistinctIds, Extreme.Extreme, Extreme.Others, Hull.AreExtremes, Predicates.place}
@@ -9,14 +9,14 @@ use Rattle.qh_model.proofs.hulls.{SameSets.body_of_part, Unique.rising_list_is_u
 use Rattle.qh_laws.specs.laws.TreeLaws.{Tree, part, join, extremes, IsGiven, IsUnion, ComesOut, AnyTreeOfUnions, HullOfAnyTree}
 use Rattle.qh_laws.proofs.{Answers.IsLowest, Answers.answer_is, Lowest.lowest_id}
 
--- what comes out of a tree has ids of it, all extreme ids of the whole that it is given among them
+-- the result of a tree consists of ids of it, and includes all extreme ids of the whole list that are in the tree
 record IsKept (pts : List Vector) (ids : List ℕ) (t : Tree) (xs : List ℕ) : Type 0 where
   rising : IsStrictlyIncreasing xs
   within : (i : ℕ) → In i xs → IsGiven t i
   has : (i : ℕ) → Extreme (place pts) (Members ids) i → IsGiven t i → In i xs
 
 module _ (pts : List Vector) (ids : List ℕ) (d : AreDistinctIds pts ids) where
-  -- an extreme id of the whole is extreme among any ids that have it
+  -- an extreme id of the whole list is extreme among any ids that include it
   extreme_among : (ys : List ℕ) → ((j : ℕ) → In j ys → j < length pts) → (i : ℕ) → Extreme (place pts) (Members ids) i → In i ys
       → Extreme (place pts) (IsLowest pts ys) i
   extreme_among ys inside i e m = (record { member = m; lowest = λ j h n. first j h }, λ c. e.1 (in_whole c))
@@ -27,7 +27,7 @@ module _ (pts : List Vector) (ids : List ℕ) (d : AreDistinctIds pts ids) where
       lowest : ℕ → ℕ
       lowest j = (lowest_id pts j).id
 
-      -- it is the only lowest id of its point
+      -- the id is the only lowest id of its point
       alone : (j : ℕ) → IsLowest pts ys j → place pts j ≡ place pts i → j ≡ i
       alone j o q =
           let below : j < i → ⊥ = λ h. first j h q in
@@ -48,7 +48,7 @@ module _ (pts : List Vector) (ids : List ℕ) (d : AreDistinctIds pts ids) where
           combination_by_names (place pts) (place pts) (Others (IsLowest pts ys) i) (Others (Members ids) i) lowest other
           (λ j o. (lowest_id pts j).holds) (place pts i)
 
-  -- what is extreme among ids that have all extreme ids of the whole is one of these
+  -- an id that is extreme among ids that include all extreme ids of the whole list is one of these
   extreme_of : (ys es : List ℕ) → AreExtremes (place pts) (Members ids) es → ((j : ℕ) → In j ys → j < length pts)
       → ((j : ℕ) → Extreme (place pts) (Members ids) j → In j ys) → (i : ℕ) → Extreme (place pts) (IsLowest pts ys) i → In i es
   extreme_of ys es listed inside has i x = by_cases (in_or_not i es)
@@ -104,7 +104,7 @@ module _ (pts : List Vector) (ids : List ℕ) (d : AreDistinctIds pts ids) where
         has = λ i e g. (x.members i).1 (extreme_among ys (λ j m. inside j (a.within j m)) i e (a.has i e g));
       }
 
--- the law
+-- proof of the law `AnyTreeOfUnions`
 pub any_tree_of_unions : AnyTreeOfUnions
 any_tree_of_unions pts t xs h whole (ys, f, answer) s = rising_list_is_unique xs h.body.extremes x.rising s.body.extremes.rising (λ i. (down i, up i))
   where
@@ -128,7 +128,7 @@ any_tree_of_unions pts t xs h whole (ys, f, answer) s = rising_list_is_unique xs
         let e = (s.body.extremes.members i).0 m in
         (x.members i).1 (extreme_among pts s.ids s.distinct_ids ys inside i e (has i e))
 
--- the law
+-- proof of the law `HullOfAnyTree`
 pub hull_of_any_tree : HullOfAnyTree
 hull_of_any_tree pts t xs b h whole out body s =
     body_is_unique (place pts) s.ids b h.body (body_of_part (place pts) s.ids xs b (distinct_apart pts s.ids s.distinct_ids) within has body)

@@ -24,7 +24,7 @@ module _ (at : ℕ → Vector) (ts : List Triple) (z : Vector) (t : Triple) (i :
   abbrev normal : Vector
   normal = cross (at t.i) (at t.j) (at t.k)
 
-  -- it turns left at each corner
+  -- the triangle turns left at each corner
   turns : (u v w : ℕ) → IsRound t u v w → pos 0 <ℤ left normal (at u) (at v) (at w)
   turns u v w r = go r
     where
@@ -90,7 +90,7 @@ module _ (at : ℕ → Vector) (ts : List Triple) (z : Vector) (t : Triple) (i :
       least a (inr (inl e)) = omega arith
       least a (inr (inr x)) = absurd x
 
-      -- over the side from a to b, where the third is o
+      -- across the side from a to b, where o is the third corner
       over : (a b o : ℕ) → pos 0 <ℤ left normal (at a) (at b) (at o) → ((l : ℕ) → In l (u ∷ v ∷ w ∷ []) → l ≢ a → l ≢ b → l ≡ o)
           → (p q : ℕ) → a ≡ p → b ≡ q → TurnsLeft at normal (u ∷ v ∷ w ∷ []) p q
       over a b o h only p q e f l m np nq =
@@ -129,7 +129,7 @@ module _ (at : ℕ → Vector) (ts : List Triple) (z : Vector) (t : Triple) (i :
       edges p q (inr (inl (e, f))) = subst (λ a. IsSharpEdge at ts t a q) e (subst (λ b. IsSharpEdge at ts t v b) f (side v w u r₂))
       edges p q (inr (inr (e, f))) = subst (λ a. IsSharpEdge at ts t a q) e (subst (λ b. IsSharpEdge at ts t w b) f (side w u v r₃))
 
--- the law
+-- proof of the law `SharpIsFace`
 pub sharp_is_face : SharpIsFace
 sharp_is_face at ids ts z d c all distinct t i sharp u v w r uv uw =
     face at ids ts z d c all distinct t i (u ∷ v ∷ w ∷ []) (polygon at ts z t i (c.inside t i) sharp u v w r uv uw)

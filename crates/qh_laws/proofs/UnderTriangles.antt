@@ -1,4 +1,4 @@
--- What lies under a triangle of a surface, in its cone from z, is above no triangle that has z and the corners below.
+-- A point under a triangle of a surface, in its cone from z, is above no triangle with z and the corners below it.
 use Rattle.std.proofs.{Common.◌≡◌, Common.refl, Common.ap, Common.◌∙◌, Common.arith, Common.[], Common.◌∷◌, lemmas.Int.ints}
 use Rattle.std.specs.Prelude.{ℤ, pos, ◌+ℤ◌, ◌-ℤ◌, ◌*ℤ◌, neg_ℤ, ◌≤ℤ◌, ◌<ℤ◌}
 use Rattle.qh_model.specs.headline.{Predicates.cross, Predicates.vol, Vector.Vector, Vector.minus, Vector.dot}
@@ -7,7 +7,7 @@ use Rattle.qh_model.proofs.algebra.Ring.Expr.{var, add, sub as less, mul, neg}
 use Rattle.qh_model.proofs.algebra.VectorIdentities.{vec, put, volE, detE, dotE}
 use Rattle.qh_laws.proofs.NoneAbove.{vol-from}
 
--- p by the corners, seen from z, along any n
+-- p in terms of the corners, seen from z, along any n
 coordinates : (z a b c p n : Vector) → vol z a b c *ℤ dot n (minus p z)
     ≡ vol z b c p *ℤ dot n (minus a z) +ℤ vol z c a p *ℤ dot n (minus b z) +ℤ vol z a b p *ℤ dot n (minus c z)
 unfolding vol cross
@@ -16,7 +16,7 @@ coordinates z a b c p n =
     (add (add (mul (detE (vec 1) (vec 2) (vec 3)) (dotE (vec 4) (vec 0))) (mul (detE (vec 2) (vec 0) (vec 3)) (dotE (vec 4) (vec 1))))
     (mul (detE (vec 0) (vec 1) (vec 3)) (dotE (vec 4) (vec 2)))) refl
 
--- how far it is above the triangle
+-- the height of p above the triangle
 pub above_sum : (z a b c p : Vector) → vol a b c p ≡ vol z a b p +ℤ vol z b c p +ℤ vol z c a p -ℤ vol z a b c
 unfolding vol cross
 above_sum z a b c p =
@@ -24,7 +24,7 @@ above_sum z a b c p =
     (less (add (add (volE (vec 0) (vec 1) (vec 2) (vec 4)) (volE (vec 0) (vec 2) (vec 3) (vec 4))) (volE (vec 0) (vec 3) (vec 1) (vec 4)))
     (volE (vec 0) (vec 1) (vec 2) (vec 3))) refl
 
--- ---- a triangle i, j, k that has z and the corners a, b, c not above
+-- ---- a triangle i, j, k that z and the corners a, b, c are not above
 pub under_is_below : (i j k z a b c p : Vector) → pos 0 <ℤ vol z a b c
     → vol i j k z ≤ℤ pos 0 → vol i j k a ≤ℤ pos 0 → vol i j k b ≤ℤ pos 0 → vol i j k c ≤ℤ pos 0
     → pos 0 ≤ℤ vol z a b p → pos 0 ≤ℤ vol z b c p → pos 0 ≤ℤ vol z c a p → vol a b c p ≤ℤ pos 0 → vol i j k p ≤ℤ pos 0

@@ -1,5 +1,5 @@
--- A triangle that is highest along a direction, for its distance from z, is met in that direction: a walk over the highest
--- triangles, from a place inside one of them, comes to it.
+-- A triangle that is highest along a direction, relative to its distance from z, is met in that direction: a walk over the highest triangles, from a place
+-- inside one of them, reaches it.
 use Rattle.std.proofs.Common.{◌≡◌, ℕ, refl, sym, ap, subst, ◌∙◌, arith, List, [], ◌∷◌, Bool, true, false, not, ◌&&◌, ◌⊎◌, inl, inr}
 use Rattle.std.proofs.lemmas.{Bool.and_parts, Int.ints}
 use Rattle.std.specs.Prelude.{ℤ, pos, ◌-ℤ◌, ◌*ℤ◌, neg_ℤ, ◌<ℤ◌}
@@ -21,11 +21,11 @@ module _ (at : ℕ → Vector) (z : Vector) (ts : List Triple) (inside : (t : Tr
   over_round t i u v w (inr (inl (p, q, r))) = subst (λ a. HasLowNeighbour at ts t a v) p (subst (λ b. HasLowNeighbour at ts t t.j b) q (convex t i).over_jk)
   over_round t i u v w (inr (inr (p, q, r))) = subst (λ a. HasLowNeighbour at ts t a v) p (subst (λ b. HasLowNeighbour at ts t t.k b) q (convex t i).over_ki)
 
-  -- does x lie inwards of an edge?
+  -- true if x lies on the inner side of an edge
   abbrev inwards : ℕ → ℕ → Bool
   inwards u v = above (vol z (at u) (at v) x)
 
-  -- what has x inwards of all edges is met
+  -- a triangle with x on the inner side of all edges is met
   met_round : (t : Triple) (u v w : ℕ) → IsRound t u v w → inwards u v ≡ true → inwards v w ≡ true → inwards w u ≡ true → is_met at z x t ≡ true
   met_round t u v w (inl (p, q, r)) e f g = plain t.i t.j t.k u v w p q r e f g
     where
@@ -47,7 +47,7 @@ module _ (at : ℕ → Vector) (z : Vector) (ts : List Triple) (inside : (t : Tr
     abbrev side : ℕ → Bool
     side i = above (vol z (at i) x q)
 
-    -- does q lie inwards of an edge?
+    -- true if q lies on the inner side of an edge
     abbrev behind : ℕ → ℕ → Bool
     behind u v = above (vol z (at u) (at v) q)
 
@@ -68,7 +68,7 @@ module _ (at : ℕ → Vector) (z : Vector) (ts : List Triple) (inside : (t : Tr
         third : In (w, u) (edges ts)
         third = edge_of ts t i w u v (round_next t v w u (round_next t u v w r))
 
-    -- the way from q to x leaves a triangle over an edge, one that is highest at x
+    -- the line from q to x leaves a triangle across an edge, if the triangle is highest at x
     record IsExit (e : ℕ × ℕ) : Type 0 where
       t : Triple
       there : In t ts
@@ -80,7 +80,7 @@ module _ (at : ℕ → Vector) (z : Vector) (ts : List Triple) (inside : (t : Tr
       out : inwards e.0 e.1 ≡ false
       back : behind e.0 e.1 ≡ true
 
-    -- how far on the way it is, as a fraction
+    -- the position on the line, as a fraction
     abbrev gone : (ℕ × ℕ) → ℤ
     gone e = vol z (at e.0) (at e.1) q
 
@@ -97,7 +97,7 @@ module _ (at : ℕ → Vector) (z : Vector) (ts : List Triple) (inside : (t : Tr
     abbrev Goes : (ℕ × ℕ) → Type 0
     Goes e = (HighestMet at z x ts) ⊎ Next gone left_over IsExit (HighestMet at z x ts) (edges ts) e
 
-    -- over the next triangle
+    -- the position in the next triangle
     onwards : (e : ℕ × ℕ) → IsExit e → Goes e
     onwards (u, v) h = by (over_round h.t h.there u v h.w h.round)
       where
@@ -178,7 +178,7 @@ module _ (at : ℕ → Vector) (z : Vector) (ts : List Triple) (inside : (t : Tr
                   farther_third (below_is (vol z (at v) x q) (corners (v, u) (edge_of ts n.next n.there v u n.third n.round)) h.right),
                 )
 
-    -- from a triangle that has q inside
+    -- the walk from a triangle that has q inside
     pub walked : (t : Triple) → In t ts → IsGreatest (height at z x ts) (depth at z x ts) t ts
         → behind t.i t.j ≡ true → behind t.j t.k ≡ true → behind t.k t.i ≡ true → (HighestMet at z x ts)
     walked t i g e f k =

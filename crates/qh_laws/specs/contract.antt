@@ -1,4 +1,4 @@
--- What the code that joins parts cites.
+-- Definitions that the code that joins parts cites.
 pub mod Between
 pub mod LocallyConvex
 pub mod Parts

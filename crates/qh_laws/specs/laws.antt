@@ -1,4 +1,4 @@
--- The laws: what follows from the definitions.
+-- The laws: consequences of the definitions.
 pub mod ConvexLaws
 pub mod ExistenceLaws
 pub mod PartLaws

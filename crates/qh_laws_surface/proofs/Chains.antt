@@ -1,5 +1,4 @@
--- Closed ways over the corners of a polygon. If they take no side back, and each other step as often as the step back, they take all
--- sides equally often.
+-- Closed paths over the corners of a polygon. If they take no reversed side, and each other step as often as the step back, they take all sides equally often.
 use Rattle.std.proofs.Common.{◌≡◌, ℕ, ◌≤◌, arith, refl, sym, subst, ◌∙◌, inl, inr, ⊎_elim, List, [], ◌∷◌, false, cond, eqb}
 use Rattle.std.proofs.lemmas.{Bool.cases_Bool, Bool.eqb-true, Int.ints}
 use Rattle.std.specs.{List.flat_map, Prelude.ℤ, Prelude.pos, Prelude.◌+ℤ◌, Prelude.◌-ℤ◌}
@@ -8,7 +7,7 @@ use Rattle.qh_model.specs.contract.{ClosedPolygons.steps_along, ClosedPolygons.s
 use Rattle.qh_model.proofs.{Decisions.Decided, closed_surfaces.SignedVolume.edge_tests, closed_surfaces.SignedVolume.eqb-refl, closed_surfaces.Sums.sum_z}
 use Rattle.qh_laws_surface.proofs.StepCounts.{alike_tests, times, pair_ends, Beside, follows_or_not, IsOdd, sum-append, sum_off, lead, lead-odd}
 
--- 1 for a step that leads to u, and -1 for a step that leads away from u
+-- 1 for a step that ends at u, and -1 for a step that begins at u
 abbrev pub arrival : ℕ → (ℕ × ℕ) → ℤ
 arrival u e = pos (cond (eqb e.1 u) 1 0) -ℤ pos (cond (eqb e.0 u) 1 0)
 
@@ -25,7 +24,7 @@ all_arrivals u [] = refl
 all_arrivals u (q ∷ qs) =
     sum-append (arrival u) (steps_round q) (flat_map steps_round qs) ∙ omega (arith, ints, round_arrivals u q, all_arrivals u qs)
 
--- the steps of closed ways of this kind
+-- the steps of closed paths of this kind
 pub record AreWays (F : List ℕ) (es : List (ℕ × ℕ)) : Type 0 where
   pub apart : (u v : ℕ) → ¬ (Beside F u v) → times u v es ≡ times v u es
   pub one_way : (u v : ℕ) → Follows u v F → times v u es ≡ 0
@@ -35,7 +34,7 @@ pub record AreWays (F : List ℕ) (es : List (ℕ × ℕ)) : Type 0 where
   pub one_after : (u x y : ℕ) → Follows u x F → Follows u y F → x ≡ y
 
 module _ (F : List ℕ) (es : List (ℕ × ℕ)) (ways : AreWays F es) where
-  -- on sides, what arrives at u comes from the corner before, and what leaves goes to the corner after
+  -- on sides, a step to u begins at the previous corner, and a step from u ends at the next corner
   module _ (p u s : ℕ) (hp : Follows p u F) (hs : Follows u s F) where
     abbrev rest : (ℕ × ℕ) → ℤ
     rest e = arrival u e +ℤ (lead u s e -ℤ lead p u e)

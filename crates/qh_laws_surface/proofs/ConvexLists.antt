@@ -1,5 +1,5 @@
--- Lists of corners of which each three, in their order, turn left. A polygon is one, from any of its corners on, and so is a list
--- that goes round some of its corners.
+-- Lists of corners of which each three, in order, turn left. Polygons are lists of this kind, beginning at any of their corners, and so are lists that go round
+-- some of their corners.
 use Rattle.std.proofs.Common.{◌≡◌, ℕ, arith, refl, [], ◌≢◌, ◌+◌, sym, ap, subst, ◌∙◌, inl, inr, ⊎_elim, ◌⊎◌, List, ◌∷◌, ◌++◌, take, drop, append_assoc}
 use Rattle.std.proofs.Common.{append-nil}
 use Rattle.std.proofs.lemmas.{Int.ints, List.take-append-drop, List.drop_more}
@@ -17,14 +17,14 @@ use Rattle.qh_check.specs.contract.Pieces.{IsMetAlong, IsMetRound}
 abbrev turnE : ℕ → ℕ → Expr
 turnE i j = dotE (crossE (vec i) (vec j)) (vec 0)
 
--- of the products of turns about a, one is the sum of the two others
+-- one of the products of turns about a is the sum of the two others
 turn_products : (n a b u v w : Vector) → left n a b v *ℤ left n a u w ≡ left n a b u *ℤ left n a v w +ℤ left n a b w *ℤ left n a u v
 unfolding left cross
 turn_products n a b u v w =
     ring (put n (put (minus b a) (put (minus u a) (put (minus v a) (put (minus w a) [])))))
     (mul (turnE 1 3) (turnE 2 4)) (add (mul (turnE 1 2) (turnE 3 4)) (mul (turnE 1 4) (turnE 2 3))) refl
 
--- u before v before w, all to the left of the way from a to b, or u on it
+-- u before v before w, all to the left of the line from a to b, or u on it
 turn_on : (n a b u v w : Vector) → pos 0 ≤ℤ left n a b u → pos 0 <ℤ left n a b v → pos 0 <ℤ left n a b w
     → pos 0 <ℤ left n a u v → pos 0 <ℤ left n a v w → pos 0 <ℤ left n a u w
 turn_on n a b u v w hu hv hw uv vw =
@@ -37,7 +37,7 @@ turn_on n a b u v w hu hv hw uv vw =
     ))
 
 -- ---- lists that are met along others
--- what holds of all members of a list holds of those of a list that is met along it
+-- a fact about all members of a list holds for those of a list that is met along it
 along_all : (P : ℕ → Type 0) (p q : List ℕ) → IsMetAlong p q → ((x : ℕ) → In x q → P x) → (x : ℕ) → In x p → P x
 along_all P [] q h a x m = absurd m
 along_all P (u ∷ p) [] h a x m = absurd h
@@ -97,7 +97,7 @@ last_ordered R x w (t ∷ []) h (inr m) n o = absurd m
 last_ordered R x w (t ∷ v ∷ r) h (inl e) n o = subst (λ a. R a x) (sym e) (o.0 x (last_member x (v ∷ r) h))
 last_ordered R x w (t ∷ v ∷ r) h (inr m) n o = last_ordered R x w (v ∷ r) h m n o.1
 
--- where a step goes from x to y, y comes next after x, or x is the last member and y the end
+-- if a step goes from x to y, y comes next after x, or x is the last member and y the end
 next_or_last : (x y t : ℕ) (r : List ℕ) (e : ℕ) → FollowsAlong x y t r e → Next x y (t ∷ r) ⊎ (Last x (t ∷ r) × (e ≡ y))
 next_or_last x y t [] e h = inr h
 next_or_last x y t (w ∷ r) e (inl h) = inl (inl h)
@@ -109,16 +109,16 @@ module _ (n : Vector) (at : ℕ → Vector) where
   abbrev pub Turn : ℕ → ℕ → ℕ → Type 0
   Turn x y z = pos 0 <ℤ left n (at x) (at y) (at z)
 
-  -- each three members, in their order, turn left
+  -- each three members, in order, turn left
   abbrev pub AllTurn : List ℕ → Type 0
   AllTurn [] = Unit {0}
   AllTurn (x ∷ xs) = Ordered (Turn x) xs × AllTurn xs
 
-  -- three corners turn left from any of them on
+  -- three corners turn left, whichever of them is first
   pub turned : (x y z : ℕ) → Turn x y z → Turn y z x
   turned x y z h = subst (λ v. pos 0 <ℤ v) (left-turn n (at x) (at y) (at z)) h
 
-  -- no turn has a corner twice
+  -- the corners of a turn are different
   pub none_twice : (x y : ℕ) → left n (at x) (at y) (at y) ≡ pos 0
   none_twice x y = in_line-left n (at x) (at y) (at y) (in_line-last (at x) (at y))
 
@@ -137,7 +137,7 @@ module _ (n : Vector) (at : ℕ → Vector) where
   pub no_back : (x y z : ℕ) → Turn x y z → ¬ (Turn x z y)
   no_back x y z h k = omega (arith, ints, left-flip n (at x) (at y) (at z))
 
-  -- of three corners that turn left one is neither of two ids, so what holds of every corner that is neither holds of one of them
+  -- of three corners that turn left, one is neither of two ids, so a fact about every corner that is neither holds for one of them
   pub one_apart : (P : ℕ → Type 0) (x y z : ℕ) → Turn x y z → (u v : ℕ) → ((w : ℕ) → In w (x ∷ y ∷ z ∷ []) → w ≢ u → w ≢ v → P w) → P x ⊎ (P y ⊎ P z)
   one_apart P x y z t u v h = by (ℕ_discrete x u) (ℕ_discrete x v) (ℕ_discrete y u) (ℕ_discrete y v)
     where
@@ -164,7 +164,7 @@ module _ (n : Vector) (at : ℕ → Vector) where
     pub has_w : In w q
     pub turns : Turn u v w
 
-  -- what is met along a list with left turns has left turns
+  -- a list that is met along a list with left turns has left turns
   along_turn : (p q : List ℕ) → IsMetAlong p q → AllTurn q → AllTurn p
   along_turn [] q h t = tt
   along_turn (u ∷ p) [] h t = absurd h
@@ -172,12 +172,12 @@ module _ (n : Vector) (at : ℕ → Vector) where
       (subst (λ x. Ordered (Turn x) p) (sym h.0) (along_ordered (Turn v) p q h.1 t.0), along_turn p q h.1 t.1)
   along_turn (u ∷ p) (v ∷ q) (inr h) t = along_turn (u ∷ p) q h t.1
 
-  -- P holds of each two that come one after the other
+  -- P holds for each two consecutive members
   abbrev Along : (ℕ → ℕ → Type 0) → ℕ → List ℕ → Type 0
   Along P u [] = Unit {0}
   Along P u (v ∷ r) = P u v × Along P v r
 
-  -- round x, to the left of the way from x to b, each comes before all later ones
+  -- round x, to the left of the line from x to b, each comes before all later ones
   fan_ordered : (x b u : ℕ) (l : List ℕ) → pos 0 ≤ℤ left n (at x) (at b) (at u) → ((z : ℕ) → In z l → Turn x b z)
       → Along (Turn x) u l → Ordered (Turn x) (u ∷ l)
   fan_ordered x b u [] hu hl a = ((λ y m. absurd m), tt)
@@ -190,7 +190,7 @@ module _ (n : Vector) (at : ℕ → Vector) where
         r,
       )
 
-  -- the rest of a polygon, from any of its corners on
+  -- the rest of a polygon, beginning at any of its corners
   module _ (q : List ℕ) where
     seen : (x v : ℕ) (l : List ℕ) (e : ℕ) → ¬ (In x (v ∷ l)) → In x q → AlongPath (TurnsLeft at n q) v l e → Along (Turn x) v l
     seen x v [] e out m p = tt
@@ -214,7 +214,7 @@ module _ (n : Vector) (at : ℕ → Vector) where
   pub polygon_turns : {X : ℕ → Type 0} {q : List ℕ} → IsPolygon at X n q → AllTurn q
   polygon_turns {X} {q} p = round_turns q p.once (round_told (TurnsLeft at n q) q p.round)
 
-  -- and so is the list from another corner on
+  -- the list that begins at another corner is of this kind
   first_last : (x : ℕ) (xs : List ℕ) → Ordered (Turn x) xs → AllTurn xs → AllTurn (xs ++ x ∷ [])
   first_last x [] o t = (tt, tt)
   first_last x (y ∷ ys) o t =
@@ -225,7 +225,7 @@ module _ (n : Vector) (at : ℕ → Vector) where
   rotated (x ∷ xs) ys t = subst AllTurn (append_assoc ys (x ∷ []) xs)
       (rotated xs (ys ++ x ∷ []) (subst AllTurn (append_assoc xs ys (x ∷ [])) (first_last x (xs ++ ys) t.0 t.1)))
 
-  -- and a list that goes round some corners of a polygon
+  -- a list that goes round some corners of a polygon is of this kind
   pub met_turns : {X : ℕ → Type 0} {face : List ℕ} → IsPolygon at X n face → (q : List ℕ) → IsMetRound q face → AllTurn q
   met_turns p [] h = absurd h
   met_turns {X} {face} p (u ∷ l) (k, (in_face, here, along)) =

@@ -24,7 +24,7 @@ pub covers_height : {at : ℕ → Vector} {A : ℕ → Type 0} {q : List ℕ} (p
 covers_height {at} p s t = (Decides-int_eq (spot_height at p.i p.j p.k s) (pos 0)).0 (and_parts (int_eq (spot_height at p.i p.j p.k s) (pos 0))
     (all_left (normal p) at s (steps_round (p.i ∷ p.j ∷ p.k ∷ p.rest))) (subst (λ x. covers at s x ≡ true) p.is t)).0
 
--- counts by a test that equals a third where a second is passed, and is not passed elsewhere
+-- the count by a test that equals a third test where a second passes, and fails elsewhere
 pub count_parts : (c l p : List ℕ → Bool) (qs : List (List ℕ)) → ((q : List ℕ) → In q qs → l q ≡ true → c q ≡ p q)
     → ((q : List ℕ) → In q qs → l q ≡ false → c q ≡ false) → count c qs ≡ count p (filter l qs)
 count_parts c l p [] h k = refl
@@ -54,7 +54,7 @@ module _ {at : ℕ → Vector} {ids : List ℕ} {qs : List (List ℕ)} {i j k : 
         (vol_along (at i) (at j) (at k) (at p.i) (at p.j) (at p.k) (at i) flat_along (lies_level at i j k q e p.i (has_i p)))
         (vol-first (at i) (at j) (at k)))
 
-  -- it covers a spot of the plane exactly if the spot lies to the left of each of its sides
+  -- the piece covers a spot of the plane exactly if the spot lies to the left of each of its sides
   pub covers_flat : (s : Spot) → spot_height at i j k s ≡ pos 0 → (q : List ℕ) → In q qs → lies_in at i j k q ≡ true
       → covers at s q ≡ all_left n at s (steps_round q)
   covers_flat s level q m e = by (piece c q m)
@@ -77,7 +77,7 @@ module _ {at : ℕ → Vector} {ids : List ℕ} {qs : List (List ℕ)} {i j k : 
   abbrev left_all : List ℕ → Bool
   left_all q = all_left N at s (steps_round q)
 
-  -- it lies in the plane, and to the left of each side
+  -- the spot lies in the plane, and to the left of each side
   two : (int_eq (spot_height at i j k s) (pos 0) ≡ true) × (left_all F ≡ true)
   two = and_parts (int_eq (spot_height at i j k s) (pos 0)) (left_all F) inside
 
@@ -90,7 +90,7 @@ module _ {at : ℕ → Vector} {ids : List ℕ} {qs : List (List ℕ)} {i j k : 
   face_turns : AllTurn N at F
   face_turns = polygon_turns N at c.polygon
 
-  -- the number of triangles of a fan in which the spot lies is 1 if it lies inside the polygon, and else 0
+  -- the number of triangles of a fan in which the spot lies is 1 if it lies inside the polygon, and 0 otherwise
   fan_count : (q : List ℕ) (x y z : ℕ) (rest : List ℕ) → q ≡ x ∷ y ∷ z ∷ rest → ((l : ℕ) → In l q → In l F) → AllTurn N at q
       → covered N at s q ≡ pos (number (left_all q))
   fan_count q x y z rest e h t =
@@ -114,7 +114,7 @@ module _ {at : ℕ → Vector} {ids : List ℕ} {qs : List (List ℕ)} {i j k : 
         round_over N at s (λ l. In l F) off_turns i (inl refl) q (part_member c q (h q (inl refl))) (part_turns c q (h q (inl refl))),
       )
 
-  -- no piece outside of the plane covers it
+  -- no piece outside the plane covers the spot
   pub covers_other : (q : List ℕ) → In q qs → lies_in at i j k q ≡ false → covers at s q ≡ false
   covers_other q m e = false_from_ne_true (covers at s q) (by (piece c q m))
     where
@@ -139,7 +139,7 @@ module _ {at : ℕ → Vector} {ids : List ℕ} {qs : List (List ℕ)} {i j k : 
               (corner_triple at ids c.plane c.polygon inner.a inner.v inner.w inner.has_a inner.has_v inner.has_w inner.turns) zeros.0 zeros.1.0 zeros.1.1
               p.polygon (corner_face at ids c.plane c.polygon inner.a inner.v inner.w inner.has_a inner.has_v inner.has_w inner.turns))
 
-  -- one piece alone covers it
+  -- exactly one piece covers the spot
   pub one_covers : IsFaceSurface at (Members ids) qs → count_by (covers at s) qs ≡ 1
   one_covers surface =
       sym (count-is (covers at s) qs) ∙ count_parts (covers at s) (lies_in at i j k) left_all qs (covers_flat c s level_spot) covers_other ∙ one_part

@@ -13,7 +13,7 @@ use Rattle.qh_laws_surface.specs.laws.CoverLaws.{PiecesLieInFaces, SpotsLieInFac
 use Rattle.qh_laws_surface.proofs.{Covered.covers_height, Covered.height_flat, Covered.one_covers, FaceSpots.none_right, FaceSpots.right_of}
 use Rattle.qh_laws_surface.proofs.WholeFaces.{face_reaches, inside_face, reached, covered_once}
 
--- where no member passes a test, none is counted
+-- the count is 0 if no member passes a test
 pub none_counted : {X : Type 0} (p : X → Bool) (xs : List X) → ((x : X) → In x xs → ¬ (p x ≡ true)) → count p xs ≡ 0
 none_counted p [] h = refl
 none_counted p (x ∷ xs) h = elim (cases_Bool (p x)) [

@@ -50,7 +50,7 @@ inside_covered : covers square inside whole ≡ true
 unfolding square place cross spot_height spot_turn
 inside_covered = refl
 
--- one of the halves alone has it
+-- only one of the halves covers it
 inside_once : ◌≡◌ {A = ℕ} (count_by (covers square inside) halves) 1
 unfolding square place cross spot_height spot_turn
 inside_once = refl

@@ -1,4 +1,4 @@
--- Spots of a face: inside it, off all lines through two of its corners, and inside polygons that are cut out of it.
+-- Spots of a face: inside it, off all lines through two of its corners, and inside polygons whose corners are corners of the face.
 use Rattle.std.proofs.Common.{◌⊎◌, ◌≡◌, ◌≢◌, ℕ, arith, refl, sym, ap, subst, ◌∙◌, inl, inr, List, [], ◌∷◌, Bool, true, not, map}
 use Rattle.std.proofs.lemmas.{Bool.cases_Bool, Bool.not-true, Bool.Decides.Decides-int_eq, Int.ints, Int.by_lt_z}
 use Rattle.std.specs.{List.list_all, Prelude.ℤ, Prelude.pos, Prelude.◌+ℤ◌, Prelude.◌*ℤ◌, Prelude.◌≤ℤ◌, Prelude.◌<ℤ◌, Prelude.int_lt}
@@ -16,7 +16,7 @@ use Rattle.qh_laws_surface.proofs.NearSpots.{Near, near, form_level}
 use Rattle.qh_laws_surface.proofs.PlaneSpots.{turn_form, numbers, turn_of, between, between_turn, between_level}
 
 -- ---- tests
--- does the spot lie to the right of no step?
+-- true if the spot lies to the right of no step
 abbrev pub none_right : (n : Vector) (at : ℕ → Vector) → Spot → List (ℕ × ℕ) → Bool
 none_right n at s es = list_all (λ e. not (int_lt (spot_turn n at e.0 e.1 s) (pos 0))) es
 
@@ -90,17 +90,17 @@ module _ {at : ℕ → Vector} {ids : List ℕ} {qs : List (List ℕ)} {i j k : 
       inside : (l : ℕ) → In l (t.a ∷ t.v ∷ t.w ∷ []) → In l F
       inside = each_of_three (λ l. In l F) t.a t.v t.w (h t.a t.has_a) (h t.v t.has_v) (h t.w t.has_w)
 
-  -- ---- three corners and more, cut out of the face
+  -- ---- three or more corners of the face
   module _ (a v w : ℕ) (rest : List ℕ) (t : AllTurn n at (a ∷ v ∷ w ∷ rest)) (in_F : (l : ℕ) → In l (a ∷ v ∷ w ∷ rest) → In l F) where
     abbrev q : List ℕ
     q = a ∷ v ∷ w ∷ rest
 
-    -- a spot inside them, off all lines, lies inside the face
+    -- a spot inside these corners, off all lines, lies inside the face
     pub inside_side : (z : Spot) → ((x y : ℕ) → In x F → In y F → x ≢ y → ¬ (spot_turn n at x y z ≡ pos 0)) → all_left n at z (steps_round q) ≡ true
         → IsLeft n at z F
     inside_side z off e = weighed z q (in_triangle n at z (λ l. In l F) off a v w rest in_F t e) in_F
 
-    -- a spot of the plane to the right of none of their sides has one near it to the left of each
+    -- a spot of the plane to the right of none of their sides is near a spot to the left of each
     module _ (s : Spot) (level : spot_height at i j k s ≡ pos 0) (closed : IsNotRight n at s q) where
       middle : Spot
       middle = between at a v w 1 1 1 (omega arith)
@@ -142,7 +142,7 @@ module _ {at : ℕ → Vector} {ids : List ℕ} {qs : List (List ℕ)} {i j k : 
       unfolding sides
       moved_left x y g = moved.more x y (in_map (λ (e : ℕ × ℕ). turn_form at i j k e.0 e.1) (steps_round q) (x, y) ((on_round x y q).1 g))
 
-      -- so it is to the right of no side of the face
+      -- so the spot is to the right of no side of the face
       pub not_beyond : IsNotRight n at s F
       not_beyond x y g = by_lt_z (spot_turn n at x y s) (pos 0) (λ h. absurd (omega (
         arith,

@@ -26,7 +26,7 @@ module _ {at : ℕ → Vector} {ids : List ℕ} {qs : List (List ℕ)} {i j k : 
   abbrev n : Vector
   n = cross (at i) (at j) (at k)
 
-  -- ---- how often all polygons take a step, and those of the face
+  -- ---- the number of times that all polygons take a step, and that those of the face do
   all_once : (u v : ℕ) → u ≢ v → times u v (flat_map steps_round qs) ≤ 1
   all_once u v ne = by (cases_order u v)
     where
@@ -49,7 +49,7 @@ module _ {at : ℕ → Vector} {ids : List ℕ} {qs : List (List ℕ)} {i j k : 
           kept_alike (lies_in at i j k) u v qs (diagonal_kept c u v h a b) ∙ closed_times qs surface.closed u v
           ∙ sym (kept_alike (lies_in at i j k) v u qs (diagonal_kept c v u (λ s. h (⊎_elim (λ c. inr c) (λ c. inl c) s)) b a))
 
-  -- the steps of the pieces are closed ways over the corners of the face
+  -- the steps of the pieces are closed paths over the corners of the face
   face_ways : AreWays F (es c)
   face_ways = record {
     apart = apart;
@@ -147,7 +147,7 @@ module _ {at : ℕ → Vector} {ids : List ℕ} {qs : List (List ℕ)} {i j k : 
       by (inl l) = let o = face_ways.once u v h in omega (arith, l, o)
       by (inr l) = absurd (not_nothing (λ x y g. let e = equally_often F (es c) face_ways u v x y h g in omega (arith, l, e)))
 
-  -- what changes its sign with a step adds up to the same over the steps of the pieces and over those of the face
+  -- a function that changes its sign with a step adds up to the same over the steps of the pieces and over those of the face
   pub goes_round_once : (g : (ℕ × ℕ) → ℤ) → IsOdd g → sum_z g (es c) ≡ sum_z g (steps_round F)
   goes_round_once g odd = sum_same g odd (es c) (steps_round F) alike
     where

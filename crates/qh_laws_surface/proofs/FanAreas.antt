@@ -1,4 +1,4 @@
--- Areas of polygons, seen along a normal: by fans, and by what a corner sweeps along the steps.
+-- Areas of polygons, seen along a normal: by fans, and by the area that a corner sweeps along the steps.
 use Rattle.std.proofs.Common.{◌≡◌, ℕ, arith, refl, ◌∙◌, inl, List, [], ◌∷◌}
 use Rattle.std.proofs.lemmas.Int.{ints}
 use Rattle.std.specs.{List.flat_map, Prelude.ℤ, Prelude.pos, Prelude.◌+ℤ◌, Prelude.◌≤ℤ◌, Prelude.◌<ℤ◌}

@@ -1,4 +1,4 @@
--- The steps round the triangles of fans: those of the polygons, and the diagonals both ways.
+-- The steps round the triangles of fans: those of the polygons, and the diagonals in both directions.
 use Rattle.std.proofs.Common.{◌≡◌, ℕ, ◌≤◌, arith, refl, sym, ap, ◌∙◌, inl, inr, ⊎_elim, ◌⊎◌, List, [], ◌∷◌, ◌++◌, length}
 use Rattle.std.proofs.lemmas.{Int.ints, List.Concat.flat_map-append}
 use Rattle.std.specs.{List.flat_map, Prelude.ℤ, Prelude.◌+ℤ◌}
@@ -8,7 +8,7 @@ use Rattle.qh_model.proofs.closed_surfaces.Sums.{sum_z}
 use Rattle.qh_laws_surface.proofs.StepCounts.{times, Has, closed_times, pair_ends, IsOdd, sum-append, lead, lead-odd, lead_sum}
 
 -- ---- the triangles of a polygon
--- the triangles of a and two neighbours each, from u along the list
+-- the triangles of a and two neighbours each, beginning with u along the list
 abbrev pub triples_along : ℕ → ℕ → List ℕ → List Triple
 triples_along a u [] = []
 triples_along a u (w ∷ r) = record { i = a; j = u; k = w } ∷ triples_along a w r
@@ -22,7 +22,7 @@ edges-append : (xs ys : List Triple) → edges (xs ++ ys) ≡ edges xs ++ edges 
 edges-append [] ys = refl
 edges-append (x ∷ xs) ys = ap (λ es. (x.i, x.j) ∷ (x.j, x.k) ∷ (x.k, x.i) ∷ es) (edges-append xs ys)
 
--- what changes its sign with a step adds up to the same over the edges of fans and over the steps of their polygons
+-- a function that changes its sign with a step adds up to the same over the edges of fans and over the steps of their polygons
 module _ (g : (ℕ × ℕ) → ℤ) (odd : IsOdd g) where
   along_sum : (a b : ℕ) (r : List ℕ) → sum_z g (edges (triples_along a b r)) ≡ g (a, b) +ℤ sum_z g (steps_along b r a)
   along_sum a b [] = omega (arith, ints, odd (a, b))
@@ -78,8 +78,8 @@ edges_flat [] = refl
 edges_flat (q ∷ qs) =
     edges-append (triples_in q) (flat_map triples_in qs) ∙ ap (λ es. edges (triples_in q) ++ es) (edges_flat qs)
 
--- ---- which steps they are
--- from a to the list, along the list, or from its rest to a
+-- ---- the edges of a fan
+-- the edges from a to the list, along the list, and from the rest of the list to a
 abbrev FanStep : ℕ → ℕ → List ℕ → ℕ → ℕ → Type 0
 FanStep a u r x y = ((x ≡ a) × In y (u ∷ r)) ⊎ ((In x (u ∷ r) × In y r) ⊎ (In x r × (y ≡ a)))
 
@@ -95,7 +95,7 @@ fan_step a u (w ∷ r) x y (inr (inr (inr m))) = more (fan_step a w r x y m)
     more (inr (inl h)) = inr (inl (inr h.0, inr h.1))
     more (inr (inr h)) = inr (inr (inr h.0, h.1))
 
--- each edge of a fan is there once
+-- each edge of a fan occurs once
 once_fan_along : (a u : ℕ) (r : List ℕ) → Once (a ∷ u ∷ r) → Once (edges (triples_along a u r))
 once_fan_along a u [] o = tt
 once_fan_along a u (w ∷ r) o = (first, (second, (third, once_fan_along a w r ((λ i. o.0 (inr i)), o.1.1))))

@@ -84,7 +84,7 @@ module _ (at : ℕ → Vector) (ids : List ℕ) (solid : HasTetrahedron at (Memb
       between : (x y : ℕ) → A x → A y → dot f (minus (at y) (at x)) ≡ pos 0
       between x y hx hy = omega (arith, ints, dot-minus f (at y) (at x), dot-minus f (at y) (at p), dot-minus f (at x) (at p), flat x hx, flat y hy)
 
-  -- with two more members in it that are not in one line with p, it is the plane of a supporting triple
+  -- if the plane has two more members that are not in line with p, it is the plane of a supporting triple
   triple_of : (f : Vector) → Holds f → (q r : ℕ) → A q → A r → dot f (to q) ≡ pos 0 → dot f (to r) ≡ pos 0 → ¬ (AreInLine (at p) (at q) (at r))
       → (i j k : ℕ) × IsSupportingTriple at A i j k
   triple_of f h q r hq hr eq er area =
@@ -111,7 +111,7 @@ module _ (at : ℕ → Vector) (ids : List ℕ) (solid : HasTetrahedron at (Memb
     has_m : dot c (to m) ≡ pos 0
     keeps : (v : ℕ) → dot u (to v) ≡ pos 0 → dot f (to v) ≡ pos 0 → dot c (to v) ≡ pos 0
 
-  -- this exists if u is at right angles to the ways to all members in the plane
+  -- this plane exists if u is at right angles to the vectors to all members in the plane
   turn : (f u : Vector) → Holds f → u ≢ origin → dot f u ≡ pos 0 → ((g : ℕ) → A g → dot f (to g) ≡ pos 0 → dot u (to g) ≡ pos 0) → Turned f u
   turn f u h some_u across flat = ⊎_elim none made
       (least marked (λ g. neg_ℤ (dot f (to g))) (λ g. dot u (to g)) ids (λ g hg k. let l = holds (lower_or_not g) k in omega (arith, ints, l)))

@@ -1,4 +1,4 @@
--- The faces of a solid are a surface of its hull, and so are their fans; so are the polygons of a right body.
+-- The faces of a solid are a surface of its hull, and so are their fans. The polygons of a right body are a surface, too.
 use Rattle.std.proofs.Common.{map, ◌≡◌, ℕ, ◌<◌, arith, refl, sym, ap, subst, ◌∙◌, inl, inr, List, [], ◌∷◌, ◌++◌, length}
 use Rattle.std.proofs.lemmas.List.{length-append}
 use Rattle.std.specs.{List.flat_map, Prelude.pos, Prelude.◌≤ℤ◌}
@@ -31,7 +31,7 @@ module _ (at : ℕ → Vector) (ids : List ℕ) {i j k : ℕ} {F : List ℕ} (pl
   on : (l : ℕ) → In l F → vol (at i) (at j) (at k) (at l) ≡ pos 0
   on l m = ((f.members l).0 m).1
 
-  -- are a supporting triple
+  -- these corners are a supporting triple
   pub corner_triple : IsSupportingTriple at (Members ids) x y z
   corner_triple = record {
     has_i = ((f.members x).0 fx).0.0;
@@ -43,7 +43,7 @@ module _ (at : ℕ → Vector) (ids : List ℕ) {i j k : ℕ} {F : List ℕ} (pl
         (mul-nonneg_nonpos (left n (at x) (at y) (at z)) (vol (at i) (at j) (at k) (at l)) (positive_le _ turns) (plane.supports l a)));
   }
 
-  -- whose polygon is the face
+  -- the polygon of this triple is the face
   pub corner_face : IsFacePolygon at (Members ids) x y z F
   corner_face = seen_from at (Members ids) i j k x y z F f
       (level_along (at i) (at j) (at k) (at x) (at y) (at z) plane.area (on x fx) (on y fy) (on z fz) turns) (on x fx)
@@ -59,7 +59,7 @@ met_next v w (x ∷ []) ys h = absurd h
 met_next v w (x ∷ y ∷ r) ys (inl h) = inl (sym h.0, inl (sym h.1, tt))
 met_next v w (x ∷ y ∷ r) ys (inr h) = inr (met_next v w (y ∷ r) ys h)
 
--- ---- the triangles of a fan: of its first corner and two that come one after the other
+-- ---- the triangles of a fan: of its first corner and two consecutive ones
 fan_triple : (a u : ℕ) (r : List ℕ) (t : Triple) → In t (triples_along a u r) → (t.i ≡ a) × Next t.j t.k (u ∷ r)
 fan_triple a u [] t m = absurd m
 fan_triple a u (w ∷ r) t (inl e) = (ap (λ (x : Triple). x.i) e, inl (sym (ap (λ (x : Triple). x.j) e), sym (ap (λ (x : Triple). x.k) e)))
@@ -116,7 +116,7 @@ module _ (at : ℕ → Vector) (ids : List ℕ) (d : HasDistinctPoints at (Membe
       by : (i j k : ℕ) × BeginsWith (u ∷ p) i j k × HasFace at A (u ∷ p) i j k → IsPiece at A (u ∷ p)
       by (i, j, k, b, (t, g)) = (i, j, k, t, (b, (u ∷ p, g, (0, (omega arith, refl, met_self p [])))))
 
-  -- and so is a triangle of its fan
+  -- a triangle of the fan of a face is a piece
   fan_piece : (q t : List ℕ) → IsFace at A q → In t (fan q) → IsPiece at A t
   fan_piece [] t f m = absurd (let l = long_face [] f in omega (arith, l))
   fan_piece (a ∷ []) t f m = absurd (let l = long_face (a ∷ []) f in omega (arith, l))

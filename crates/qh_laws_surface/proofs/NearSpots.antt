@@ -1,4 +1,4 @@
--- A spot in the plane of a polygon, moved a little in the plane, off all lines through two corners.
+-- A spot in the plane of a polygon, moved slightly within the plane, off all lines through two corners.
 use Rattle.std.proofs.Common.{◌≡◌, ◌≢◌, ℕ, zero, suc, ◌<◌, arith, refl, sym, ap, subst, ◌∙◌, inl, inr, ⊎_elim, ◌⊎◌, List, [], ◌∷◌, ◌++◌, map}
 use Rattle.std.proofs.lemmas.Int.{ints}
 use Rattle.std.specs.{List.flat_map, Prelude.filter, Prelude.ℤ, Prelude.pos, Prelude.negsuc, Prelude.◌+ℤ◌, Prelude.◌≤ℤ◌, Prelude.◌<ℤ◌}
@@ -38,7 +38,7 @@ three_turn n at (a ∷ q) t x y z (inr m) (inr k) (inl g) xy yz xz =
     (⊎_elim (λ h. inl (turned n at a x y h)) (λ h. inr (turned n at y x a (turned n at a y x h))) (ordered_two (Turn n at a) q t.0 x y m k xy))
 three_turn n at (a ∷ q) t x y z (inr m) (inr k) (inr l) xy yz xz = three_turn n at q t.1 x y z m k l xy yz xz
 
--- ---- lists of what is chosen from pairs
+-- ---- lists of values chosen from pairs
 module _ (P : (ℕ × ℕ) → Type 0) (dec : (e : ℕ × ℕ) → Decided (P e)) (g : (ℕ × ℕ) → Vector) where
   abbrev pub chosen : List (ℕ × ℕ) → List Vector
   chosen es = map g (filter (λ e. test (dec e)) es)
@@ -123,7 +123,7 @@ module _ (at : ℕ → Vector) (i j k : ℕ) (r : List ℕ) (t : AllTurn (cross 
     ups : List Vector
     ups = chosen IsLeft left_or_not form (pairs F)
 
-    -- a spot near it, off all lines, where turns above 0 stay so, and more forms are above 0
+    -- a spot near it, off all lines, at which turns above 0 stay above 0, and more forms are above 0
     pub record Near (extra : List Vector) : Type 0 where
       pub spot : Spot
       pub level : spot_height at i j k spot ≡ pos 0

@@ -1,4 +1,4 @@
--- Pieces of faces: they turn left at each three corners, their steps are steps of their faces, and some lie in the plane of one face.
+-- Pieces of faces: each three of their corners turn left, their steps are steps of their faces, and some lie in the plane of one face.
 use Rattle.std.proofs.Common.{◌≡◌, ◌≢◌, ℕ, refl, sym, subst, inl, inr, List, ◌∷◌, ◌≤◌, arith, [], Bool, true}
 use Rattle.std.proofs.lemmas.Bool.{cases_Bool, and_parts, Decides.Decides-int_eq}
 use Rattle.std.specs.{List.flat_map, List.list_all, Ordering.int_eq, Prelude.filter, Prelude.pos}
@@ -54,7 +54,7 @@ module _ {at : ℕ → Vector} {A : ℕ → Type 0} {q : List ℕ} (p : PieceOf 
   pub has_k : In p.k q
   has_k = subst (In p.k) (sym p.is) (inr (inr (inl refl)))
 
-  -- some corner is neither of two
+  -- some corner differs from two ids
   pub third : (x y : ℕ) → (w : ℕ) × In w q × (w ≢ x) × (w ≢ y)
   third x y = subst (λ s. (w : ℕ) × In w s × (w ≢ x) × (w ≢ y)) (sym p.is)
       (third_corner normal at p.i p.j p.k p.rest (subst (AllTurn normal at) p.is piece_turns) x y)
@@ -69,7 +69,7 @@ module _ {at : ℕ → Vector} {A : ℕ → Type 0} {q : List ℕ} (p : PieceOf 
     turns = side_left normal at q piece_turns x y f w.0 w.1 w.2 w.3;
   }
 
--- ---- lists of which each member passes
+-- ---- lists in which each member passes
 pub all_pass : {X : Type 0} (p : X → Bool) (xs : List X) → list_all p xs ≡ true → (x : X) → In x xs → p x ≡ true
 all_pass p [] e x m = absurd m
 all_pass p (y ∷ ys) e x (inl h) = rw h (and_parts (p y) (list_all p ys) e).0
@@ -112,7 +112,7 @@ pub record OverFace (at : ℕ → Vector) (ids : List ℕ) (qs : List (List ℕ)
   pub plane : IsSupportingTriple at (Members ids) i j k
   pub polygon : IsFacePolygon at (Members ids) i j k F
 
--- a face from its first corners on
+-- a face that begins with its first corners
 pub record Begun (at : ℕ → Vector) (ids : List ℕ) (qs : List (List ℕ)) (face : List ℕ) : Type 0 where
   pub i : ℕ
   pub j : ℕ
@@ -150,7 +150,7 @@ module _ {at : ℕ → Vector} {ids : List ℕ} {qs : List (List ℕ)} {i j k : 
   pub on : (l : ℕ) → In l F → vol (at i) (at j) (at k) (at l) ≡ pos 0
   on l m = ((c.polygon.members l).0 m).1
 
-  -- what has corners of the face alone lies in its plane
+  -- a polygon whose corners are corners of the face lies in its plane
   pub of_corners : (q : List ℕ) → ((l : ℕ) → In l q → In l F) → lies_in at i j k q ≡ true
   of_corners q h = pass_all (λ l. int_eq (vol (at i) (at j) (at k) (at l)) (pos 0)) q
       (λ l m. (Decides-int_eq (vol (at i) (at j) (at k) (at l)) (pos 0)).1 (on l (h l m)))
@@ -159,7 +159,7 @@ module _ {at : ℕ → Vector} {ids : List ℕ} {qs : List (List ℕ)} {i j k : 
   pub of_face : {q : List ℕ} (p : PieceOf at A q) → F ≡ p.face → lies_in at i j k q ≡ true
   of_face {q} p e = of_corners q (λ l h. subst (In l) (sym e) (in_face p l h))
 
-  -- and only then
+  -- a piece lies in the plane only if its face is the face
   pub its_face : {q : List ℕ} (p : PieceOf at A q) → lies_in at i j k q ≡ true → F ≡ p.face
   its_face {q} p e = let lev = lies_level at i j k q e in
       same_face at ids c.solid c.plane p.plane (lev p.i (has_i p)) (lev p.j (has_j p)) (lev p.k (has_k p)) c.polygon p.polygon
@@ -173,7 +173,7 @@ module _ {at : ℕ → Vector} {ids : List ℕ} {qs : List (List ℕ)} {i j k : 
   pub part_member : (q : List ℕ) → In q parts → (x : ℕ) → In x q → In x F
   part_member q h x m = let r = of_filter (lies_in at i j k) qs q h in lies_member q r.0 r.1 x m
 
-  -- the pieces turn left at each three corners
+  -- each three corners of the pieces turn left
   pub lies_turns : (q : List ℕ) → In q qs → lies_in at i j k q ≡ true → AllTurn n at q
   lies_turns q m e = met_turns n at c.polygon q (subst (IsMetRound q) (sym (its_face (piece q m) e)) (piece q m).met)
 
@@ -192,7 +192,7 @@ module _ {at : ℕ → Vector} {ids : List ℕ} {qs : List (List ℕ)} {i j k : 
   pub step_in : (u v : ℕ) → Has u v es → (q : List ℕ) × In q parts × Follows u v q
   step_in u v m = let r = of_flat_map steps_round parts (u, v) m in (r.0, r.1, (on_round u v r.0).0 r.2)
 
-  -- no piece takes a side back
+  -- no piece takes a reversed side
   pub none_back : (u v : ℕ) → Follows u v F → ¬ (Has v u es)
   none_back u v h m =
       let s = step_in v u m in
@@ -204,7 +204,7 @@ module _ {at : ℕ → Vector} {ids : List ℕ} {qs : List (List ℕ)} {i j k : 
           (p.polygon.round u v g t.w t.has_w (not_second (normal p) at v u t.w t.turns) (not_first (normal p) at v u t.w t.turns))
           (turned (normal p) at v u t.w t.turns)
 
-  -- where two corners are no neighbours, all steps between them are those of pieces of the face
+  -- if two corners are not neighbours, all steps between them are those of pieces of the face
   pub diagonal_kept : (u v : ℕ) → ¬ (Beside F u v) → In u F → In v F → (q : List ℕ) → In q qs → Follows u v q → lies_in at i j k q ≡ true
   diagonal_kept u v h fu fv q m g = by (same_list F (piece q m).face)
     where
@@ -216,7 +216,7 @@ module _ {at : ℕ → Vector} {ids : List ℕ} {qs : List (List ℕ)} {i j k : 
       by (inr x) = absurd (h (neighbours at ids c.solid c.plane (piece q m).plane c.polygon (piece q m).polygon x u v
           (first_two (normal (piece q m)) at u v t.w t.turns) fu fv t.has_u t.has_v))
 
-  -- so are all steps along a side
+  -- all steps along a side are those of pieces of the face
   pub side_kept : (u v : ℕ) → Follows u v F → (q : List ℕ) → In q qs → Follows u v q → lies_in at i j k q ≡ true
   side_kept u v h q m g = of_face (piece q m) (shared_step at ids c.solid c.distinct c.plane (piece q m).plane c.polygon (piece q m).polygon
       (by (third own u v)) (side_turn (piece q m) u v g))

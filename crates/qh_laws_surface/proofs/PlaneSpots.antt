@@ -26,7 +26,7 @@ module _ (at : ℕ → Vector) (i j k : ℕ) where
   abbrev D : ℤ
   D = left n (at i) (at j) (at k)
 
-  -- the scalar product of m with the way from u, as a form
+  -- the scalar product of m with the vector from u, as a form
   abbrev pub form : Vector → Vector → Vector
   form m u = triple (dot m (minus (at i) u)) (dot m P) (dot m Q)
 
@@ -71,7 +71,7 @@ module _ (at : ℕ → Vector) (i j k : ℕ) where
   unfolding height_form spot_height
   height_at c h y z u v w = form_at (cross (at u) (at v) (at w)) (at u) c h y z
 
-  -- it lies in the plane
+  -- this spot lies in the plane
   pub level_at : (c : ℕ) (h : 0 < c) (y z : ℤ) → spot_height at i j k (spot_at c h y z) ≡ pos 0
   unfolding spot_height
   level_at c h y z = form_at n (at i) c h y z ∙ zeros (dot n (minus (at i) (at i))) (dot n P) (dot n Q) (pos c) y z
@@ -86,7 +86,7 @@ module _ (at : ℕ → Vector) (i j k : ℕ) where
   unfoldable pub numbers : Spot → Vector
   numbers s = triple (D *ℤ pos s.scale) (dot (cross_product (way_to (at i) s) Q) n) (dot (cross_product P (way_to (at i) s)) n)
 
-  -- they give the spot, scaled by the turn of the corners
+  -- these numbers give the spot, scaled by the turn of the corners
   form_of : (s : Spot) → spot_height at i j k s ≡ pos 0 → (m u : Vector) → dot (form m u) (numbers s) ≡ D *ℤ dot m (way_to u s)
   unfolding numbers spot_height left cross
   form_of s level m u =
@@ -148,7 +148,7 @@ module _ (at : ℕ → Vector) (u v w : ℕ) (a b c : ℕ) (some : 0 < a) where
   between_turn n x y = turn_way n at x y between ∙ between_way (cross_product n (minus (at y) (at x))) (at x)
       ∙ rw (left_way n (at x) (at y) (at u), left_way n (at x) (at y) (at v), left_way n (at x) (at y) (at w)) refl
 
-  -- it lies in each plane through all three
+  -- the spot lies in each plane through all three corners
   pub between_level : (i j k : ℕ) → vol (at i) (at j) (at k) (at u) ≡ pos 0 → vol (at i) (at j) (at k) (at v) ≡ pos 0
       → vol (at i) (at j) (at k) (at w) ≡ pos 0 → spot_height at i j k between ≡ pos 0
   unfolding spot_height

@@ -1,4 +1,4 @@
--- Equally many pieces cover two spots on both sides of a segment between corners of a face. So they take its steps equally often.
+-- Equally many pieces cover two spots on both sides of a segment between corners of a face. So they take its steps equally often in both directions.
 use Rattle.std.proofs.Common.{⊎_elim, ◌≡◌, ◌≢◌, ℕ, ◌+◌, ◌≤◌, arith, refl, sym, subst, ◌∙◌, inl, inr, ◌⊎◌, List, [], ◌∷◌, Bool, true, false}
 use Rattle.std.proofs.lemmas.{Bool.false_from_ne_true, Int.ints}
 use Rattle.std.specs.{List.flat_map, Prelude.count_by, Prelude.pos, Prelude.◌≤ℤ◌, Prelude.◌<ℤ◌}
@@ -98,14 +98,14 @@ module _ {at : ℕ → Vector} {ids : List ℕ} {qs : List (List ℕ)} {i j k : 
       by : PieceOf at (Members ids) q → Once q
       by p = subst Once (sym p.is) (once_turns n at p.i p.j p.k p.rest (subst (AllTurn n at) p.is (part_turns c q m)))
 
-  -- one of them has a spot inside the face
+  -- one of the pieces covers a spot inside the face
   one_has : (z : Spot) → spot_height at i j k z ≡ pos 0 → ((x y : ℕ) → In x F → In y F → x ≢ y → ¬ (spot_turn n at x y z ≡ pos 0))
       → ((x y : ℕ) → Follows x y F → pos 0 <ℤ spot_turn n at x y z) → count (left_all z) own ≡ 1
   one_has z h off inside =
       sym (count_parts (covers at z) (lies_in at i j k) (left_all z) qs (covers_flat c z h) (covers_other c z (off_lines c z off) (covers_face c z h inside)))
       ∙ count-is (covers at z) qs ∙ once z (covers_face c z h inside) (off_lines c z off)
 
-  -- what takes a step lacks each spot to its right
+  -- a list that takes a step does not cover a spot to its right
   lacks : (z : Spot) (x y : ℕ) → pos 0 <ℤ spot_turn n at x y z → (q : List ℕ) → Follows y x q → left_all z q ≡ false
   lacks z x y p q g = false_from_ne_true (left_all z q) (λ e. omega (arith, ints, p, spot_turn-back n at x y z, left_of n at z q e y x g))
 
@@ -128,7 +128,7 @@ module _ {at : ℕ → Vector} {ids : List ℕ} {qs : List (List ℕ)} {i j k : 
         → (pos 0 <ℤ spot_turn n at x y zl) × (pos 0 <ℤ spot_turn n at x y zr)
     both_sides = both_left at i j k r (turns c) (on c) u v mu mv ne
 
-    -- what takes the step has the left spot, and what takes the step back the right one
+    -- a list that takes the step covers the left spot, and one that takes the step back covers the right one
     left_has : (q : List ℕ) → AllTurn n at q → ((x : ℕ) → In x q → In x F) → ((x y : ℕ) → (w : ℕ) × In w q × (w ≢ x) × (w ≢ y)) → Follows u v q
         → left_all zl q ≡ true
     left_has q t h s g = has_left n at u v zl l_before q t s g (λ x y mx my a b c. (both_sides x y (h x mx) (h y my) a b c).0)
@@ -140,7 +140,7 @@ module _ {at : ℕ → Vector} {ids : List ℕ} {qs : List (List ℕ)} {i j k : 
     own_left : (q : List ℕ) → In q own → Follows u v q → left_all zl q ≡ true
     own_left q m = left_has q (part_turns c q m) (part_member c q m) (third (own_piece q m))
 
-    -- the others have both or neither
+    -- the other lists cover both or neither
     alike : (q : List ℕ) → In q own → ¬ (Follows u v q) → ¬ (Follows v u q) → left_all zl q ≡ left_all zr q
     alike q m nuv nvu = all_alike (λ e. above (spot_turn n at e.0 e.1 zl)) (λ e. above (spot_turn n at e.0 e.1 zr)) (steps_round q)
         (λ e o. each e.0 e.1 ((on_round e.0 e.1 q).0 o))
@@ -171,7 +171,7 @@ module _ {at : ℕ → Vector} {ids : List ℕ} {qs : List (List ℕ)} {i j k : 
     balance [] h = refl
     balance (q ∷ ps) h = omega (arith, one_balance q (h q (inl refl)), balance ps (λ x m. h x (inr m)), times-more u v q ps, times-more v u q ps)
 
-    -- no more take the step than have the left spot
+    -- the number of lists that take the step is at most the number of those that cover the left spot
     at_most : (ps : List (List ℕ)) → ((q : List ℕ) → In q ps → In q own) → times u v (flat_map steps_round ps) ≤ count (left_all zl) ps
     at_most [] h = omega arith
     at_most (q ∷ ps) h = omega (arith, one_most (follows_or_not q u v), at_most ps (λ x m. h x (inr m)), times-more u v q ps)
@@ -210,7 +210,7 @@ module _ {at : ℕ → Vector} {ids : List ℕ} {qs : List (List ℕ)} {i j k : 
         vu : times v u (flat_map steps_round own) ≡ times v u (flat_map steps_round qs)
         vu = kept_alike (lies_in at i j k) v u qs (diagonal_kept c v u (λ b. diagonal (⊎_elim (λ d. inr d) (λ d. inl d) b)) mv mu)
 
-    -- ---- a side: the left spot lies inside the face, and no piece has the right one
+    -- ---- a side: the left spot lies inside the face, and no piece covers the right one
     pub side_once : Follows u v F → times u v (flat_map steps_round qs) ≡ 1
     side_once along =
         let back_none = none_there v u (flat_map steps_round own) (none_back c u v along) in

@@ -94,7 +94,7 @@ module _ (at : ℕ → Vector) (i j k : ℕ) (r : List ℕ) (turns : AllTurn (cr
   unfolding mid
   mid_turn x y = between_turn at u v u weighed.a weighed.b 0 weighed.some_a n x y ∙ omega (arith, ints, zero_mul (L x y u))
 
-  -- ---- spots beside it, to the left of the way from u to v and to the right
+  -- ---- spots beside it, to the left of the line from u to v and to the right
   pub to_left : Near at i j k r turns mid mid_level (turn_form at i j k u v ∷ [])
   to_left = near_one at i j k r turns mid mid_level (turn_form at i j k u v) (form_some at i j k r turns u v mu mv ne)
       (form_level at i j k r turns mid mid_level u v (omega (

@@ -16,7 +16,7 @@ use Rattle.qh_model.proofs.polygons.{Edges.seen_from, Edges.one_face_each_way, L
 use Rattle.qh_model.proofs.polygons.{PlaneTurns.level_volume, PlaneTurns.level_parallel, Unique.one_polygon}
 use Rattle.qh_laws_surface.proofs.ConvexLists.{Turn, turned, no_back, first_two, not_first, not_second, IsTurn}
 
--- two lists are one or not
+-- equality of two lists is decided
 pub same_list : (p q : List ℕ) → Decided (p ≡ q)
 same_list [] [] = inl refl
 same_list [] (v ∷ q) = inr (λ e. cc)
@@ -77,7 +77,7 @@ module _ (at : ℕ → Vector) (ids : List ℕ) (solid : IsDimension at (Members
             negative : (s t h v : ℤ) → (s *ℤ h) <ℤ pos 0 → (t *ℤ v) ≤ℤ pos 0 → s *ℤ h ≡ t *ℤ neg_ℤ v → ⊥
             negative s t h v p q e = omega (arith, ints, p, q, e, mul_neg t v)
 
-    -- and has the same polygon
+    -- this triple has the same polygon
     pub same_face : {u v w : ℕ} {F G : List ℕ} → IsSupportingTriple at (Members ids) u v w → height u ≡ pos 0 → height v ≡ pos 0 → height w ≡ pos 0
         → IsFacePolygon at (Members ids) i j k F → IsFacePolygon at (Members ids) u v w G → F ≡ G
     same_face {u} {v} {w} {F} {G} t hu hv hw f g =
@@ -100,7 +100,7 @@ module _ (at : ℕ → Vector) (ids : List ℕ) (solid : IsDimension at (Members
         (λ hb. by_lt_z (height plane c) (pos 0) (λ h. (c, other.has_k, vol-third (at a) (at b) (at c), h))
         (λ hc. absurd (apart (same_face plane other (level plane a other.has_i ha) (level plane b other.has_j hb) (level plane c other.has_k hc) f g)))))
 
-    -- where a corner of the first lies to the left of two shared ones, this member lies to their right in the second
+    -- if a corner of the first lies to the left of two shared ones, this member lies to their right in the second
     to_right : (u v w : ℕ) → In u F → In v F → In u G → In v G → In w F → Turn n at u v w → left m (at u) (at v) (at lower.0) <ℤ pos 0
     to_right u v w fu fv gu gv fw t = by_lt_z turn (pos 0) (λ h. h) (λ h. absurd (omega (
       arith,
@@ -123,7 +123,7 @@ module _ (at : ℕ → Vector) (ids : List ℕ) (solid : IsDimension at (Members
               ((f.members u).0 fu).1 ((f.members v).0 fv).1 ((f.members w).0 fw).1) t lower.3,
         )
 
-    -- so they are no diagonal of the first
+    -- so the shared corners are no diagonal of the first
     no_diagonal : (u v w x : ℕ) → In u F → In v F → In u G → In v G → In w F → In x F → Turn n at u v w → Turn n at v u x → ⊥
     no_diagonal u v w x fu fv gu gv fw fx tw tx = omega (
       arith,
@@ -135,7 +135,7 @@ module _ (at : ℕ → Vector) (ids : List ℕ) (solid : IsDimension at (Members
       left-turn m (at v) (at lower.0) (at u),
     )
 
-    -- they are neighbours
+    -- the shared corners are neighbours
     pub neighbours : (u v : ℕ) → u ≢ v → In u F → In v F → In u G → In v G → Follows u v F ⊎ Follows v u F
     neighbours u v ne fu fv gu gv = by_next (next_member u F fu) (next_member v F fv)
       where
@@ -151,7 +151,7 @@ module _ (at : ℕ → Vector) (ids : List ℕ) (solid : IsDimension at (Members
                 absurd (no_diagonal u v z y fu fv gu gv (follows_members v z F q).1 (follows_members u y F p).1
                 (turned n at z u v (turned n at v z u leftward)) (turned n at y v u (turned n at u y v right)))
 
-  -- where a third corner of the face lies to the left, the second follows the first
+  -- if a third corner of the face lies to the left, the second follows the first
   forward : (i j k : ℕ) {F : List ℕ} → IsFacePolygon at (Members ids) i j k F → {u v : ℕ} → IsTurn (cross (at i) (at j) (at k)) at F u v
       → Follows u v F ⊎ Follows v u F → Follows u v F
   forward i j k f t (inl h) = h
@@ -160,7 +160,7 @@ module _ (at : ℕ → Vector) (ids : List ℕ) (solid : IsDimension at (Members
       absurd (no_back n at v t.w u (turned n at u v t.w t.turns)
       (f.round v u h t.w t.has_w (not_second n at u v t.w t.turns) (not_first n at u v t.w t.turns)))
 
-  -- two faces with a step in common are one
+  -- two faces with a common step are equal
   pub shared_step : HasDistinctPoints at (Members ids) → {i j k a b c : ℕ} {F G : List ℕ}
       → IsSupportingTriple at (Members ids) i j k → IsSupportingTriple at (Members ids) a b c
       → IsFacePolygon at (Members ids) i j k F → IsFacePolygon at (Members ids) a b c G

@@ -1,4 +1,4 @@
--- A spot that lies strictly inside a polygon lies in one triangle of its fan, and any other spot in none.
+-- A spot that lies strictly inside a polygon lies in exactly one triangle of its fan, and any other spot in no triangle.
 use Rattle.std.proofs.Common.{◌≡◌, ◌≢◌, ℕ, arith, refl, sym, ap, ◌∙◌, inl, inr, ◌⊎◌, List, [], ◌∷◌, Bool, true, false, not, ◌&&◌}
 use Rattle.std.proofs.Math.Bool.{and-false}
 use Rattle.std.proofs.lemmas.{Bool.false_from_ne_true, Bool.cases_Bool, Bool.and_parts, Int.ints}
@@ -22,7 +22,7 @@ module _ (n : Vector) (at : ℕ → Vector) (s : Spot) where
   abbrev L : ℕ → ℕ → ℕ → ℤ
   L x y z = left n (at x) (at y) (at z)
 
-  -- does the spot lie to the left of the way from u to v?
+  -- true if the spot lies to the left of the line from u to v
   abbrev p : ℕ → ℕ → Bool
   p u v = above (T u v)
 
@@ -40,7 +40,7 @@ module _ (n : Vector) (at : ℕ → Vector) (s : Spot) where
   covered (a ∷ []) = pos 0
   covered (a ∷ u ∷ r) = covered_along a u r
 
-  -- it is the sum of `over` along the steps round the polygon
+  -- this number is the sum of `over` along the steps round the polygon
   module _ (X : ℕ → Type 0) (off : Off X) (c : ℕ) (hc : X c) where
     along_over : (a u : ℕ) (r : List ℕ) → X a → ((x : ℕ) → In x (u ∷ r) → X x) → Ordered (Turn n at a) (u ∷ r)
         → sum_z (over n at s c) (steps_along u r a) +ℤ over n at s c (a, u) ≡ covered_along a u r
@@ -58,7 +58,7 @@ module _ (n : Vector) (at : ℕ → Vector) (s : Spot) where
     round_over (a ∷ []) h t = omega (arith, ints, over-odd n at s c (a, a))
     round_over (a ∷ u ∷ r) h t = let k = along_over a u r (h a (inl refl)) (λ x m. h x (inr m)) t.0 in omega (arith, ints, k)
 
-  -- does the spot lie to the left of each step?
+  -- true if the spot lies to the left of each step
   abbrev pub all_left : List (ℕ × ℕ) → Bool
   all_left es = list_all (λ e. p e.0 e.1) es
 
@@ -78,7 +78,7 @@ module _ (n : Vector) (at : ℕ → Vector) (s : Spot) where
     not_u : (x : ℕ) → In x (w ∷ r) → x ≢ u
     not_u x m = not_second n at a u x (t.0.0 x m)
 
-    -- the spot lies in no triangle that goes the other way round
+    -- the spot lies in no reversed triangle
     not_negative : all_three (p u a) (p w u) (p a w) ≡ false
     not_negative = false_from_ne_true (all_three (p u a) (p w u) (p a w)) (λ e.
         let one = and_parts (p u a) (p w u && p a w) e in
@@ -137,7 +137,7 @@ module _ (n : Vector) (at : ℕ → Vector) (s : Spot) where
         by vy more (inr e) =
             more (one_of n at s X off y a (in_X y (inr (inr (m y (inr (inl refl)))))) (in_X a (inl refl)) (not_a y (m y (inr (inl refl)))) ∙ ap not e)
 
-    -- so it lies to the left of both sides of the first triangle
+    -- so the spot lies to the left of both sides of the first triangle
     module _ (h : p a w ≡ true) (k : all_left (steps_along w r a) ≡ true) where
       f : Found
       f = find w r h k (λ z i. i) (λ y z i. i)
@@ -168,7 +168,7 @@ module _ (n : Vector) (at : ℕ → Vector) (s : Spot) where
           right_of : (z : ℕ) → In z (w ∷ r) → pos 0 ≤ℤ L u w z
           right_of z m = not_right n at (a ∷ u ∷ w ∷ r) t u w (inr (inl (refl, refl))) z (inr (inr m))
 
-    -- so the first triangle adds one where the spot lies in it, and else the rest has the same number as the whole
+    -- so the first triangle adds one if the spot lies in it, and otherwise the rest has the same number as the whole
     first_triangle : tri n at s a u w +ℤ pos (number (p a w && all_left (steps_along w r a)))
         ≡ pos (number (p a u && (p u w && all_left (steps_along w r a))))
     first_triangle = by (cases_Bool (p a w))
@@ -199,7 +199,7 @@ module _ (n : Vector) (at : ℕ → Vector) (s : Spot) where
             by_sides (inl g) (inr h) = rw (alone, e, g, h) refl
             by_sides (inr g) q = rw (alone, e, g) refl
 
-  -- a spot lies in one triangle of the fan where it lies inside the polygon, and else in none
+  -- a spot lies in one triangle of the fan if it lies inside the polygon, and otherwise in none
   pub covers_along : (X : ℕ → Type 0) → Off X → (a u : ℕ) (r : List ℕ) → ((x : ℕ) → In x (a ∷ u ∷ r) → X x) → AllTurn n at (a ∷ u ∷ r)
       → covered_along a u r ≡ pos (number (p a u && all_left (steps_along u r a)))
   covers_along X off a u [] h t = by (cases_Bool (p a u))

@@ -1,4 +1,4 @@
--- Heights of a spot over planes, and where a spot in a triangle of one plane lies to another plane.
+-- Heights of a spot over planes, and the side of another plane on which a spot in a triangle lies.
 use Rattle.std.proofs.Common.{◌≡◌, ◌≢◌, ℕ, arith, sym, ap, ◌∙◌}
 use Rattle.std.proofs.lemmas.Int.{ints}
 use Rattle.std.specs.Prelude.{◌↔◌, ℤ, pos, ◌+ℤ◌, ◌*ℤ◌, ◌≤ℤ◌, ◌<ℤ◌}
@@ -13,7 +13,7 @@ use Rattle.qh_laws_surface.proofs.StepCounts.{alike_tests}
 use Rattle.qh_laws_surface.specs.contract.Covering.{Spot, way_to, spot_height, spot_turn}
 use Rattle.qh_laws_surface.proofs.SpotTurns.{way_height, weighed_ways}
 
--- a spot in the plane of i, j and k, from any point of the plane
+-- a spot in the plane of i, j and k, with respect to any point of the plane
 level_way : (at : ℕ → Vector) (i j k u : ℕ) (s : Spot) → spot_height at i j k s ≡ pos 0 → vol (at i) (at j) (at k) (at u) ≡ pos 0
     → dot (cross (at i) (at j) (at k)) (way_to (at u) s) ≡ pos 0
 unfolding spot_height
@@ -22,7 +22,7 @@ level_way at i j k u s h e =
     let d : dot n (minus (at u) (at i)) ≡ pos 0 = sym (vol-dot (at i) (at j) (at k) (at u)) ∙ e in
     omega (arith, ints, way_height n (at i) (at u) s, h, product_zero (pos s.scale) (dot n (minus (at u) (at i))) d)
 
--- and back: the spot lies in the plane
+-- the converse: the spot lies in the plane
 way_level : (at : ℕ → Vector) (i j k u : ℕ) (s : Spot) → vol (at i) (at j) (at k) (at u) ≡ pos 0
     → dot (cross (at i) (at j) (at k)) (way_to (at u) s) ≡ pos 0 → spot_height at i j k s ≡ pos 0
 unfolding spot_height
@@ -31,13 +31,13 @@ way_level at i j k u s e h =
     let d : dot n (minus (at u) (at i)) ≡ pos 0 = sym (vol-dot (at i) (at j) (at k) (at u)) ∙ e in
     omega (arith, ints, way_height n (at i) (at u) s, h, product_zero (pos s.scale) (dot n (minus (at u) (at i))) d)
 
--- so it lies in each plane of the same direction through one of its points
+-- so the spot lies in each plane of the same direction through one of its points
 pub along_height : (at : ℕ → Vector) (i j k a b c : ℕ) (s : Spot) → IsAlong (cross (at i) (at j) (at k)) (cross (at a) (at b) (at c))
     → spot_height at i j k s ≡ pos 0 → vol (at i) (at j) (at k) (at a) ≡ pos 0 → spot_height at a b c s ≡ pos 0
 along_height at i j k a b c s l h e = way_level at a b c a s (vol-first (at a) (at b) (at c)) (zero_along l.s l.t _ _ l.some_t
     (dot_along (cross (at i) (at j) (at k)) (cross (at a) (at b) (at c)) l (way_to (at a) s)) (level_way at i j k a s h e))
 
--- no turn about two corners of the plane, where the spot is off their line
+-- no turn about two corners of the plane is 0, if the spot is off their line
 pub off_line : (at : ℕ → Vector) (i j k u v : ℕ) (s : Spot) → cross (at i) (at j) (at k) ≢ origin → spot_height at i j k s ≡ pos 0
     → vol (at i) (at j) (at k) (at u) ≡ pos 0 → vol (at i) (at j) (at k) (at v) ≡ pos 0
     → ¬ (cross_product (minus (at v) (at u)) (way_to (at u) s) ≡ origin) → ¬ (spot_turn (cross (at i) (at j) (at k)) at u v s ≡ pos 0)
@@ -59,11 +59,11 @@ off_line at i j k u v s some h hu hv off e = off (vector_path r origin (none r.x
     none : (y x : ℤ) → dot n n *ℤ y ≡ dot n r *ℤ x → y ≡ pos 0
     none y x q = cancel-zero (dot n n) y (square-positive n some) (q ∙ ap (λ z. z *ℤ x) flat ∙ zero_mul x)
 
--- two numbers of one sign
+-- two numbers of the same sign
 pub above_alike : (x y : ℤ) → (pos 0 <ℤ x) ↔ (pos 0 <ℤ y) → above x ≡ above y
 above_alike x y h = alike_tests (above x) (above y) (λ e. is_above y (h.0 (above_is x e)), λ e. is_above x (h.1 (above_is y e)))
 
--- turns about normals of one direction
+-- turns about normals of the same direction
 turn_along : (n m : Vector) (at : ℕ → Vector) (u v : ℕ) (s : Spot) (h : IsAlong n m) → pos h.s *ℤ spot_turn n at u v s ≡ pos h.t *ℤ spot_turn m at u v s
 unfolding spot_turn
 turn_along n m at u v s h =
@@ -85,7 +85,7 @@ module _ (at : ℕ → Vector) (s : Spot) (i j k : ℕ) (some : cross (at i) (at
   abbrev n : Vector
   n = cross (at i) (at j) (at k)
 
-  -- the way to the spot lies in the plane
+  -- the vector to the spot lies in the plane
   flat_way : dot (cross (at a) (at v) (at w)) (way_to (at a) s) ≡ pos 0
   flat_way = cancel-zero (dot n n) _ (square-positive n some)
       (parallel_dot n (cross (at a) (at v) (at w)) (way_to (at a) s) (level_parallel (at i) (at j) (at k) (at a) (at v) (at w) ha hv hw)
@@ -105,7 +105,7 @@ module _ (at : ℕ → Vector) (s : Spot) (i j k : ℕ) (some : cross (at i) (at
         m : Vector
         m = cross (at x) (at y) (at z)
 
-    -- of a spot inside the triangle
+    -- the heights of a spot inside the triangle
     module _ (av : pos 0 <ℤ spot_turn n at a v s) (vw : pos 0 <ℤ spot_turn n at v w s) (wa : pos 0 <ℤ spot_turn n at w a s)
         (la : H a ≤ℤ pos 0) (lv : H v ≤ℤ pos 0) (lw : H w ≤ℤ pos 0) where
       pa : (spot_turn n at v w s *ℤ H a) ≤ℤ pos 0
@@ -117,11 +117,11 @@ module _ (at : ℕ → Vector) (s : Spot) (i j k : ℕ) (some : cross (at i) (at
       pw : (spot_turn n at a v s *ℤ H w) ≤ℤ pos 0
       pw = mul-nonneg_nonpos (spot_turn n at a v s) (H w) (positive_le _ av) lw
 
-      -- it is not above the other plane where no corner is
+      -- the spot is not above the other plane if no corner is
       pub not_above_plane : pos 0 <ℤ left n (at a) (at v) (at w) → spot_height at x y z s ≤ℤ pos 0
       not_above_plane l = cancel-nonpos (left n (at a) (at v) (at w)) (spot_height at x y z s) l (omega (arith, ints, weighed, pa, pv, pw))
 
-      -- and where it lies in that plane, all corners do
+      -- if the spot lies in that plane, all corners do
       pub all_level : spot_height at x y z s ≡ pos 0 → (H a ≡ pos 0) × ((H v ≡ pos 0) × (H w ≡ pos 0))
       all_level e = (
         cancel-zero (spot_turn n at v w s) (H a) vw (omega (arith, ints, none, pa, pv, pw)),

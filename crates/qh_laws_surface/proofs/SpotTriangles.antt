@@ -1,4 +1,4 @@
--- A spot in triangles, by the signs of its turns: how the triangles over the sides of a triangle add up to it.
+-- A spot in triangles, by the signs of its turns: the triangles over the sides of a triangle add up to it.
 use Rattle.std.proofs.Common.{◌≡◌, ℕ, ◌+◌, arith, refl, Bool, true, eqb, not, ◌&&◌, ◌≢◌, sym, ap, subst, ◌∙◌, inl, inr, ⊎_elim, false}
 use Rattle.std.proofs.Math.Bool.{and_assoc, and_comm}
 use Rattle.std.proofs.lemmas.{Bool.eqb-true, Int.ints}
@@ -31,11 +31,11 @@ counts_fit b₁ b₂ b₃ d₁ d₂ d₃ =
     (number (all_three (not d₁) (not d₂) (not d₃))
     + (number (all_three b₁ d₁ (not b₂)) + (number (all_three b₂ d₂ (not b₃)) + number (all_three b₃ d₃ (not b₁)))))
 
--- once round one way, less once round the other way
+-- 1 if the first three values are true, minus 1 if the last three are
 abbrev pub signed : Bool → Bool → Bool → Bool → Bool → Bool → ℤ
 signed a b c x y z = pos (number (all_three a b c)) -ℤ pos (number (all_three x y z))
 
--- b are the signs of the turns from a corner to three others, and d those round these
+-- b are the signs of the turns from a corner to three others, and d those of the turns round these
 triangles_add : (b₁ b₂ b₃ d₁ d₂ d₃ : Bool) → fits_sum (same b₁ d₂) (same b₂ d₃) (same b₃ d₁) ≡ true
     → signed d₁ d₂ d₃ (not d₁) (not d₂) (not d₃)
     ≡ signed b₁ d₁ (not b₂) (not b₁) (not d₁) b₂
@@ -61,11 +61,11 @@ module _ (n : Vector) (at : ℕ → Vector) (s : Spot) where
   abbrev T : ℕ → ℕ → ℤ
   T u v = spot_turn n at u v s
 
-  -- does the spot lie to the left of the way from u to v?
+  -- true if the spot lies to the left of the line from u to v
   abbrev pub p : ℕ → ℕ → Bool
   p u v = above (T u v)
 
-  -- 1 where the spot lies in the triangle, -1 where it lies in it and the triangle goes the other way round
+  -- 1 if the spot lies in the triangle, -1 if it lies in the reversed triangle
   abbrev pub tri : ℕ → ℕ → ℕ → ℤ
   tri a b c = signed (p a b) (p b c) (p c a) (p b a) (p c b) (p a c)
 
@@ -84,7 +84,7 @@ module _ (n : Vector) (at : ℕ → Vector) (s : Spot) where
   itself u = not_above (T u u) (omega (arith, ints, spot_turn-back n at u u s))
 
   -- ---- the triangles over the sides of a triangle
-  -- over a step from c
+  -- the triangle over a step from c
   abbrev pub over : ℕ → (ℕ × ℕ) → ℤ
   over c e = tri c e.0 e.1
 
@@ -95,7 +95,7 @@ module _ (n : Vector) (at : ℕ → Vector) (s : Spot) where
   tri_round : (a b c : ℕ) → tri a b c ≡ tri b c a
   tri_round a b c = rw (and_round (p a b) (p b c) (p c a), and_round (p b a) (p c b) (p a c)) refl
 
-  -- one with a corner twice is nothing
+  -- a triangle with a corner twice contributes 0
   flat_first : (a b : ℕ) → tri a a b ≡ pos 0
   flat_first a b = rw (itself a) refl
 

@@ -1,4 +1,4 @@
--- The turns of a spot about the corners of a polygon, and how they go together.
+-- The turns of a spot about the corners of a polygon, and the relations between them.
 use Rattle.std.proofs.Common.{◌≡◌, ℕ, arith, refl, sym, ap, ◌∙◌, [], ◌∷◌}
 use Rattle.std.proofs.lemmas.Int.{ints}
 use Rattle.std.specs.Prelude.{◌-ℤ◌, ℤ, pos, ◌+ℤ◌, ◌*ℤ◌, neg_ℤ, ◌<ℤ◌}
@@ -10,7 +10,7 @@ use Rattle.qh_polygon.proofs.LinesAndPlanes.{between_eq}
 use Rattle.qh_laws_surface.proofs.ConvexLists.{none_back}
 use Rattle.qh_laws_surface.specs.contract.Covering.{Spot, way_to, spot_turn}
 
--- from a corner to the spot, of expressions: the spot is vector 1, its scale the variable k
+-- the vector from a corner to the spot, as expressions: the spot is vector 1, its scale the variable k
 abbrev toE : ℕ → VE → VE
 toE k u = record {
   x = less (vec 1).x (mul (var k) u.x);
@@ -18,7 +18,7 @@ toE k u = record {
   z = less (vec 1).z (mul (var k) u.z);
 }
 
--- the turn of the spot, of expressions: the normal is vector 0
+-- the turn of the spot, as expressions: the normal is vector 0
 abbrev spotE : ℕ → VE → VE → Expr
 spotE k u v = dotE (crossE (subE v u) (toE k u)) (vec 0)
 
@@ -41,8 +41,8 @@ spot_turns-add n at u v w s =
 pub scale-positive : (s : Spot) → pos 0 <ℤ pos s.scale
 scale-positive s = let h = s.some in omega (arith, ints, h)
 
--- ---- what is weighed by the turns round three corners
--- the scalar products with the ways from two points
+-- ---- sums weighted by the turns round three corners
+-- the scalar products with the vectors from two points
 pub way_height : (n u v : Vector) (s : Spot) → dot n (way_to v s) ≡ dot n (way_to u s) -ℤ pos s.scale *ℤ dot n (minus v u)
 way_height n u v s =
     ring (put n (put s.point (put u (put v (pos s.scale ∷ [])))))
@@ -57,7 +57,7 @@ cramer n p q x m =
     (mul (dotE (crossE P Q) N) (dotE M X))
     (add (mul (dotE (crossE P Q) X) (dotE M N)) (add (mul (dotE (crossE X Q) N) (dotE M P)) (mul (dotE (crossE P X) N) (dotE M Q)))) refl
 
--- the ways from a corner, the other way round
+-- the reversed vectors from a corner
 product-flip : (n p q : Vector) → dot (cross_product p q) n ≡ neg_ℤ (dot (cross_product q p) n)
 product-flip n p q =
     ring (put n (put p (put q []))) (dotE (crossE (vec 1) (vec 2)) (vec 0)) (neg (dotE (crossE (vec 2) (vec 1)) (vec 0))) refl
@@ -80,8 +80,8 @@ put_in : (d₁ m₁ l₁ d₂ m₂ d₃ e₃ m₃ l₃ d₄ m₄ l₄ : ℤ) →
     → m₁ ≡ l₁ → d₂ *ℤ m₂ ≡ pos 0 → d₃ ≡ e₃ → m₃ ≡ l₃ → m₄ ≡ l₄ → d₁ *ℤ l₁ ≡ e₃ *ℤ l₃ +ℤ d₄ *ℤ l₄
 put_in d₁ m₁ l₁ d₂ m₂ d₃ e₃ m₃ l₃ d₄ m₄ l₄ h q z r t u = rw (← q, ← r, ← t, ← u) (omega (arith, ints, h, z))
 
--- the scalar product of m with the way from p to the spot is those with the ways to three corners, weighed by their turns, where the
--- spot lies in the plane of the corners or m at right angles to n
+-- the scalar product of m with the vector from p to the spot is the sum of those with the vectors to three corners, weighted by their turns, if the spot lies
+-- in the plane of the corners or m is at right angles to n
 module _ (n : Vector) (at : ℕ → Vector) (s : Spot) (a v w : ℕ) (m p : Vector)
     (flat : dot (cross (at a) (at v) (at w)) (way_to (at a) s) *ℤ dot m n ≡ pos 0) where
   abbrev W : ℕ → ℤ
@@ -112,7 +112,7 @@ turn_way n at u v s =
 pub left_way : (n x y u : Vector) → dot (cross_product n (minus y x)) (minus u x) ≡ left n x y u
 left_way n x y u = dot-minus (cross_product n (minus y x)) u x ∙ sym (left-linear n x y u)
 
--- the turn about two corners is that about three others, weighed by where the spot lies between these
+-- the turn about two corners is the sum of the turns about three others, weighted by the position of the spot between these
 pub turns_mixed : (n : Vector) (at : ℕ → Vector) (s : Spot) (a v w x y : ℕ) → left n (at a) (at v) (at w) *ℤ spot_turn n at x y s
     ≡ spot_turn n at v w s *ℤ left n (at x) (at y) (at a)
     +ℤ (spot_turn n at w a s *ℤ left n (at x) (at y) (at v) +ℤ spot_turn n at a v s *ℤ left n (at x) (at y) (at w))
@@ -126,7 +126,7 @@ turns_mixed n at s a v w x y =
     across : dot m n ≡ pos 0
     across = ring (put n (put (minus (at y) (at x)) [])) (dotE (crossE (vec 0) (vec 1)) (vec 0)) (con (pos 0)) refl
 
--- so of four corners, the products of the turns in pairs add up to nothing
+-- so for four corners, the products of the turns in pairs add up to 0
 pub turn_pairs : (n : Vector) (at : ℕ → Vector) (s : Spot) (c x y z : ℕ) → spot_turn n at c x s *ℤ spot_turn n at y z s
     +ℤ (spot_turn n at c y s *ℤ spot_turn n at z x s +ℤ spot_turn n at c z s *ℤ spot_turn n at x y s) ≡ pos 0
 turn_pairs n at s c x y z = pairs (pos s.scale) (L c y z) (L c x y) (L c x z) (T c x) (T c y) (T c z) (T y z) (T x y) (T z x)

@@ -1,4 +1,4 @@
--- How often a step is taken by lists of steps and by polygons, and sums over steps of what changes its sign with a step.
+-- The number of times that lists of steps and polygons take a step, and sums over steps of functions that change their sign with a step.
 use Rattle.std.proofs.Common.{◌≡◌, ℕ, ◌+◌, ◌<◌, ◌≤◌, arith, refl, sym, ap, subst, ◌∙◌, inl, inr, ⊎_elim, ◌⊎◌, List, [], ◌∷◌, ◌++◌, Bool, true, map, false, cond}
 use Rattle.std.proofs.lemmas.{Bool.cases_Bool, Bool.cases_lt, Int.ints}
 use Rattle.std.specs.{List.flat_map, Prelude.◌↔◌, Prelude.filter, Prelude.ℤ, Prelude.pos, Prelude.◌+ℤ◌, Prelude.◌-ℤ◌, Prelude.neg_ℤ}
@@ -10,13 +10,13 @@ use Rattle.qh_model.proofs.{lists.Filters.of_filter, lists.Images.in_map, lists.
 use Rattle.qh_model.proofs.closed_surfaces.Sums.{count, count-is, sum_z, count_kept, sum_z-same_counts}
 use Rattle.qh_model.proofs.closed_surfaces.SignedVolume.{edge_tests, back, is_edge-back}
 
--- tests of which each is passed where the other is are equal
+-- two tests are equal if each passes where the other does
 pub alike_tests : (a b : Bool) → (a ≡ true) ↔ (b ≡ true) → a ≡ b
 alike_tests true b h = sym (h.0 refl)
 alike_tests false true h = h.1 refl
 alike_tests false false h = refl
 
--- ---- how often a pair stands in a list
+-- ---- the number of times that a pair occurs in a list
 abbrev pub times : ℕ → ℕ → List (ℕ × ℕ) → ℕ
 times u v es = count (is_edge (u, v)) es
 
@@ -56,7 +56,7 @@ some_there u v (e ∷ es) (inl h) =
     let t : is_edge (u, v) e ≡ true = subst (λ (x : ℕ × ℕ). is_edge (u, v) x ≡ true) h (edge_tests.itself (u, v)) in rw t (omega arith)
 some_there u v (e ∷ es) (inr m) = let r = some_there u v es m in omega (arith, r)
 
--- and a pair that is counted is in the list
+-- a pair that is counted is in the list
 pub is_there : (u v : ℕ) (es : List (ℕ × ℕ)) → 0 < times u v es → Has u v es
 is_there u v [] h = absurd (omega arith)
 is_there u v (e ∷ es) h = elim (cases_Bool (is_edge (u, v) e)) [
@@ -141,7 +141,7 @@ sum-turned : (g : (ℕ × ℕ) → ℤ) → IsOdd g → (es : List (ℕ × ℕ))
 sum-turned g h [] = refl
 sum-turned g h (e ∷ es) = rw (h e, sum-turned g h es) (omega (arith, ints))
 
--- over steps that are taken as often as the steps back, the sum is 0
+-- the sum over steps that are taken as often as the steps back is 0
 pub sum_cancels : (g : (ℕ × ℕ) → ℤ) → IsOdd g → (es : List (ℕ × ℕ)) → ((u v : ℕ) → times u v es ≡ times v u es) → sum_z g es ≡ pos 0
 sum_cancels g h es c =
     let same = sum_z-same_counts is_edge edge_tests g es (map back es) (λ e. c e.0 e.1 ∙ sym (times-turned e.0 e.1 es)) in
@@ -151,7 +151,7 @@ pub sum-append : {X : Type 0} (g : X → ℤ) (xs ys : List X) → sum_z g (xs +
 sum-append g [] ys = omega (arith, ints)
 sum-append g (x ∷ xs) ys = omega (arith, ints, sum-append g xs ys)
 
--- over two lists the sum is the same, if both take each step equally much more often than the step back
+-- the sum is the same over two lists if, for each step, the count of the step minus that of the step back is the same
 pub sum_same : (g : (ℕ × ℕ) → ℤ) → IsOdd g → (es fs : List (ℕ × ℕ)) → ((u v : ℕ) → times u v es + times v u fs ≡ times v u es + times u v fs)
     → sum_z g es ≡ sum_z g fs
 sum_same g h es fs c =
@@ -201,7 +201,7 @@ module _ (g : (ℕ × ℕ) → ℤ) (odd : IsOdd g) (es : List (ℕ × ℕ)) whe
           by (inl z) = dropped_times u v z ∙ sym (dropped_times v u (let o = odd (u, v) in omega (arith, ints, o, z)))
           by (inr n) = kept_times u v n ∙ h u v n ∙ sym (kept_times v u (λ z. n (let o = odd (u, v) in omega (arith, ints, o, z))))
 
--- ---- how much more often a step is taken than the step back
+-- ---- the count of a step minus that of the step back
 abbrev pub lead : ℕ → ℕ → (ℕ × ℕ) → ℤ
 lead u v e = pos (cond (is_edge (u, v) e) 1 0) -ℤ pos (cond (is_edge (v, u) e) 1 0)
 

@@ -49,7 +49,7 @@ module _ (at : ℕ → Vector) (i j k : ℕ) (o : Vector) where
 
 -- ---- a sum over a list by parts
 module _ (v : List ℕ → ℤ) (t : List ℕ → List ℕ → Bool) where
-  -- over those that pass the test of F
+  -- the sum over the polygons that pass the test of F
   abbrev part_sum : List (List ℕ) → List ℕ → ℤ
   part_sum qs F = sum_z v (filter (t F) qs)
 
@@ -98,7 +98,7 @@ cones_sum : (at : ℕ → Vector) (o : Vector) (qs : List (List ℕ)) → cone_v
 cones_sum at o [] = refl
 cones_sum at o (q ∷ qs) = omega (arith, ints, cones_sum at o qs)
 
--- does the polygon lie in the plane of the first three corners of the face?
+-- true if the polygon lies in the plane of the first three corners of the face
 abbrev lies_by : (ℕ → Vector) → List ℕ → List ℕ → Bool
 lies_by at (i ∷ j ∷ k ∷ r) q = lies_in at i j k q
 lies_by at F q = false

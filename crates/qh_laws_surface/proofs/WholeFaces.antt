@@ -1,4 +1,4 @@
--- The pieces leave no spot of a face out, reach no other spot, and no two have a spot strictly inside in common.
+-- The pieces reach every spot of a face and no other spot, and no spot lies strictly inside two of them.
 use Rattle.std.proofs.Common.{◌≡◌, ℕ, ◌<◌, ◌≤◌, arith, refl, sym, ap, subst, ◌∙◌, inl, inr, List, [], ◌∷◌, Bool, true, false}
 use Rattle.std.proofs.lemmas.{Bool.true_from_ne_false, Bool.cases_Bool, Bool.and_parts, Bool.Decides.Decides-int_eq, Int.ints, Int.by_lt_z}
 use Rattle.std.specs.{Ordering.int_eq, Prelude.count_by, Prelude.pos, Prelude.◌≤ℤ◌}
@@ -21,7 +21,7 @@ use Rattle.qh_laws_surface.proofs.FaceSpots.{moved, moved_left, not_beyond}
 use Rattle.qh_laws_surface.proofs.NearSpots.{near_one, Near, near, form_some, form_level}
 
 -- ---- counts
--- some member passes a test that is counted at least once
+-- a test that some member passes has a count of at least one
 counted : {X : Type 0} (p : X → Bool) (xs : List X) → 0 < count p xs → (x : X) × In x xs × (p x ≡ true)
 counted p [] h = absurd (omega arith)
 counted p (x ∷ xs) h = elim (cases_Bool (p x)) [
@@ -29,7 +29,7 @@ counted p (x ∷ xs) h = elim (cases_Bool (p x)) [
   | inr f ↦ (let k = rw f at h in let r = counted p xs (omega (arith, k)) in (r.0, inr r.1, r.2))
 ]
 
--- if each member that passes one test passes another, the count of the other is no lower
+-- if each member that passes one test passes another, the count of the other is at least as great
 count_more : {X : Type 0} (p r : X → Bool) (xs : List X) → ((x : X) → In x xs → p x ≡ true → r x ≡ true) → count p xs ≤ count r xs
 count_more p r [] h = omega arith
 count_more p r (x ∷ xs) h = let rest = count_more p r xs (λ y m. h y (inr m)) in elim (cases_Bool (p x)) [
@@ -76,14 +76,14 @@ module _ {at : ℕ → Vector} {ids : List ℕ} {qs : List (List ℕ)} {i j k : 
     in_F : (l : ℕ) → In l list → In l F
     in_F l o = lies_member c q m lies l (subst (In l) (sym p.is) o)
 
-    -- it reaches a spot of the plane that is to the right of none of its sides
+    -- the piece reaches a spot of the plane that is to the right of none of its sides
     reaches_flat : (s : Spot) → spot_height at i j k s ≡ pos 0 → IsNotRight n at s q → reaches at s q ≡ true
     reaches_flat s level side = subst (λ x. reaches at s x ≡ true) (sym p.is) (rw (
       (Decides-int_eq (spot_height at p.i p.j p.k s) (pos 0)).1 (flat_height c lies p s level),
       of_right (normal p) at s list (λ u v g. not_right_along n (normal p) at u v s (flat_along c lies p) (side u v (subst (Follows u v) (sym p.is) g))),
     ) refl)
 
-    -- ---- a spot that it reaches
+    -- ---- a spot that the piece reaches
     module _ (s : Spot) (reach : reaches at s q ≡ true) where
       two : (int_eq (spot_height at p.i p.j p.k s) (pos 0) ≡ true) × (none_right (normal p) at s (steps_round list) ≡ true)
       two = and_parts (int_eq (spot_height at p.i p.j p.k s) (pos 0)) (none_right (normal p) at s (steps_round list))
@@ -102,7 +102,7 @@ module _ {at : ℕ → Vector} {ids : List ℕ} {qs : List (List ℕ)} {i j k : 
         of_right n at s F (not_beyond c p.i p.j p.k p.rest list_turns in_F s reach_level closed),
       ) refl
 
-    -- ---- a spot of the plane that it covers
+    -- ---- a spot of the plane that the piece covers
     module _ (s : Spot) (level : spot_height at i j k s ≡ pos 0) (cover : covers at s q ≡ true) where
       -- a spot near it lies inside the piece, too
       near_left : {extra : List Vector} (y : NearTo s level extra) → all_left n at y.spot (steps_round list) ≡ true
@@ -200,7 +200,7 @@ module _ {at : ℕ → Vector} {ids : List ℕ} {qs : List (List ℕ)} {i j k : 
     reached s level closed =
         near_found (moved c i j k r (turns c) (λ l o. o) s level closed) (moved_left c i j k r (turns c) (λ l o. o) s level closed)
 
-    -- and no spot is covered twice
+    -- no spot is covered twice
     pub covered_once : (q : List ℕ) (m : In q qs) (lies : lies_in at i j k q ≡ true) (s : Spot) → spot_height at i j k s ≡ pos 0 → covers at s q ≡ true
         → count_by (covers at s) qs ≤ 1
     covered_once q m lies s level cover = omega (

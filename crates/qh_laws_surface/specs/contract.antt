@@ -1,3 +1,3 @@
--- What the laws of measures cite.
+-- Definitions that the laws of measures cite.
 pub mod Covering
 pub mod Measures

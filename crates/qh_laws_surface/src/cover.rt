@@ -1,4 +1,5 @@
-//! The laws of covering: a surface in pieces covers each face of the hull once, and pieces that do so are a surface.
+//! The laws of covering: a surface in pieces covers each face of the hull once, and pieces that cover each face once
+//! are a surface.
 ghost use Rattle.qh_laws_surface.specs.laws.CoverLaws.{PiecesLieInFaces, SpotsLieInFaces, FacesAreCovered, PiecesAreApart};
 ghost use Rattle.qh_laws_surface.specs.laws.CoverLaws.{FacesAreCoveredOnce, CoveringIsSurface};
 
@@ -13,8 +14,8 @@ pub fn surface_covers_once()
     ensures once { FacesAreCoveredOnce }
 {}
 
-/// Pieces of faces are a surface if they cover each face once, by the same points. So of pieces of faces the check
-/// accepts exactly the lists that cover the hull once, however they are cut.
+/// Pieces of faces are a surface if they cover each face once, by the same points. So among lists of pieces of faces,
+/// the check accepts exactly those that cover the hull once, however they are cut.
 pub fn covering_is_surface()
     ensures { CoveringIsSurface }
 {}

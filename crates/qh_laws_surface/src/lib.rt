@@ -1,7 +1,7 @@
-//! The laws of surfaces in pieces: the polygons of a right hull are a surface, each surface measures as much as the hull, and
-//! covers each of its faces once ([`cover`]).
+//! The laws of surfaces in pieces. The polygons of a right hull are a surface. Each surface has the area and the volume
+//! of the hull, and covers each of its faces once ([`cover`]).
 //!
-//! They stand above `qh_check`, whose definition of a surface they speak of. No program rests on them.
+//! This crate is above `qh_check`, whose definition of a surface the laws use. No program depends on them.
 #![tactic(auto)]
 
 pub mod cover;
@@ -9,8 +9,8 @@ pub mod cover;
 ghost use Rattle.qh_laws_surface.specs.laws.SurfaceLaws.{BodyIsSurface, FansAreSurface};
 ghost use Rattle.qh_laws_surface.specs.laws.MeasureLaws.{AreasAddUp, VolumesAddUp};
 
-/// The polygons of a right body are a surface of its hull, in every dimension. In a solid so are their fans. So the
-/// check of surfaces accepts each right hull.
+/// The polygons of a right body are a surface of its hull, in every dimension. In a solid, their fans are a surface,
+/// too. So the check of surfaces accepts each right hull.
 pub fn hull_is_surface()
     ensures faces { BodyIsSurface }
     ensures fans { FansAreSurface }

@@ -6,7 +6,7 @@ use Rattle.qh_mesh.specs.contract.Edges.{edge_end, edge_of, edge_start, nth_side
 use Rattle.qh_mesh.specs.{contract.Replacement.IsLive, declared.facets.FacetSide.FacetSide}
 use Rattle.qh_mesh.specs.steps.{Horizons.edge_side, Kept.outer_of, Kept.side_of, Twins.HasTwin, Twins.HasTwins}
 
--- an edge by its facet and side is of that facet
+-- an edge given by its facet and side belongs to that facet
 pub edge-facet : (f : ℕ) (s : Side) → edge_of f s / 3 ≡ f
 edge-facet f = elim [ first ↦ omega arith | second ↦ omega arith | third ↦ omega arith ]
 
@@ -16,7 +16,7 @@ edge-side f first = ap nth_side (let e : edge_of f first % 3 ≡ 0 = omega arith
 edge-side f second = ap nth_side (let e : edge_of f second % 3 ≡ 1 = omega arith in e)
 edge-side f third = ap nth_side (let e : edge_of f third % 3 ≡ 2 = omega arith in e)
 
--- the side of an edge, by what is left of its number
+-- the side of an edge is given by the remainder of its number
 pub side_left_over : (r : ℕ) → r < 3 → side_no (nth_side r) ≡ r
 side_left_over (suc (suc (suc r))) l = absurd (omega arith)
 side_left_over r l = refl
@@ -25,23 +25,23 @@ side_left_over r l = refl
 pub edge_is : (x : ℕ) → edge_of (x / 3) (side_of_edge x) ≡ x
 edge_is x = let e : side_no (side_of_edge x) ≡ x % 3 = side_left_over (x % 3) (omega arith) in omega arith
 
--- so twins may be told by facet and side
+-- so twins are determined by facet and side
 pub twins_by_side : (fs : List StoredFacet) → ((f : ℕ) → IsLive fs f → (s : Side) → HasTwin fs (edge_of f s)) → HasTwins fs
 twins_by_side fs h e l = subst (HasTwin fs) (edge_is e) (h (e / 3) l (side_of_edge e))
 
--- each side of a live facet has one
+-- each side of a live facet has a twin
 pub twin-at : (fs : List StoredFacet) → HasTwins fs → (f : ℕ) → IsLive fs f → (s : Side) → HasTwin fs (edge_of f s)
 twin-at fs t f l s = t (edge_of f s) (subst (IsLive fs) (sym (edge-facet f s)) l)
 
 module _ (fs : List StoredFacet) (f : ℕ) (s : Side) where
-  -- an edge starts and ends where the surface says
+  -- an edge starts and ends as in the surface
   pub start-is : edge_start fs (edge_of f s) ≡ start (surface_of fs) f s
   start-is = λ i. start (surface_of fs) (edge-facet f s i) (edge-side f s i)
 
   pub end-is : edge_end fs (edge_of f s) ≡ end (surface_of fs) f s
   end-is = λ i. end (surface_of fs) (edge-facet f s i) (edge-side f s i)
 
-  -- its twin, by its facet and side
+  -- the twin, given by facet and side
   pub twin-is : twin_of fs (edge_of f s) ≡ outer_of (facet_at fs f) s
   twin-is = λ i. outer_of (facet_at fs (edge-facet f s i)) (edge-side f s i)
 
@@ -53,7 +53,7 @@ module _ (fs : List StoredFacet) (f : ℕ) where
   pub back-is : (s : Side) → (surface_of fs).back f s ≡ side_of_edge (outer_of (facet_at fs f) s)
   back-is = elim [ first ↦ refl | second ↦ refl | third ↦ refl ]
 
--- what is noted of an edge is that side of its facet
+-- the entry of an edge is that side of its facet
 pub side-is : (fs : List StoredFacet) (e : ℕ) → edge_side fs e ≡ side_of (facet_at fs (e / 3)) (side_of_edge e)
 side-is fs e = elim (side_of_edge e) as (λ s. let t = facet_at fs (e / 3) in let m = surface_of fs in
     let is : FacetSide = record { from = start m (e / 3) s; to = end m (e / 3) s; outer = outer_of t s } in is ≡ side_of t s) [

@@ -1,5 +1,5 @@
--- A replacement leaves a smaller signed volume: at the apex a facet that stays counts what it did, one of the cone
--- nothing, and one that goes more than nothing.
+-- A replacement decreases the signed volume: at the apex the contribution of a remaining facet is unchanged, that of a facet of the cone is 0, and that of a
+-- removed facet was above 0.
 use Rattle.std.proofs.Common.{◌≡◌, ℕ, zero, suc, ◌+◌, arith, ap, ◌∙◌, refl, subst, true, false, cond, inl, inr, List, [], ◌∷◌, slice_index, zero-add}
 use Rattle.std.proofs.lemmas.{Bool.cases_Bool, Bool.both_ways, Int.ints}
 use Rattle.std.specs.Prelude.{ℤ, pos, ◌+ℤ◌, ◌<ℤ◌, ◌≤ℤ◌}
@@ -12,16 +12,16 @@ use Rattle.qh_mesh.specs.contract.{Replacement.is_listed, Replacement.IsKept, So
 use Rattle.qh_mesh.proofs.{ListedFacets.in_listed, ListedFacets.listed_live, Rewiring.IsStep, SoundMeshes.closed_of, SoundMeshes.step_is_closed}
 
 -- ---- sums over live places
--- what the live places of a list count for
+-- the sum of the contributions of the live places of a list
 abbrev live_sum : (ℕ → ℤ) → List StoredFacet → ℤ
 live_sum v [] = pos 0
 live_sum v (f ∷ fs) = cond f.live (v 0) (pos 0) +ℤ live_sum (λ k. v (suc k)) fs
 
--- what one place counts for
+-- the contribution of one place
 abbrev part : (ℕ → ℤ) → List StoredFacet → ℕ → ℤ
 part v fs f = cond (facet_at fs f).live (v f) (pos 0)
 
--- where no place counts for more, the sum is no greater, and where one counts for less, the sum is less
+-- if no contribution increases, the sum does not, and if one decreases, the sum does
 sums : (v w : ℕ → ℤ) (fs gs : List StoredFacet) → ((f : ℕ) → part w gs f ≤ℤ part v fs f)
     → (live_sum w gs ≤ℤ live_sum v fs) × ((f : ℕ) → part w gs f <ℤ part v fs f → live_sum w gs <ℤ live_sum v fs)
 sums v w [] [] h = (omega (arith, ints), λ f l. absurd (omega (arith, ints, l)))
@@ -46,28 +46,28 @@ volume_is at m q n (f ∷ fs) =
     ≡ cond b (value n) (pos 0) +ℤ signed_volume at (triples_from m (live_from (n + 1) fs)) q) [ true ↦ refl | false ↦ (omega (arith, ints)) ]
     ∙ (λ i. cond f.live (value (here i)) (pos 0) +ℤ (volume_is at m q (n + 1) fs ∙ ap (λ v. live_sum v fs) (λ j k. value (shift k j))) i)
 
--- and from the first place
+-- the same from the first place
 volume_is_sum : (at : ℕ → Vector) (fs : List StoredFacet) (q : Vector)
     → signed_volume at (triples_of (surface_of fs)) q ≡ live_sum (λ f. facet_vol at fs f q) fs
 volume_is_sum at fs q = volume_is at (surface_of fs) q 0 fs ∙ ap (λ v. live_sum v fs) (λ i f. facet_vol at fs (zero-add f i) q)
 
 -- ---- a step
 module _ (old new : List StoredFacet) (vs : List ℕ) (p : ℕ) (made : List ℕ) (d : IsStep old new vs p made) (at : ℕ → Vector) where
-  -- what a place counts for at the apex, before and after
+  -- the contributions of a place at the apex, before and after the step
   abbrev before : ℕ → ℤ
   before f = part (λ g. facet_vol at old g (at p)) old f
 
   abbrev after : ℕ → ℤ
   after f = part (λ g. facet_vol at new g (at p)) new f
 
-  -- one of the cone has the apex for a corner
+  -- a facet of the cone has the apex as a corner
   cone_part : (f : ℕ) → In f made → facet_vol at new f (at p) ≡ pos 0
   cone_part f i =
       let j = in_at made f i in
       let third = subst (λ g. (facet_at new g).k ≡ p) j.2 (d.replaced.cone j.0 j.1).third in
       rw third (vol-third (at (facet_at new f).i) (at (facet_at new f).j) (at p))
 
-  -- so a place of no facet that stays counts nothing
+  -- so a place without a remaining facet contributes 0
   other_part : (f : ℕ) → ¬ (IsKept old vs f) → after f ≡ pos 0
   other_part f n = elim (cases_Bool (facet_at new f).live) [
     | inr u ↦ rw u refl
@@ -75,13 +75,13 @@ module _ (old new : List StoredFacet) (vs : List ℕ) (p : ℕ) (made : List ℕ
   ]
 
   module _ (visible : AreVisible at old vs p) where
-    -- one that goes counted more
+    -- a removed facet contributed more
     gone_part : (f : ℕ) → is_listed vs f ≡ true → after f <ℤ before f
     gone_part f e =
         let l = listed_live old vs d.facets f e in
         rw (other_part f (λ k. both_ways (is_listed vs f) k.unlisted e), l) (visible.seen f l e)
 
-    -- and no place counts for more: a facet that stays counts what it did
+    -- no contribution increases: that of a remaining facet is unchanged
     no_more : (f : ℕ) → after f ≤ℤ before f
     no_more f = elim (cases_Bool (is_listed vs f)) [
       | inl e ↦ less_le (after f) (before f) (gone_part f e)
@@ -99,7 +99,7 @@ module _ (old new : List StoredFacet) (vs : List ℕ) (p : ℕ) (made : List ℕ
         rw (volume_is_sum at new (at p), volume_is_sum at old (at p))
         ((sums (λ g. facet_vol at old g (at p)) (λ g. facet_vol at new g (at p)) old new no_more).1 f (gone_part f e))
 
-    -- and with each point, where the meshes are closed
+    -- and with each point, if the meshes are closed
     pub step_falls : (s t u v : ℕ) → IsSoundMesh at old (middle_at at s t u v) → (x : Vector)
         → signed_volume at (triples_of (surface_of new)) x <ℤ signed_volume at (triples_of (surface_of old)) x
     step_falls s t u v z x =

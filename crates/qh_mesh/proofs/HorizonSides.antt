@@ -1,4 +1,4 @@
--- The horizon of listed facets: its edges, that it is balanced, and how it is gathered.
+-- The horizon of listed facets: its edges, its balance, and how it is collected.
 use Rattle.std.proofs.Common.{◌≡◌, ℕ, ◌+◌, ◌/◌, ◌<◌, ◌≤◌, arith, ap, sym, ◌∙◌, refl, subst, Bool, true, false, cond, not, inl, inr, List, [], ◌∷◌, All, length}
 use Rattle.std.proofs.Common.{map, slice_index}
 use Rattle.std.proofs.lemmas.{Bool.cases_Bool, Bool.not-true, Bool.not_from_false, List.Filters.sum_by-filter_both, List.Sums.sum_by-cons}
@@ -18,29 +18,29 @@ use Rattle.qh_mesh.proofs.ListedFacets.{listed_live, in_sides, of_sides, once_si
 use Rattle.qh_mesh.proofs.Mates.{meets}
 
 module _ (old : List StoredFacet) (vs : List ℕ) where
-  -- an edge of the horizon, by its place
+  -- the edge at a position of the horizon
   abbrev pub edge : ℕ → ℕ
   edge j = slice_index (horizon old vs) j
 
-  -- does a listed facet lie across, or one that stays?
+  -- true if a listed facet lies across the edge
   abbrev inner : ℕ → Bool
   inner e = is_listed vs (twin_of old e / 3)
 
   abbrev leaves : ℕ → Bool
   leaves e = not (inner e)
 
-  -- it is of a listed facet, and no listed one lies across
+  -- the edge belongs to a listed facet, and no listed facet lies across
   pub on_horizon : (j : ℕ) → j < length (horizon old vs) → (is_listed vs (edge j / 3) ≡ true) × (inner (edge j) ≡ false)
   on_horizon j l =
       let r = of_filter leaves (sides_of vs) (edge j) (In-get_or (horizon old vs) j 0 l) in
       (of_sides vs (edge j) r.0, not-true (inner (edge j)) r.1)
 
-  -- so its twin is an edge of a facet that stays
+  -- so its twin is an edge of a remaining facet
   pub horizon_twin : HasTwins old → AreFacets old vs → (j : ℕ) → j < length (horizon old vs) → HasTwin old (edge j) × IsKept old vs (twin_of old (edge j) / 3)
   horizon_twin t a j l =
       let h = on_horizon j l in let q = t (edge j) (listed_live old vs a (edge j / 3) h.0) in (q, record { live = q.live; unlisted = h.1 })
 
-  -- and each such edge is one of it
+  -- each such edge is on the horizon
   pub horizon_at : (x : ℕ) → is_listed vs (x / 3) ≡ true → inner x ≡ false → (j : ℕ) × (j < length (horizon old vs)) × (edge j ≡ x)
   horizon_at x l u = in_at (horizon old vs) x (in_filter leaves (sides_of vs) x (in_sides vs x l) (not_from_false (inner x) u))
 
@@ -49,12 +49,12 @@ module _ (old : List StoredFacet) (vs : List ℕ) where
   same_place a = once_place 0 (horizon old vs) (once_filter leaves (sides_of vs) (once_sides vs a.once))
 
 -- ---- balance
--- what is noted of the edges of facets are their sides
+-- the entries of the edges of facets are their sides
 sides_are : (fs : List StoredFacet) (vs : List ℕ) → map (edge_side fs) (sides_of vs) ≡ flat_map (λ v. three_sides (facet_at fs v)) vs
 sides_are fs [] = refl
 sides_are fs (v ∷ vs) = λ i. noted-is fs v first i ∷ noted-is fs v second i ∷ noted-is fs v third i ∷ sides_are fs vs i
 
--- the sides of facets: at a corner the number that start is that of those that end
+-- the sides of facets: at each corner, the number of sides that start equals the number that end
 round : (fs : List StoredFacet) (l : ℕ) (vs : List ℕ) → let hs = flat_map (λ v. three_sides (facet_at fs v)) vs in
     count_by (meets Finish l) hs ≡ count_by (meets Start l) hs
 round fs l [] = refl
@@ -67,7 +67,7 @@ module _ (fs : List StoredFacet) (vs : List ℕ) (t : HasTwins fs) (a : AreFacet
   abbrev meet : End → ℕ → Bool
   meet end e = meets end l (edge_side fs e)
 
-  -- of the sides inside no more meet it at this end than at the other
+  -- the number of inner sides that meet it at this end is at most the number at the other end
   count_inside : (end : End) → count_by (meet end) inside ≤ count_by (meet (other end)) inside
   count_inside end = count_twins (twin_of fs) (meet end) (meet (other end)) inside
       (once_filter (inner fs vs) (sides_of vs) (once_sides vs a.once))
@@ -92,13 +92,13 @@ horizon_balanced fs vs t a = elim [ Start ↦ λ l. sym (even l) | Finish ↦ ev
     even l = let c = count_inside fs vs t a l in let b = balance fs vs t a l in
         omega (arith, c Finish, c Start, b Finish, b Start, round fs l vs)
 
--- ---- gathering
+-- ---- collecting
 module _ (old cleared : List StoredFacet) (vs : List ℕ) (r : Removed old cleared vs (length vs)) where
-  -- a listed facet is gone
+  -- a listed facet is removed
   pub gone : (f : ℕ) → is_listed vs f ≡ true → facet_at cleared f ≡ removed (facet_at old f)
   gone f e = let q = in_at vs f (listed_in vs f e) in subst (λ g. facet_at cleared g ≡ removed (facet_at old g)) q.2 (r.there q.0 q.1)
 
-  -- every other facet stays
+  -- every other facet is unchanged
   pub stays : (f : ℕ) → is_listed vs f ≡ false → facet_at cleared f ≡ facet_at old f
   stays f u = r.others f (unlisted_at vs f u)
 
@@ -112,7 +112,7 @@ module _ (old cleared : List StoredFacet) (vs : List ℕ) (r : Removed old clear
         rw (gone f (in_listed vs f i), r.len, ← twin-is old f t) (live_inside old (facet_of (twin_of old e)) twin)) in
         record { facet = rw r.len (live_inside old f live); ij = across first; jk = across second; ki = across third })
 
-    -- what is noted of a side of a listed facet, and that it is open where the facet across stays
+    -- the entry of a side of a listed facet, which is open if the facet across remains
     noted : (e : ℕ) → In e (sides_of vs) → (edge_side cleared e ≡ edge_side old e) × (is_open cleared (edge_side cleared e) ≡ leaves old vs e)
     noted e i =
         let l = of_sides vs e i in let o = twin_of old e / 3 in
@@ -124,7 +124,7 @@ module _ (old cleared : List StoredFacet) (vs : List ℕ) (r : Removed old clear
           ],
         )
 
-    -- so the horizon is gathered
+    -- so the horizon is collected
     pub gathered : open_sides cleared vs ≡ map (edge_side old) (horizon old vs)
     gathered = ap (filter (is_open cleared)) (sym (sides_are cleared vs))
         ∙ filter_image (is_open cleared) (leaves old vs) (edge_side cleared) (edge_side old) (sides_of vs) noted

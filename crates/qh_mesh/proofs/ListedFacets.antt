@@ -1,4 +1,4 @@
--- Lists of facets that have each once, and the list of their sides.
+-- Lists of facets without repetition, and the list of their sides.
 use Rattle.std.proofs.Common.{◌≡◌, ◌≢◌, ℕ, ◌+◌, ◌*◌, ◌/◌, ◌<◌, ◌++◌, arith, sym, refl, subst, true, false, cond, nat_eq, inl, inr, List, [], ◌∷◌, length}
 use Rattle.std.proofs.{Common.slice_index, lemmas.Bool.both_ways, lemmas.Bool.cases_lt, lemmas.Bool.eq-eqb, lemmas.Bool.Decides.eqb_tells}
 use Rattle.qh_model.specs.contract.{StoredSurface.StoredFacet, Surface.Side, Surface.Side.first, Surface.Side.second, Surface.Side.third}
@@ -14,21 +14,21 @@ in_listed (v ∷ vs) f (inl e) = rw (eq-eqb v f (sym e)) refl
 in_listed (v ∷ vs) f (inr i) =
     elim (nat_eq v f) as (λ b. cond b true (is_listed vs f) ≡ true) [ true ↦ refl | false ↦ in_listed vs f i ]
 
--- and what is listed is a member
+-- an element that is listed is a member
 pub listed_in : (vs : List ℕ) (f : ℕ) → is_listed vs f ≡ true → In f vs
 listed_in [] f e = absurd (cc)
 listed_in (v ∷ vs) f e = elim (eqb_tells v f) [ inl t ↦ inl (sym t.1) | inr t ↦ inr (listed_in vs f (rw t.0 at e)) ]
 
--- what is not listed stands at no place
+-- a facet that is not listed has no position in the list
 pub unlisted_at : (vs : List ℕ) (f : ℕ) → is_listed vs f ≡ false → (j : ℕ) → j < length vs → slice_index vs j ≢ f
 unlisted_at vs f u j l e = both_ways (is_listed vs f) u (in_listed vs f (subst (λ g. In g vs) e (In-get_or vs j 0 l)))
 
--- one more, that is not in the list
+-- one more facet, which is not in the list
 pub once_push : (vs : List ℕ) (f : ℕ) → Once vs → ¬ (In f vs) → Once (vs ++ f ∷ [])
 once_push vs f o n = once_append vs (f ∷ []) o ((λ i. i), tt)
     (λ v i. elim [ inl e ↦ n (subst (λ u. In u vs) e i) | inr j ↦ j ])
 
--- where each stands once, no two places have the same
+-- without repetition, no two positions have the same facet
 pub once_apart : (vs : List ℕ) → Once vs → (i j : ℕ) → i < j → j < length vs → slice_index vs i ≢ slice_index vs j
 once_apart vs o i j l m e = let n = once_place 0 vs o i j (omega arith) m e in omega arith
 
@@ -47,7 +47,7 @@ in_sides (v ∷ vs) x e = elim (eqb_tells v (x / 3)) [
   ]
 ]
 
--- and each side is one of a listed facet
+-- each side belongs to a listed facet
 pub of_sides : (vs : List ℕ) (x : ℕ) → In x (sides_of vs) → is_listed vs (x / 3) ≡ true
 of_sides [] x i = absurd i
 of_sides (v ∷ vs) x (inl e) = rw (eq-eqb v (x / 3) (omega arith)) refl
@@ -56,7 +56,7 @@ of_sides (v ∷ vs) x (inr (inr (inl e))) = rw (eq-eqb v (x / 3) (omega arith)) 
 of_sides (v ∷ vs) x (inr (inr (inr i))) =
     elim (nat_eq v (x / 3)) as (λ b. cond b true (is_listed vs (x / 3)) ≡ true) [ true ↦ refl | false ↦ of_sides vs x i ]
 
--- each side once
+-- each side occurs once
 pub once_sides : (vs : List ℕ) → Once vs → Once (sides_of vs)
 once_sides [] o = tt
 once_sides (v ∷ vs) o =

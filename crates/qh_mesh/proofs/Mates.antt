@@ -1,4 +1,4 @@
--- Which sides of a horizon follow one another: each has one mate at either end, and is the mate of that.
+-- The order of the sides of a horizon: each has one mate at either end, and is the mate of its mate.
 use Rattle.std.proofs.Common.{◌≡◌, ℕ, ◌<◌, ◌≤◌, inl, inr, arith, ap, sym, ◌∙◌, refl, subst, Bool, nat_eq, List, length}
 use Rattle.std.proofs.lemmas.{Bool.cases_lt, Bool.eq-eqb, Bool.eqb-true, List.take_all}
 use Rattle.std.specs.Prelude.{count_by}
@@ -6,19 +6,19 @@ use Rattle.qh_model.proofs.lists.Counts.{counted, counted_apart, counted_at}
 use Rattle.qh_mesh.specs.declared.{facets.FacetSide.FacetSide, slots.End.End, slots.End.TheVariants.Start, slots.End.TheVariants.Finish, slots.Slot.Slot}
 use Rattle.qh_mesh.specs.steps.Horizons.{side_at, no_side, corner, other, rank, noted, IsBalanced, IsMate, AreNoted}
 
--- is the corner at this end l?
+-- true if the corner at this end is l
 abbrev pub meets : End → ℕ → FacetSide → Bool
 meets end l h = nat_eq (corner end h) l
 
 module _ (hs : List FacetSide) where
-  -- no side's rank is past those that meet it
+  -- the rank of a side is less than the number of sides that meet it
   pub rank_below : IsBalanced hs → (end : End) (j i l : ℕ) → j < length hs → l ≡ corner end (side_at hs j) → length hs ≤ i
       → rank hs end l j < rank hs (other end) l i
   rank_below b end j i l h q n =
       let c = counted (meets end l) no_side hs j h (eq-eqb (corner end (side_at hs j)) l (sym q)) in
       let e = b end l in let a = ap (count_by (meets (other end) l)) (take_all i hs n) in omega arith
 
-  -- so each has a mate
+  -- so each side has a mate
   pub has_mate : IsBalanced hs → (end : End) (j : ℕ) → (i : ℕ) × (j < length hs → IsMate hs end j i)
   has_mate b end j = elim (cases_lt j (length hs)) [
     | inl l ↦ (let c = corner end (side_at hs j) in
@@ -28,14 +28,14 @@ module _ (hs : List FacetSide) where
     | inr h ↦ (0, λ l. absurd (omega arith))
   ]
 
-  -- and no other
+  -- and no other one
   pub mate_only : (end : End) (j i i' : ℕ) → IsMate hs end j i → IsMate hs end j i' → i ≡ i'
   mate_only end j i i' m m' =
       let c = corner end (side_at hs j) in
       counted_apart (meets (other end) c) no_side hs i i' m.inside m'.inside (eq-eqb (corner (other end) (side_at hs i)) c m.meets)
       (eq-eqb (corner (other end) (side_at hs i')) c m'.meets) (m.rank ∙ sym m'.rank)
 
-  -- whose mate it is
+  -- each side is the mate of its mate
   mate_back : (end : End) (j i : ℕ) → j < length hs → IsMate hs end j i → IsMate hs (other end) i j
   mate_back Start j i l m = record { inside = l; meets = sym m.meets; rank = rw m.meets (sym m.rank) }
   mate_back Finish j i l m = record { inside = l; meets = sym m.meets; rank = rw m.meets (sym m.rank) }
@@ -45,7 +45,7 @@ module _ (hs : List FacetSide) where
       let i = (has_mate b end j).0 in let m = (has_mate b end j).1 l in let k = has_mate b (other end) i in
       mate_only (other end) i k.0 j (k.1 m.inside) (mate_back end j i l m)
 
-  -- the table names it
+  -- the table has the mate
   pub mate_noted : (ss : List Slot) → IsBalanced hs → AreNoted ss hs → (end : End) (j l : ℕ) → j < length hs
       → l ≡ corner end (side_at hs j) → IsMate hs end j (noted ss (other end) l)
   mate_noted ss b n end j l i q =

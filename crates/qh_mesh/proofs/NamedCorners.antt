@@ -1,4 +1,4 @@
--- A surface stays one where its corners get other names.
+-- A surface remains one if its corners are renamed.
 use Rattle.std.proofs.Common.{◌≡◌, ℕ, ◌/◌, ap, sym, ◌∙◌, refl, List, map, reverse}
 use Rattle.std.proofs.lemmas.List.{length-map}
 use Rattle.qh_model.specs.contract.StoredSurface.{named_facet, StoredFacet, facet_at}
@@ -35,7 +35,7 @@ module _ (name : ℕ → ℕ) (fs : List StoredFacet) where
         ends = rw (twin_stays e) (named_end x h.live ∙ ap name h.ends ∙ sym (named_start e m));
       }
 
-  -- so the surface stays
+  -- so the surface remains one
   pub named_surface : (free : List ℕ) → IsSurface fs free → IsSurface named free
   named_surface free s = record {
     twins = named_twins s.twins;

@@ -1,4 +1,4 @@
--- The places of no facet, as they come and go.
+-- The free places, as they are allocated and freed.
 use Rattle.std.proofs.Common.{◌≡◌, ◌≢◌, ℕ, ◌<◌, ◌≤◌, inl, inr, max, arith, ap, sym, ◌∙◌, refl, subst, Bool, true, false, cond, List, [], ◌∷◌, ◌++◌, length}
 use Rattle.std.proofs.Common.{reverse, set}
 use Rattle.std.proofs.lemmas.{Bool.both_ways, Bool.cases_lt, List.get_or_append_left, List.get_or_push, List.length_push, List.length-reverse}
@@ -8,16 +8,16 @@ use Rattle.qh_model.specs.headline.Sets.{In}
 use Rattle.qh_model.proofs.{lists.Joined.of_append, lists.Joined.once_append, surfaces.Stored.live_inside, surfaces.Stored.live_len}
 use Rattle.qh_mesh.specs.{contract.Replacement.IsLive, steps.Kept.is_live, steps.Places.IsPool, steps.Places.IsVacant, steps.Places.live_count}
 
--- what a mark adds to the count of live facets
+-- the contribution of a mark to the number of live facets
 abbrev one : Bool → ℕ
 one b = cond b 1 0
 
--- a write leaves vacant what was, elsewhere
+-- a write elsewhere leaves a free place free
 vacant_set : (fs : List StoredFacet) (v : ℕ) (t : StoredFacet) (w : ℕ) → w ≢ v → IsVacant fs w → IsVacant (set fs v t) w
 vacant_set fs v t w n h = (rw (length-set fs v t) h.0, ap is_live (get_or-set_other fs v w t no_facet n) ∙ h.1)
 
 module _ (fs : List StoredFacet) (places : List ℕ) (v : ℕ) (t : StoredFacet) where
-  -- a facet that goes leaves its place
+  -- the place of a removed facet becomes free
   pub pool_more : IsPool fs places → IsLive fs v → t.live ≡ false → IsPool (set fs v t) (v ∷ places)
   pool_more q l e =
       let inside = live_inside fs v l in let n = length-set fs v t in
@@ -33,7 +33,7 @@ module _ (fs : List StoredFacet) (places : List ℕ) (v : ℕ) (t : StoredFacet)
         count = omega (arith, q.count, rw l at (sum_by-set (λ t. one t.live) fs v t no_facet inside), ap one e);
       }
 
-  -- and one that comes takes one
+  -- a new facet takes one place
   pub pool_less : IsPool fs (v ∷ places) → t.live ≡ true → IsPool (set fs v t) places
   pool_less q e = let h = q.vacant v (inl refl) in let n = length-set fs v t in record {
     once = q.once.1;
@@ -41,13 +41,13 @@ module _ (fs : List StoredFacet) (places : List ℕ) (v : ℕ) (t : StoredFacet)
     count = omega (arith, q.count, rw h.1 at (sum_by-set (λ t. one t.live) fs v t no_facet h.0), ap one e);
   }
 
--- facets with the same marks leave the same places
+-- facets with the same marks have the same free places
 pub pool_same : (fs gs : List StoredFacet) (places : List ℕ) → length gs ≡ length fs
     → ((f : ℕ) → (facet_at gs f).live ≡ (facet_at fs f).live) → live_count gs ≡ live_count fs → IsPool fs places → IsPool gs places
 pool_same fs gs places n s c q =
     record { once = q.once; vacant = λ v i. (rw n (q.vacant v i).0, s v ∙ (q.vacant v i).1); count = let d = q.count in omega arith }
 
--- there are no more free places than places
+-- the number of free places is at most the number of places
 pub few_free : (fs : List StoredFacet) (free : List ℕ) → IsPool fs (reverse free) → length free ≤ length fs
 few_free fs free q = let c = q.count in let e = length-reverse free in omega arith
 
@@ -57,7 +57,7 @@ pub pool_pops : (fs : List StoredFacet) (made free : List ℕ) (p : ℕ) → IsP
 pool_pops fs made free p q = subst (IsPool fs)
     (ap (λ xs. made ++ xs) (reverse-append free (p ∷ [])) ∙ sym (append_assoc made (p ∷ []) (reverse free))) q
 
--- and one more place of no facet
+-- so does allocating one more place at the end
 pub pool_grows : (fs : List StoredFacet) (made : List ℕ) (p : ℕ) → p ≡ length fs → IsPool fs (made ++ [])
     → IsPool (fs ++ no_facet ∷ []) ((made ++ p ∷ []) ++ [])
 pool_grows fs made p e r =

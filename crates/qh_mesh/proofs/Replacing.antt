@@ -1,4 +1,4 @@
--- The steps of a replacement are one, and they leave a surface.
+-- The steps of a replacement form a replacement, and their result is a surface.
 use Rattle.std.proofs.Common.{◌≡◌, ℕ, ◌/◌, ◌<◌, arith, ap, sym, ◌∙◌, refl, subst, false, inl, inr, List, length, ◌≢◌, ◌⊎◌, slice_index, reverse, length-append}
 use Rattle.std.proofs.lemmas.{Bool.cases_Bool, Bool.both_ways, Bool.false_from_ne_true, List.length-map, List.get_or-map}
 use Rattle.qh_model.specs.{contract.StoredSurface.StoredFacet, contract.StoredSurface.facet_at, headline.Sets.In}
@@ -22,7 +22,7 @@ module _ (old chosen : List StoredFacet) (free left vs : List ℕ) (hs : List Fa
   abbrev h : IsChosen p.between chosen hs made left
   h = p.is_chosen
 
-  -- the horizon, side by side
+  -- the length of the horizon
   horizon_len : length hs ≡ length (horizon old vs)
   horizon_len = ap length c.noted ∙ length-map (horizon old vs) (edge_side old)
 
@@ -36,22 +36,22 @@ module _ (old chosen : List StoredFacet) (free left vs : List ℕ) (hs : List Fa
   balanced : IsBalanced hs
   balanced = subst IsBalanced (sym c.noted) (horizon_balanced old vs s.twins a)
 
-  -- what lies across it
+  -- the half-edge across it
   outer_is : (j : ℕ) → j < length hs → (side_at hs j).outer ≡ twin_of old (edge old vs j)
   outer_is j l = ap (λ (h : FacetSide). h.outer) (side_is j l)
 
   twin : (j : ℕ) → j < length hs → HasTwin old (edge old vs j) × IsKept old vs (twin_of old (edge old vs j) / 3)
   twin j l = let e = horizon_len in horizon_twin old vs s.twins a j (omega arith)
 
-  -- and what lies across that
+  -- and the half-edge across that
   outer_back : (j e : ℕ) → j < length hs → (side_at hs j).outer ≡ e → twin_of old e ≡ edge old vs j
   outer_back j e l d = ap (twin_of old) (sym d ∙ outer_is j l) ∙ (twin j l).0.back
 
-  -- a place of the cone was vacant
+  -- a place of the cone was free
   vacant : (f : ℕ) → In f made → IsVacant chosen f
   vacant f i = h.pool.vacant f (in_append made (reverse left) f (inl i))
 
-  -- the last steps can be made
+  -- the precondition of the last steps
   pub is_ready : IsReady chosen hs made
   is_ready = record {
     places = let c = h.pool.count in let e = length-append made (reverse left) in omega arith;
@@ -70,7 +70,7 @@ module _ (old chosen : List StoredFacet) (free left vs : List ℕ) (hs : List Fa
   }
 
   module _ (new : List StoredFacet) (apex : ℕ) (w : IsConed chosen new hs made apex) where
-    -- a facet that stays has its corners, and no place of the cone
+    -- a remaining facet has its corners, and its place is not one of the cone
     kept_at : (f : ℕ) → IsKept old vs f → facet_at chosen f ≡ facet_at old f
     kept_at f k = h.cells f ∙ stays old p.between vs c.removed f k.unlisted
 
@@ -83,7 +83,7 @@ module _ (old chosen : List StoredFacet) (free left vs : List ℕ) (hs : List Fa
     kept_same : (f : ℕ) → IsKept old vs f → facet_at new f ≡ facet_at w.joined_to f
     kept_same f k = w.written.others f (unmade f k)
 
-    -- so has the twin of each of its sides whose neighbour stays
+    -- the twin of each of its sides whose neighbour remains is unchanged
     twins_stay : (e : ℕ) → IsKept old vs (e / 3) → is_listed vs (twin_of old e / 3) ≡ false → twin_of new e ≡ twin_of old e
     twins_stay e k u =
         ap (λ t. outer_of t (side_of_edge e)) (kept_same (e / 3) k)
@@ -106,7 +106,7 @@ module _ (old chosen : List StoredFacet) (free left vs : List ℕ) (hs : List Fa
               ∙ ap (twin_of w.joined_to) (sym (outer_is j m)) ∙ w.joined.outer j m;
         }
 
-    -- the mates of a side of the horizon, and the facets beside that over it
+    -- the mates of a side of the horizon, and the facets next to that over it
     abbrev mate : End → ℕ → ℕ
     mate end j = (has_mate hs balanced end j).0
 
@@ -119,14 +119,14 @@ module _ (old chosen : List StoredFacet) (free left vs : List ℕ) (hs : List Fa
     mate_back : (end : End) (j : ℕ) → j < length made → mate (other end) (mate end j) ≡ j
     mate_back end j l = mate_twice hs balanced end j (in_hs j l)
 
-    -- what is of no facet of the cone is as the removal left it, but for twins
+    -- a place outside the cone is as the removal left it, except for twins
     elsewhere : (f : ℕ) → ((j : ℕ) → j < length made → slice_index made j ≢ f) → bare (facet_at new f) ≡ bare (facet_at p.between f)
     elsewhere f n = ap bare (w.written.others f n) ∙ w.joined.same f ∙ ap bare (h.cells f)
 
     kept_bare : (f : ℕ) → IsKept old vs f → bare (facet_at new f) ≡ bare (facet_at old f)
     kept_bare f k = elsewhere f (unmade f k) ∙ ap bare (stays old p.between vs c.removed f k.unlisted)
 
-    -- a live facet stays, or is of the cone
+    -- a live facet remains from before, or belongs to the cone
     only : (f : ℕ) → IsLive new f → IsKept old vs f ⊎ In f made
     only f l = elim (cases_Bool (is_listed made f)) [
       | inl e ↦ inr (listed_in made f e)
@@ -136,7 +136,7 @@ module _ (old chosen : List StoredFacet) (free left vs : List ℕ) (hs : List Fa
           inl (record { live = ap is_live (sym (stays old p.between vs c.removed f u')) ∙ d; unlisted = u' }))
     ]
 
-    -- so they are a replacement
+    -- so the result is a replacement
     replacement : IsReplacement old new vs apex made
     replacement = record {
       len = h.len ∙ horizon_len;
@@ -161,7 +161,7 @@ module _ (old chosen : List StoredFacet) (free left vs : List ℕ) (hs : List Fa
       only = only;
     }
 
-    -- that leaves a surface, and no more places than it needs
+    -- the result is a surface, with no more places than it needs
     pub rebuilt : IsRebuilt old new left vs apex made
     unfolding replacement
     rebuilt = let len = w.written.len ∙ w.joined.len in

@@ -1,4 +1,4 @@
--- After a replacement twins pair off again, and one of what a point sees is a step of Quickhull.
+-- After a replacement twins are mutual again, and a replacement of the facets that a point sees is a step of Quickhull.
 use Rattle.std.proofs.Common.{slice_index, ◌≡◌, ℕ, ◌/◌, ◌<◌, ◌⊎◌, arith, ap, sym, ◌∙◌, refl, true, false, inl, inr, List, length, subst}
 use Rattle.std.proofs.lemmas.Bool.{cases_Bool, true_from_ne_false, false_from_ne_true}
 use Rattle.std.specs.Prelude.{pos}
@@ -21,18 +21,18 @@ module _ (fs : List StoredFacet) (f : ℕ) (s : Side) where
   pub over-twin : (surface_of fs).over f s ≡ facet_of (twin_of fs (edge_of f s))
   over-twin = over-is fs f s ∙ ap (λ v. v / 3) (sym (twin-is fs f s))
 
-  -- and the twin is the edge that lies over the side
+  -- the twin is the edge over the side
   twin-edge : twin_of fs (edge_of f s) ≡ edge_of ((surface_of fs).over f s) ((surface_of fs).back f s)
   twin-edge = twin-is fs f s ∙ sym ((λ i. edge_of (over-is fs f s i) (back-is fs f s i)) ∙ edge_is (outer_of (facet_at fs f) s))
 
-  -- what lies over a side, by its twin
+  -- the link over a side, given by its twin
   links : (g : ℕ) (t : Side) → twin_of fs (edge_of f s) ≡ edge_of g t → LinksTo (surface_of fs) f s g t
   links g t e = record {
     over_is = over-twin ∙ ap (λ v. v / 3) e ∙ edge-facet g t;
     back_is = back-is fs f s ∙ ap side_of_edge (sym (twin-is fs f s) ∙ e) ∙ edge-side g t;
   }
 
--- how far a point is above a facet is the volume with it
+-- the height of a point above a facet is the volume with it
 pub rise-vol : (at : ℕ → Vector) (fs : List StoredFacet) (f p : ℕ) → rise (surface_of fs) (weighted_at at) f (weighted_at at p) ≡ facet_vol at fs f (at p)
 rise-vol at fs f p = rise_is_vol (at (facet_at fs f).i) (at (facet_at fs f).j) (at (facet_at fs f).k) (at p)
 
@@ -47,7 +47,7 @@ module _ (old new : List StoredFacet) (vs : List ℕ) (p : ℕ) (made : List ℕ
   r = d.replaced
 
   -- ---- twins
-  -- edges of live facets that are each other's twins, by where they start and end
+  -- edges of live facets that are mutual twins, if their ends match
   both : (x y : ℕ) → IsLive new (x / 3) → IsLive new (y / 3) → twin_of new x ≡ y → twin_of new y ≡ x
       → edge_start new y ≡ edge_end new x → edge_end new y ≡ edge_start new x → HasTwin new x × HasTwin new y
   both x y k l e d s n = (
@@ -55,7 +55,7 @@ module _ (old new : List StoredFacet) (vs : List ℕ) (p : ℕ) (made : List ℕ
     record { live = rw d k; back = rw d e; starts = rw d (sym n); ends = rw d (sym s) },
   )
 
-  -- an edge of a facet that stays has its ends
+  -- an edge of a remaining facet has the same ends
   ends_stay : (e : ℕ) → StaysFacet old new vs (e / 3) → (edge_start new e ≡ edge_start old e) × (edge_end new e ≡ edge_end old e)
   ends_stay e k = let m = surface_of old in let m' = surface_of new in let f = e / 3 in
       elim (side_of_edge e) as (λ s. (start m' f s ≡ start m f s) × (end m' f s ≡ end m f s)) [
@@ -71,7 +71,7 @@ module _ (old new : List StoredFacet) (vs : List ℕ) (p : ℕ) (made : List ℕ
   live_side : (j : ℕ) (s : Side) → j < length made → IsLive new (side j s / 3)
   live_side j s l = subst (IsLive new) (sym (edge-facet (slice_index made j) s)) (r.cone j l).live
 
-  -- its first side, and what lies across the horizon
+  -- its first side, and the edge across the horizon
   across : (j : ℕ) → j < length made → HasTwin new (side j first) × HasTwin new (twin_of old (edge old vs j))
   across j l =
       let c = r.cone j l in let f = slice_index made j in let e = edge old vs j in let o = twin_of old e in
@@ -80,7 +80,7 @@ module _ (old new : List StoredFacet) (vs : List ℕ) (p : ℕ) (made : List ℕ
       both (side j first) o (live_side j first l) k.live (twin-is new f first ∙ c.outward) (c.inward ∙ omega arith)
       (s.0 ∙ q.0.starts ∙ sym (end-is new f first ∙ c.second)) (s.1 ∙ q.0.ends ∙ sym (start-is new f first ∙ c.first))
 
-  -- its second side, and the third of the next
+  -- its second side, and the third side of the next facet
   beside : (j : ℕ) → j < length made → HasTwin new (side j second) × HasTwin new (side (r.next j) third)
   beside j l =
       let i = r.next j in let m = r.next_in j l in let c = r.cone j l in let k = r.cone i m in
@@ -89,7 +89,7 @@ module _ (old new : List StoredFacet) (vs : List ℕ) (p : ℕ) (made : List ℕ
       (twin-is new f second ∙ r.next_twin j l) (twin-is new g third ∙ r.next_back j l) (start-is new g third ∙ k.third ∙ sym (end-is new f second ∙ c.third))
       (end-is new g third ∙ k.first ∙ r.next_starts j l ∙ sym (start-is new f second ∙ c.second))
 
-  -- an edge of a facet that stays, by whether what lies across stays
+  -- an edge of a remaining facet, depending on whether the facet across remains
   kept : (e : ℕ) → IsKept old vs (e / 3) → HasTwin new e
   kept e k =
       let n = r.kept (e / 3) k in let q = d.twins e k.live in let o = twin_of old e in
@@ -102,7 +102,7 @@ module _ (old new : List StoredFacet) (vs : List ℕ) (p : ℕ) (made : List ℕ
             ((ends_stay o g).0 ∙ q.starts ∙ sym (ends_stay e n).1) ((ends_stay o g).1 ∙ q.ends ∙ sym (ends_stay e n).0)).0)
       ]
 
-  -- so each edge of each live facet has its twin, where each facet of the cone is the next of one
+  -- so each edge of each live facet has its twin, if each facet of the cone is the next of one
   module _ (before : (j : ℕ) → j < length made → (i : ℕ) × (i < length made) × (r.next i ≡ j)) where
     cone_twin : (j : ℕ) → j < length made → (s : Side) → HasTwin new (side j s)
     cone_twin j l first = (across j l).0
@@ -115,7 +115,7 @@ module _ (old new : List StoredFacet) (vs : List ℕ) (p : ℕ) (made : List ℕ
       | inr i ↦ (let (j, m, q) = in_at made f i in subst (λ g. HasTwin new (edge_of g s)) q (cone_twin j m s))
     ])
 
-  -- ---- a step of what p sees
+  -- ---- a step that removes what p sees
   module _ (place : ℕ → Vector) (o : Weighted) (z : IsSoundMesh place old o) (visible : AreVisible place old vs p) where
     abbrev m : Surface
     m = surface_of old
@@ -140,14 +140,14 @@ module _ (old new : List StoredFacet) (vs : List ℕ) (p : ℕ) (made : List ℕ
       unlisted_blind : is_listed vs f ≡ false → IsBlind f
       unlisted_blind e = rw (rise-vol place old f p) (visible.unseen f l e)
 
-      -- and the other way round
+      -- and conversely
       seen_listed : IsSeen f → is_listed vs f ≡ true
       seen_listed s = true_from_ne_false (is_listed vs f) (λ e. not_less (pos 0) (rise m home f (home p)) s (unlisted_blind e))
 
       blind_unlisted : IsBlind f → is_listed vs f ≡ false
       blind_unlisted b = false_from_ne_true (is_listed vs f) (λ e. not_less (pos 0) (rise m home f (home p)) (listed_seen e) b)
 
-    -- an edge of the list is a side of the horizon
+    -- an edge of the horizon's list is a side of the horizon
     horizon_side : (j : ℕ) → j < length (horizon old vs) → IsSide (edge old vs j / 3) (side_of_edge (edge old vs j))
     horizon_side j l =
         let e = edge old vs j in let h = (on_horizon old vs j l).0 in let live = listed_live old vs d.facets (e / 3) h in
@@ -158,20 +158,20 @@ module _ (old new : List StoredFacet) (vs : List ℕ) (p : ℕ) (made : List ℕ
           blind = subst IsBlind (sym (over-is old (e / 3) (side_of_edge e))) (unlisted_blind (twin_of old e / 3) k.live k.unlisted);
         }
 
-    -- where a neighbour is blind, it is not listed
+    -- if a neighbour is blind, it is not listed
     over_unlisted : (f : ℕ) (s : Side) → In f m.live → IsBlind (m.over f s) → is_listed vs (twin_of old (edge_of f s) / 3) ≡ false
     over_unlisted f s i b =
         ap (is_listed vs) (sym (over-twin old f s))
         ∙ blind_unlisted (m.over f s) (live_in old (m.over f s) (z.0 f i s).live) b
 
-    -- the facet of the cone over a side of the horizon: the one across from where the side's neighbour was
+    -- the facet of the cone over a side of the horizon, which lies across from the former neighbour's position
     abbrev over : ℕ → Side → ℕ
     over f s = twin_of new (twin_of old (edge_of f s)) / 3
 
     cone_no : (j : ℕ) → j < length made → twin_of new (twin_of old (edge old vs j)) / 3 ≡ slice_index made j
     cone_no j l = ap (λ x. x / 3) (r.cone j l).inward ∙ omega arith
 
-    -- the place of a side on the horizon
+    -- the position of a side on the horizon
     place_of : (f : ℕ) (s : Side) → IsSide f s → (j : ℕ) × (j < length made) × (edge old vs j ≡ edge_of f s)
     place_of f s e =
         let listed = ap (is_listed vs) (edge-facet f s) ∙ seen_listed f (live_in old f e.live) e.seen in
@@ -190,7 +190,7 @@ module _ (old new : List StoredFacet) (vs : List ℕ) (p : ℕ) (made : List ℕ
     cone : (f : ℕ) (s : Side) → IsSide f s → IsCone old new (edge_of f s) p (over f s)
     cone f s e = let j = place_of f s e in rw (← j.2, cone_no j.0 j.1) (r.cone j.0 j.1)
 
-    -- a side whose neighbour goes is joined to the cone
+    -- a side whose neighbour is removed is linked to the cone
     outward : (f : ℕ) (s : Side) → In f m.live → IsBlind f → Sees m home (m.over f s) (home p)
         → twin_of new (edge_of f s) ≡ edge_of (over (m.over f s) (m.back f s)) first
     outward f s i b v =
@@ -200,7 +200,7 @@ module _ (old new : List StoredFacet) (vs : List ℕ) (p : ℕ) (made : List ℕ
         ∙ (cone (m.over f s) (m.back f s) (record { live = t.live; seen = v; blind = subst IsBlind (sym t.returns) b })).inward
         ∙ omega arith
 
-    -- the one after that of (f, s) is that of (g, t)
+    -- the facet after that of (f, s) is that of (g, t)
     next-is : (f : ℕ) (s : Side) (g : ℕ) (t : Side) (e : IsSide f s) (e' : IsSide g t) → start m g t ≡ end m f s
         → r.next (place_of f s e).0 ≡ (place_of g t e').0
     next-is f s g t e e' q =

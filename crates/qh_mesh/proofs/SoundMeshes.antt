@@ -1,4 +1,4 @@
--- Meshes that are sound: the simplex, what a step leaves, and that both close up.
+-- Sound meshes: the simplex, the result of a step, and that both are closed.
 use Rattle.std.proofs.Common.{slice_index, ◌≡◌, ℕ, arith, rules, refl, [], ◌≢◌, sym, inl, inr, List, ◌∷◌, subst}
 use Rattle.std.proofs.lemmas.{Bool.cases_Bool, Int.ints, Int.by_lt_z}
 use Rattle.std.specs.Prelude.{pos, ◌<ℤ◌}
@@ -20,13 +20,13 @@ closed_of at fs s t u v f l z = let i = in_live fs f l in let o = live_is_listed
   volume = sound_has_volume at (surface_of fs) s t u v f i o z.0 z.1;
 }
 
--- and so is a finished one
+-- so is a finished mesh
 pub finished_is_closed : (at : ℕ → Vector) (ids : List ℕ) (fs : List StoredFacet) → IsFinished at ids (surface_of fs) → IsClosedMesh at fs
 finished_is_closed at ids fs h = closed_of at fs h.s h.t h.u h.v h.some (live_in fs h.some h.some_live) (h.whole, h.sound)
 
 -- ---- the simplex
 module _ (at : ℕ → Vector) (a b c d : ℕ) where
-  -- its facets are those of the law's, by computing
+  -- its facets are those of the law's, by computation
   simplex_named : IsNamed (simplex_surface a b c d) (surface_of (simplex_facets a b c d)) (λ l. l)
   simplex_named = let law = simplex_surface a b c d in let stored = surface_of (simplex_facets a b c d) in record {
     live = refl;
@@ -46,7 +46,7 @@ module _ (at : ℕ → Vector) (a b c d : ℕ) where
         sound_named simplex_named home home (middle_at at a b c d) (λ l. l) (λ f i l c. refl) (λ f i l c. refl) z.1,
       )
 
-  -- so it is with volume that is neither 0 nor above, and closed
+  -- so it is sound and closed with volume that is neither 0 nor above
   module _ (n : vol (at a) (at b) (at c) (at d) ≢ pos 0) (h : pos 0 <ℤ vol (at a) (at b) (at c) (at d) → ⊥) where
     pub simplex_is_sound : IsSoundMesh at (simplex_facets a b c d) (middle_at at a b c d)
     simplex_is_sound = below_is_sound
@@ -55,7 +55,7 @@ module _ (at : ℕ → Vector) (a b c d : ℕ) where
     pub simplex_is_closed : IsClosedMesh at (simplex_facets a b c d)
     simplex_is_closed = closed_of at (simplex_facets a b c d) a b c d 0 refl simplex_is_sound
 
--- a simplex with volume above 0, turned about, is so too
+-- a simplex with volume above 0, reversed, is so too
 module _ (at : ℕ → Vector) (a b c d : ℕ) (h : pos 0 <ℤ vol (at a) (at b) (at c) (at d)) where
   pub turned_is_sound : IsSoundMesh at (simplex_facets a c b d) (middle_at at a b c d)
   turned_is_sound =
@@ -65,32 +65,32 @@ module _ (at : ℕ → Vector) (a b c d : ℕ) (h : pos 0 <ℤ vol (at a) (at b)
   pub turned_is_closed : IsClosedMesh at (simplex_facets a c b d)
   turned_is_closed = closed_of at (simplex_facets a c b d) a b c d 0 refl turned_is_sound
 
--- what is said of a new mesh
+-- the properties of a new mesh
 pub ruleset simplex_rules = (turned_is_sound, turned_is_closed, simplex_is_sound, simplex_is_closed)
 
 -- ---- a step
 module _ (old new : List StoredFacet) (vs : List ℕ) (p : ℕ) (made : List ℕ) (d : IsStep old new vs p made)
     (at : ℕ → Vector) where
-  -- it keeps a mesh sound
+  -- a step keeps a mesh sound
   pub step_is_sound : (o : Weighted) → IsSoundMesh at old o → AreVisible at old vs p → IsSoundMesh at new o
   step_is_sound o z v = replace_keeps (surface_of old) (surface_of new) (weighted_at at) o p z.0 z.1 (rewired old new vs p made d at o z v)
 
   module _ (s t u v : ℕ) (z : IsSoundMesh at old (middle_at at s t u v)) (visible : AreVisible at old vs p) where
-    -- if it left no facet, all would see p
+    -- if no facet remained, all would see p
     all_seen : (surface_of new).live ≡ [] → (f : ℕ) → In f (surface_of old).live → pos 0 <ℤ facet_vol at old f (at p)
     all_seen e f i = elim (cases_Bool (is_listed vs f)) [
       | inl l ↦ visible.seen f (live_in old f i) l
       | inr l ↦ absurd (subst (In f) e (in_live new f (d.replaced.kept f (record { live = live_in old f i; unlisted = l })).live))
     ]
 
-    -- so it leaves one
+    -- so a facet remains
     step_leaves : (fs : List ℕ) → (surface_of new).live ≡ fs → (f : ℕ) × IsLive new f
     step_leaves [] e = absurd (not_less (signed_volume at (triples_of (surface_of old)) (at p)) (pos 0)
         ((closed_of at old s t u v (slice_index vs 0) (d.facets.live 0 0 visible.some) z).volume (at p))
         (seen_volume at (surface_of old) (at p) (surface_of old).live (all_seen e)))
     step_leaves (f ∷ fs) e = (f, live_in new f (subst (In f) (sym e) (inl refl)))
 
-    -- and a closed mesh
+    -- and the mesh is closed
     pub step_is_closed : IsClosedMesh at new
     step_is_closed = let f = step_leaves (surface_of new).live refl in
         closed_of at new s t u v f.0 f.1 (step_is_sound (middle_at at s t u v) z visible)

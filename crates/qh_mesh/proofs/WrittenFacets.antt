@@ -1,4 +1,4 @@
--- What the loops of a replacement have written after one turn more.
+-- The writes of the loops of a replacement after one more turn.
 use Rattle.std.proofs.Common.{slice_index, ◌≡◌, ◌≢◌, ℕ, ◌+◌, ◌/◌, ◌<◌, arith, ap, sym, ◌∙◌, refl, subst, cond, ◌⊎◌, inl, inr, List, length, get_or, set}
 use Rattle.std.proofs.lemmas.List.{get_or-set_same, get_or-set_other, length-set, Sums.sum_by-set}
 use Rattle.qh_model.specs.contract.StoredSurface.{StoredFacet, facet_at, no_facet}
@@ -7,7 +7,7 @@ use Rattle.qh_mesh.specs.{contract.Edges.edge_of, contract.Edges.side_of_edge, c
 use Rattle.qh_mesh.specs.steps.{Cones.bare, Cones.Joined, Horizons.side_at, Kept.is_live, Kept.outer_of, Kept.with_twin, Writes.Scattered}
 use Rattle.qh_mesh.proofs.{EdgeSides.edge_is, NumberCases.same_or, NumberCases.below_next}
 
--- one more write, at a place of its own
+-- one more write, at a new position
 pub scattered_more : {X : Type 0} (d : X) (old xs : List X) (p : ℕ → ℕ) (Q : ℕ → X → Type 0) (k : ℕ) (y : X)
     → Scattered d old xs p Q k → p k < length old → ((j : ℕ) → j < k → p j ≢ p k) → Q k y → Scattered d old (set xs (p k) y) p Q (k + 1)
 scattered_more d old xs p Q k y s l n q = record {
@@ -18,7 +18,7 @@ scattered_more d old xs p Q k y s l n q = record {
   others = λ f o. get_or-set_other xs (p k) f y d (λ e. o k (omega arith) (sym e)) ∙ s.others f (λ j h. o j (omega arith));
 }
 
--- another half-edge across a side is across no other
+-- a new half-edge across a side changes no other side
 other_side : (t : StoredFacet) (e : ℕ) (s r : Side) → (s ≡ r) ⊎ (outer_of (with_twin t s e) r ≡ outer_of t r)
 other_side t e first = elim [ first ↦ inl refl | second ↦ inr refl | third ↦ inr refl ]
 other_side t e second = elim [ first ↦ inr refl | second ↦ inl refl | third ↦ inr refl ]
@@ -28,19 +28,19 @@ own_side : (t : StoredFacet) (e : ℕ) (s : Side) → outer_of (with_twin t s e)
 own_side t e = elim [ first ↦ refl | second ↦ refl | third ↦ refl ]
 
 module _ (fs : List StoredFacet) (e v : ℕ) (l : e / 3 < length fs) where
-  -- the facet of the edge, with another twin of it
+  -- the facet of the edge, with a new twin of the edge
   abbrev turned : StoredFacet
   turned = with_twin (facet_at fs (e / 3)) (side_of_edge e) v
 
   abbrev joined : List StoredFacet
   joined = set fs (e / 3) turned
 
-  -- the edge has it
+  -- the edge has this twin
   twin_here : twin_of joined e ≡ v
   twin_here = ap (λ t. outer_of t (side_of_edge e)) (get_or-set_same fs (e / 3) turned no_facet l)
       ∙ own_side (facet_at fs (e / 3)) v (side_of_edge e)
 
-  -- no other edge has
+  -- the twins of other edges are unchanged
   twin_elsewhere : (x : ℕ) → e ≢ x → twin_of joined x ≡ twin_of fs x
   twin_elsewhere x n = let t = facet_at fs (e / 3) in let r = side_of_edge x in elim (same_or (x / 3) (e / 3)) [
     | inl h ↦ elim (other_side t v (side_of_edge e) r) [
@@ -51,7 +51,7 @@ module _ (fs : List StoredFacet) (e v : ℕ) (l : e / 3 < length fs) where
     | inr h ↦ ap (λ t. outer_of t r) (get_or-set_other fs (e / 3) (x / 3) turned no_facet h)
   ]
 
-  -- the facets stay as they were
+  -- the facets are otherwise unchanged
   bare_same : (f : ℕ) → bare (facet_at joined f) ≡ bare (facet_at fs f)
   bare_same f = elim (same_or f (e / 3)) [
     | inl h ↦ ap (λ g. bare (facet_at joined g)) h ∙ ap bare (get_or-set_same fs (e / 3) turned no_facet l)

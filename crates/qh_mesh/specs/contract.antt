@@ -1,4 +1,4 @@
--- What else the contracts of public functions cite.
+-- Further definitions that the contracts of public functions cite.
 pub mod Edges
 pub mod LiveNumbers
 pub mod Names

@@ -1,4 +1,4 @@
-//! The cone over a horizon, and how it is joined to the facets that stay.
+//! The cone over a horizon, and its connection to the remaining facets.
 ghost use Rattle.std.specs.Prelude.{All, ◌≡◌, ◌≢◌, ◌+◌, ◌*◌, ◌<◌, ◌^◌, ℕ, List, ◌++◌, length, true, slice_index, slice_set};
 ghost use Rattle.qh_model.specs.headline.Sets.{Once};
 ghost use Rattle.qh_model.specs.contract.StoredSurface.{facet_at};
@@ -12,7 +12,7 @@ use crate::facets::{EdgeNo, Facet, FacetSide};
 use crate::slots::{End, Slot, Table, is_noted, mate};
 use qh_model::FacetNo;
 
-/// Puts another half-edge across a half-edge.
+/// Sets the twin of a half-edge.
 fn set_twin(facets: &mut [Facet], e: EdgeNo, twin: u32)
     requires { facet_of e < length facets.old }
     ensures { facets.new ≡ slice_set facets.old (facet_of e) (with_twin (facet_at facets.old (facet_of e)) (side_of_edge e) twin) }
@@ -30,8 +30,8 @@ fn edge_at(made: &[FacetNo], j: usize, side: usize) -> u32
     EdgeNo::of(made[j], side).number()
 }
 
-/// Gives each half-edge across the horizon its twin in the cone. Returns true if the table names each side
-/// at both of its corners, so that no two start and no two end at one.
+/// Sets the twin of each half-edge across the horizon to the side of its facet in the cone. Returns true if the table
+/// names each side at both of its corners, so that no two sides start and no two end at one corner.
 #[tactic(auto, using(crate::proofs::WrittenFacets::joined_more))]
 pub fn join_outer(
     facets: &mut [Facet],
@@ -56,7 +56,7 @@ pub fn join_outer(
     are_noted
 }
 
-/// Writes the facets of the cone, each beside those over the sides of the horizon that meet its own.
+/// Writes the facets of the cone, each linked to the facets over the adjacent sides of the horizon.
 pub fn write_cone(
     facets: &mut [Facet],
     table: Table,

@@ -1,4 +1,4 @@
-//! The numbers of the sides of facets, and how a facet is kept.
+//! The numbers of the sides of facets, and the storage of a facet.
 ghost use Rattle.std.specs.Prelude.{◌≡◌, ◌+◌, ◌*◌, ◌<◌, ◌^◌, map, [], ◌∷◌};
 ghost use Rattle.qh_model.specs.contract.StoredSurface.{named_facet, no_facet};
 ghost use Rattle.qh_mesh.specs.contract.Edges.{edge_of, facet_of, nth_side, side_of_edge};
@@ -8,8 +8,8 @@ ghost use Rattle.qh_mesh.specs.steps.Kept.{facet_from, outer_of, removed, side_o
 use qh_model::{FacetNo, Id};
 use std::marker::Model;
 
-/// The number of a side of a facet, a half-edge: that of the facet times three, and 0, 1 or 2. It goes
-/// from that corner of the facet to the next.
+/// The number of a side of a facet, a half-edge: three times the number of the facet, plus 0, 1 or 2. It runs from that
+/// corner of the facet to the next.
 ///
 /// A contract sees it as a number.
 #[derive(Clone, Copy, Debug, PartialEq, Eq, Drop)]
@@ -36,7 +36,7 @@ impl EdgeNo {
         EdgeNo(3 * facet.index() + side)
     }
 
-    /// Returns its number, as a mesh keeps it.
+    /// Returns the number, as a mesh stores it.
     pub(crate) fn number(self) -> u32
         requires { self < 2 ^ 32 }
         ensures { result ≡ self }
@@ -44,14 +44,14 @@ impl EdgeNo {
         self.0 as u32
     }
 
-    /// Returns its facet.
+    /// Returns the facet of the half-edge.
     pub(crate) fn facet(self) -> FacetNo
         ensures { result ≡ facet_of self }
     {
         FacetNo::new(self.0 / 3)
     }
 
-    /// Returns which side of its facet it is: 0, 1 or 2.
+    /// Returns the index of the side in its facet: 0, 1 or 2.
     pub(crate) fn side(self) -> usize
         ensures side { nth_side result ≡ side_of_edge self }
         ensures inside { result < 3 }
@@ -84,8 +84,8 @@ impl FacetSide {
     }
 }
 
-/// A facet as a mesh keeps it, in 28 bytes: its corners, counterclockwise seen from outside, and the
-/// half-edge across each of its sides. A place of no facet is not live.
+/// A facet as a mesh stores it, in 28 bytes: its corners, counterclockwise seen from outside, and the half-edge across
+/// each of its sides. A free place is not live.
 #[derive(Clone, Copy)]
 pub struct Facet {
     i: u32,
@@ -127,7 +127,7 @@ impl Facet {
         }
     }
 
-    /// Returns what a place of no facet keeps: it is not live.
+    /// Returns the content of a free place, which is not live.
     pub fn none() -> Facet
         ensures { result ≡ no_facet }
     {
@@ -140,14 +140,14 @@ impl Facet {
         }
     }
 
-    /// Returns true if it is one of the surface.
+    /// Returns true if the facet is part of the surface.
     pub fn is_live(self) -> bool
         ensures { result ≡ self.live }
     {
         self.live
     }
 
-    /// Returns the facet, no longer live.
+    /// Returns the facet, marked as no longer live.
     pub fn removed(self) -> Facet
         ensures { result ≡ removed self }
     {
@@ -185,7 +185,7 @@ impl Facet {
         EdgeNo(self.twins[number] as usize)
     }
 
-    /// Puts another half-edge across its side 0, 1 or 2.
+    /// Sets the half-edge across its side 0, 1 or 2.
     pub fn set_twin(&mut self, number: usize, twin: u32)
         requires { number < 3 }
         ensures { self.new ≡ with_twin self.old (nth_side number) twin }
@@ -193,8 +193,8 @@ impl Facet {
         self.twins[number] = twin;
     }
 
-    /// Returns the facet with the names of its corners in a list of ids: corner l becomes the id at
-    /// position l. A corner past the end of the list stays.
+    /// Returns the facet with its corners replaced by ids of a list: corner l becomes the id at position l. A corner
+    /// past the end of the list is unchanged.
     pub fn named(self, ids: &[Id]) -> Facet
         ensures { result ≡ named_facet (name_in ids.now) self }
     {
@@ -206,7 +206,7 @@ impl Facet {
     }
 }
 
-/// Returns the id at a position, or the position itself where the list has none.
+/// Returns the id at a position, or the position itself if the list has no id there.
 fn name_at(ids: &[Id], position: u32) -> u32
     ensures { result ≡ name_in ids.now position }
 {
@@ -216,7 +216,7 @@ fn name_at(ids: &[Id], position: u32) -> u32
     }
 }
 
-/// Gives the corners of each facet their names in a list of ids.
+/// Replaces the corners of each facet by ids of a list.
 pub fn name_all(facets: &mut [Facet], ids: &[Id])
     ensures { facets.new ≡ map (named_facet (name_in ids.now)) facets.old }
 {

@@ -1,4 +1,4 @@
-//! The horizon of removed facets: their sides across which a facet stays.
+//! The horizon of removed facets: their sides across which a facet remains.
 ghost use Rattle.std.specs.Prelude.{All, ◌≡◌, ◌+◌, ◌*◌, ◌<◌, ◌≤◌, length, filter, [], ◌∷◌, ◌++◌, vec_len, vec_capacity};
 ghost use Rattle.qh_model.specs.contract.StoredSurface.{facet_at};
 ghost use Rattle.qh_mesh.specs.contract.Edges.{facet_of};
@@ -7,8 +7,8 @@ ghost use Rattle.qh_mesh.specs.steps.Horizons.{is_open, open_sides, HasSidesInsi
 use crate::facets::{Facet, FacetSide};
 use qh_model::FacetNo;
 
-/// Adds a side to the horizon if a live facet lies across it. It is noted in any case, since which sides
-/// are open can't be foreseen: a count costs less than a wrong guess.
+/// Adds a side to the horizon if a live facet lies across it. The side is always pushed, then popped if it is not
+/// needed: which sides are open is unpredictable, and changing a count costs less than a mispredicted branch.
 fn add_side(facets: &[Facet], side: FacetSide, horizon: &mut Vec<FacetSide>)
     requires outer { facet_of side.outer < length facets.now }
     requires room { vec_len horizon.old < vec_capacity horizon.old }

@@ -1,4 +1,4 @@
-//! The walk over the live facets.
+//! The iterator over the live facets.
 ghost use Rattle.std.specs.Prelude.{◌≡◌, ◌<◌, ◌≤◌, length};
 ghost use Rattle.std.specs.Iterator.{YieldsFirst, item_count};
 ghost use Rattle.qh_mesh.specs.contract.LiveNumbers.{live_after};
@@ -9,7 +9,7 @@ use crate::mesh::Mesh;
 use qh_model::FacetNo;
 use std::marker::Model;
 
-/// The numbers of the live facets that are left, rising. From [`Mesh::live`].
+/// The numbers of the remaining live facets, rising. From [`Mesh::live`].
 #[derive(Drop)]
 pub struct Live<'a> {
     mesh: &'a Mesh,
@@ -25,7 +25,7 @@ impl<'a> Model for Live<'a> {
     ghost view = { λ l. live_after l.mesh.now l.next };
 }
 
-/// Returns the first live facet from a number on, or the number of places.
+/// Returns the first live facet whose number is at least `from`, or the number of places.
 fn first_live(mesh: &Mesh, from: usize) -> usize
     ensures same { live_after mesh.now from ≡ live_after mesh.now result }
     ensures live { result < length mesh.now → IsLive mesh.now result }

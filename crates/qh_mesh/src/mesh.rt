@@ -1,4 +1,4 @@
-//! The mesh, its questions, and how it is made and grows.
+//! The mesh: its creation, its accessors and its growth.
 ghost use Rattle.std.specs.Prelude.{◌≡◌, ◌≢◌, ◌<◌, length, map, max, OnErr, IfOk, pos, [], ◌∷◌, ℕ, ◌<ℤ◌};
 ghost use Rattle.qh_model.specs.headline.Predicates.{vol, place};
 ghost use Rattle.qh_model.specs.headline.Vector.{Vector};
@@ -30,9 +30,9 @@ use std::mem;
 #[derive(Drop)]
 pub struct Mesh {
     facets: Vec<Facet>,
-    /// The places of no facet.
+    /// The free places.
     free: Vec<FacetNo>,
-    /// What replacements use.
+    /// Memory for replacements.
     scratch: Scratch,
 }
 
@@ -49,9 +49,9 @@ impl Model for Mesh {
 }
 
 impl Mesh {
-    /// Returns the four triangles of the points a, b, c and d, turned outward.
+    /// Returns the four triangles of the points a, b, c and d, oriented outward.
     ///
-    /// `Err` says that an allocation failed.
+    /// `Err` means that an allocation failed.
     #[tactic(auto, using(crate::proofs::SoundMeshes::simplex_rules))]
     pub fn simplex(alloc: Global, pts: &[Point], a: Id, b: Id, c: Id, d: Id) -> Result<Mesh, Memory>
         requires a_in { a < length pts.now }
@@ -88,15 +88,15 @@ impl Mesh {
         })
     }
 
-    /// Asks for room for `facets` more facets, so that the mesh need not move while it grows. Where it is
-    /// refused, the mesh grows step by step.
+    /// Reserves room for `facets` more facets, so that the mesh need not be moved while it grows. If the allocation
+    /// fails, the mesh grows step by step.
     pub fn ask_for_room(&mut self, facets: usize)
         ensures { self.new ≡ self.old }
     {
         let _ = self.facets.reserve(facets);
     }
 
-    /// Returns the number of places, free ones with them: facet numbers are below it.
+    /// Returns the number of places, including free ones. Facet numbers are below it.
     pub fn places(&self) -> usize
         ensures { result ≡ length self.now }
     {
@@ -110,7 +110,7 @@ impl Mesh {
         Live::of(self)
     }
 
-    /// Returns true if the place, below [`Mesh::places`], is that of a facet.
+    /// Returns true if the place, below [`Mesh::places`], has a facet.
     pub fn is_live(&self, f: FacetNo) -> bool
         requires { f < length self.now }
         ensures { result ≡ (facet_at self.now f).live }
@@ -118,7 +118,7 @@ impl Mesh {
         self.facets[f.index()].is_live()
     }
 
-    /// Returns a live facet as the mesh keeps it.
+    /// Returns a live facet as the mesh stores it.
     fn kept(&self, f: FacetNo) -> Facet
         requires { IsLive self.now f }
         ensures facet { result ≡ facet_at self.now f }
@@ -153,7 +153,7 @@ impl Mesh {
         e.facet()
     }
 
-    /// Returns the corner of a live facet across from one of its edges.
+    /// Returns the corner of a live facet that is opposite to one of its edges.
     pub fn opposite(&self, e: EdgeNo) -> Id
         requires { IsLive self.now (facet_of e) }
         ensures { result ≡ rest (surface_of self.now) (facet_of e) (side_of_edge e) }
@@ -189,7 +189,7 @@ impl Mesh {
         self.kept(f).across(side)
     }
 
-    /// Returns the edge of the neighbour that runs against an edge of a live facet.
+    /// Returns the twin of an edge of a live facet, which belongs to the neighbour.
     pub fn twin(&self, e: EdgeNo) -> EdgeNo
         requires { IsLive self.now (facet_of e) }
         ensures twin { result ≡ twin_of self.now e }
@@ -201,12 +201,12 @@ impl Mesh {
         self.across(e.facet(), e.side())
     }
 
-    /// Takes the visible facets away and puts the cone from the apex over their horizon. Its facets are
-    /// listed in the order of the horizon: the visible facets as listed, of each the sides 0, 1 and 2
-    /// across which a facet stays.
+    /// Removes the visible facets and adds the cone from the apex to their horizon. The facets of the cone are listed
+    /// in the order of the horizon: the visible facets in their order, and of each the sides 0, 1 and 2 across which a
+    /// facet remains.
     ///
-    /// `Err` says that an allocation failed, or that half-edges would have numbers past 32 bits: the mesh is
-    /// as before.
+    /// `Err` means that an allocation failed, or that half-edges would have numbers past 32 bits. Then the mesh is
+    /// unchanged.
     pub fn replace(
         &mut self,
         alloc: Global,
@@ -252,16 +252,16 @@ impl Mesh {
         Ok(mem::replace(&mut self.scratch.made, Vec::new(alloc)))
     }
 
-    /// Takes the memory of a list of facets, such as one that [`Mesh::replace`] returned, so that its next
-    /// list needs no new memory. The surface stays as it is.
+    /// Takes over the memory of a list of facets, such as one that [`Mesh::replace`] returned, so that its next list
+    /// needs no new memory. The surface is unchanged.
     pub fn take_room(&mut self, list: Vec<FacetNo>)
         ensures { self.new ≡ self.old }
     {
         self.scratch.made = list;
     }
 
-    /// Gives the corners, which are positions of a list, their names in it: corner l becomes the id at
-    /// position l. A corner past the end of the list stays.
+    /// Replaces the corners, which are positions of a list, by its ids: corner l becomes the id at position l. A corner
+    /// past the end of the list is unchanged.
     pub fn name_corners(&mut self, ids: &[Id])
         ensures { self.new ≡ map (named_facet (name_in ids.now)) self.old }
     {

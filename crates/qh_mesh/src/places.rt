@@ -26,7 +26,7 @@ pub fn remove(facets: &mut [Facet], free: &mut Vec<FacetNo>, visible: &[FacetNo]
     }
 }
 
-/// Allocates a free place, or else a new one at the end.
+/// Allocates a free place, or a new one at the end if there is no free place.
 #[tactic(auto, using(crate::proofs::Pools::pool_pops, crate::proofs::Pools::pool_grows))]
 fn allocate(facets: &mut Vec<Facet>, free: &mut Vec<FacetNo>, made: &mut Vec<FacetNo>)
     requires pool { IsPool facets.old.items (made.old.items ++ reverse free.old.items) }
@@ -50,8 +50,8 @@ fn allocate(facets: &mut Vec<Facet>, free: &mut Vec<FacetNo>, made: &mut Vec<Fac
     }
 }
 
-/// Allocates a place for the facet over each side of a horizon: free ones first, then new ones at the end. Each
-/// side is noted at its corners on the way.
+/// Allocates a place for the facet over each side of a horizon: free places first, then new ones at the end. Each side
+/// is entered in the table at its corners.
 pub fn allocate_all(
     facets: &mut Vec<Facet>,
     free: &mut Vec<FacetNo>,

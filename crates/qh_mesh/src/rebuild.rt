@@ -1,4 +1,4 @@
-//! A replacement, once there is room for it.
+//! A replacement, after room for it has been reserved.
 ghost use Rattle.std.specs.Prelude.{◌≡◌, ◌+◌, ◌*◌, ◌≤◌, length, reverse, [], vec_len, vec_capacity};
 ghost use Rattle.qh_mesh.specs.contract.Replacement.{AreFacets};
 ghost use Rattle.qh_mesh.specs.steps.Places.{IsPool};
@@ -14,7 +14,7 @@ use crate::room::Scratch;
 use crate::slots::{Slot, Table};
 use qh_model::FacetNo;
 
-/// Takes the visible facets away and notes their horizon.
+/// Removes the visible facets and records their horizon.
 #[tactic(auto, using(crate::proofs::HorizonSides::sides_inside, crate::proofs::HorizonSides::gathered))]
 fn clear(
     facets: &mut [Facet],
@@ -36,7 +36,7 @@ fn clear(
     gather(facets, visible, horizon);
 }
 
-/// Puts the cone from the apex over the horizon into its places.
+/// Writes the cone from the apex to the horizon into its places.
 fn close(facets: &mut [Facet], slots: &[Slot], horizon: &[FacetSide], made: &[FacetNo], apex: u32)
     requires { IsReady facets.old horizon.now made.now }
     ensures { IsConed facets.old facets.new horizon.now made.now apex }
@@ -46,7 +46,7 @@ fn close(facets: &mut [Facet], slots: &[Slot], horizon: &[FacetSide], made: &[Fa
     write_cone(facets, table, horizon, made, apex);
 }
 
-/// Takes the visible facets away, notes their horizon and allocates places for the cone over it.
+/// Removes the visible facets, records their horizon and allocates places for the cone.
 #[tactic(auto, using(crate::proofs::Pools::few_free))]
 fn prepare(
     facets: &mut Vec<Facet>,
@@ -71,8 +71,7 @@ fn prepare(
     );
 }
 
-/// Takes the visible facets away and puts the cone from the apex over their horizon. The facets of the
-/// cone are listed.
+/// Removes the visible facets and adds the cone from the apex to their horizon. The facets of the cone are listed.
 pub fn rebuild(
     facets: &mut Vec<Facet>,
     free: &mut Vec<FacetNo>,

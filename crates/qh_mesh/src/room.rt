@@ -1,4 +1,4 @@
-//! Room for a replacement, which is made before the mesh changes.
+//! Room for a replacement, which is reserved before the mesh changes.
 ghost use Rattle.std.specs.Prelude.{◌≡◌, ◌↔◌, IsTrue, ◌+◌, ◌*◌, ◌^◌, ◌≤◌, ◌<◌, OnOk};
 ghost use Rattle.qh_model.specs.declared.limits.TheConstants.{POINT_LIMIT};
 ghost use Rattle.qh_mesh.specs.steps.Rooms.{HasRoom, IsBlank};
@@ -8,7 +8,7 @@ use crate::slots::Slot;
 use qh_model::FacetNo;
 use std::alloc::{AllocError, Global};
 
-/// More places than this have half-edges whose numbers don't fit 32 bits.
+/// The greatest number of places for which the numbers of half-edges fit 32 bits.
 const PLACES: usize = 1_431_655_765;
 
 /// Memory that a replacement uses, and that a mesh keeps for the next one.
@@ -23,7 +23,7 @@ pub struct Scratch {
 }
 
 impl Scratch {
-    /// Creates a scratch without memory.
+    /// Creates an empty scratch.
     pub fn new(alloc: Global) -> Scratch {
         Scratch {
             slots: Vec::new(alloc),
@@ -35,8 +35,8 @@ impl Scratch {
 
 /// Returns true if the half-edges of `places + more` places have numbers that fit 32 bits.
 ///
-/// By Euler's formula a hull of n points has fewer than 2n triangles. A replacement asks for room for at most
-/// twice their number, so that the half-edges of `POINT_LIMIT` points have numbers that fit.
+/// By Euler's formula a hull of n points has fewer than 2n triangles. A replacement reserves room for at most twice
+/// their number, so the numbers of the half-edges of `POINT_LIMIT` points fit.
 fn are_numbered(places: usize, more: usize) -> bool
     ensures exact { IsTrue result ↔ (3 * (places + more) < 2 ^ 32) }
     ensures hull { places + more ≤ 3 * (2 * POINT_LIMIT) → IsTrue result }
@@ -44,7 +44,7 @@ fn are_numbered(places: usize, more: usize) -> bool
     places <= PLACES && more <= PLACES - places
 }
 
-/// Makes room for what a replacement of `count` facets can need.
+/// Reserves the room that a replacement of `count` facets can need.
 pub fn make_room(
     facets: &mut Vec<Facet>,
     free: &mut Vec<FacetNo>,

@@ -1,18 +1,18 @@
-//! The order of the horizon's sides, by a table of the corners.
+//! The order of the horizon's sides, by a table indexed by corners.
 ghost use Rattle.std.specs.Prelude.{◌≡◌, ◌+◌, ◌<◌, length, true};
 ghost use Rattle.qh_mesh.specs.steps.Horizons.{AreNoted, IsBalanced, IsMate, corner, other, rank, side_at, noted};
 
 use crate::facets::FacetSide;
 
-/// The sides of a horizon at a corner, by their places in its list: the last one noted that starts
-/// there, and the last one that ends there. Entries from earlier calls are stale.
+/// The sides of a horizon at a corner, by their positions in its list: the last entered side that starts there, and the
+/// last that ends there. Entries from earlier calls are stale.
 #[derive(Clone, Copy, Drop)]
 pub struct Slot {
     pub starting: u32,
     pub ending: u32,
 }
 
-/// The table of the corners, after the sides of a horizon were noted in it.
+/// The table of the corners, after the sides of a horizon were entered.
 #[derive(Clone, Copy, Drop)]
 pub struct Table<'a> {
     /// A slot for each corner.
@@ -52,7 +52,7 @@ fn corner(side: FacetSide, end: End) -> u32
     }
 }
 
-/// Notes a side at its corners.
+/// Enters a side at its corners.
 pub fn note(slots: &mut [Slot], side: FacetSide, j: u32) {
     if let Some(slot) = slots.get_mut(side.from as usize) {
         slot.starting = j;

@@ -10,7 +10,7 @@ use Rattle.qh_model.specs.laws.CutLaws.{IsInBlock, BlocksCover, BlocksAreApart, 
 below_end : (m size n j : ℕ) → n * size < m + size → j < n → j * size < m
 below_end m size n j up h = let next : j + 1 ≤ n = grind (arith, h) in grind (arith, up, mul-le (j + 1) size n size next (le_refl size))
 
--- multiples of the size and then m are an even cut
+-- the multiples of the size, and then m, are an even cut
 pub even_cut : (m size n : ℕ) (xs : List ℕ) → 0 < size → n ≡ blocks_of m size → length xs ≡ n
     → ((k : ℕ) → k < n → bound xs k ≡ k * size) → IsEvenCut m size (xs ++ m ∷ [])
 even_cut m size n xs p is len each =
@@ -20,7 +20,7 @@ even_cut m size n xs p is len each =
     let outer : bound (xs ++ m ∷ []) n ≡ min (n * size) m = grind (arith, cover, is, len, get_or-append_seam xs m [] 0) in
     record { count = grind (arith, common_steps); each = λ j h. grind (arith, inner, outer, common_steps) }
 
--- an even cut of some positions into not too many blocks is a cut
+-- an even cut of some positions into at most the limit of blocks is a cut
 pub even_is_cut : (m size : ℕ) (bounds : List ℕ) → 0 < m → m ≤ POINT_LIMIT → 0 < size → blocks_of m size ≤ BLOCK_LIMIT → IsEvenCut m size bounds → IsCut bounds
 even_is_cut m size bounds p q s few even =
     let n : ℕ = blocks_of m size in
@@ -55,7 +55,7 @@ bounds_rise b n i (suc k) rises h =
     let step : b (i + k) < b (i + k + 1) = rises (i + k) (grind (arith, h)) in
     grind (arith, before, step)
 
--- one bound is not below an earlier one
+-- a bound is not below an earlier bound
 pub bounds_order : (b : ℕ → ℕ) (n i j : ℕ) → ((k : ℕ) → k < n → b k < b (k + 1)) → i ≤ j → j ≤ n → b i ≤ b j
 bounds_order b n i j rises h l =
     let gap : i + (j - i) ≡ j = grind (arith, h) in

@@ -1,4 +1,4 @@
--- Facts of the distinct ids of a list of points.
+-- Facts about the distinct ids of a list of points.
 use Rattle.std.proofs.Common.{ℕ, zero, suc, ◌+◌, ◌<◌, ◌≤◌, List, [], ◌∷◌, length, get_or, add-one, arith, sym, All}
 use Rattle.std.proofs.lemmas.List.Elements.{All-from_get_or}
 use Rattle.std.specs.List.Sorted.{IsStrictlyIncreasing}
@@ -6,11 +6,11 @@ use Rattle.qh_model.specs.contract.IdSets.{HasDistinctPoints}
 use Rattle.qh_model.specs.headline.{DistinctIds.AreDistinctIds, Predicates.place, Sets.In, Sets.Members, Vector.Vector}
 use Rattle.qh_model.proofs.Members.{In-get_or, in_at}
 
--- they are indices of points
+-- distinct ids are indices of points
 pub ids_within : (pts : List Vector) (ids : List ℕ) → AreDistinctIds pts ids → All (λ i. i < length pts) ids
 ids_within pts ids d = All-from_get_or (λ i. i < length pts) ids 0 (λ k h. ((d.members (get_or ids k 0)).0 (In-get_or ids k 0 h)).0)
 
--- where there is a point there is one
+-- a list with a point has a distinct id
 pub some_id : (pts : List Vector) (ids : List ℕ) → AreDistinctIds pts ids → 0 < length pts → 0 < length ids
 some_id pts ids d h = let r = in_at ids 0 ((d.members 0).1 (h, λ j l. absurd (omega (arith, l)))) in omega (arith, r.1)
 
@@ -30,11 +30,11 @@ few_below n (x ∷ xs) r below =
     let small : get_or (x ∷ xs) (length xs) 0 < n = below _ (In-get_or (x ∷ xs) (length xs) 0 (omega arith)) in
     omega (arith, last, small)
 
--- so the number of distinct ids is at most that of the points
+-- the number of distinct ids is at most the number of points
 pub few_ids : (pts : List Vector) (ids : List ℕ) → AreDistinctIds pts ids → length ids ≤ length pts
 few_ids pts ids d = few_below (length pts) ids d.rising (λ i m. ((d.members i).0 m).0)
 
--- they have distinct points
+-- distinct ids have distinct points
 pub distinct_apart : (pts : List Vector) (ids : List ℕ) → AreDistinctIds pts ids → HasDistinctPoints (place pts) (Members ids)
 distinct_apart pts ids d i j m n e =
     let below : i < j → ⊥ = λ h. ((d.members j).0 n).1 i h e in

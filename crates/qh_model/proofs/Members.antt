@@ -1,22 +1,22 @@
--- Members of lists: by index, by the words of std, in lists of rising numbers, and under facts of each member.
+-- Members of lists: by index, by the predicates of std, in lists of rising numbers, and facts about each member.
 use Rattle.std.proofs.Common.{◌∙◌, ℕ, zero, suc, ◌<◌, List, [], ◌∷◌, ◌++◌, length, add-one, arith, refl, sym, subst, inl, inr, All, get_or, ◌≡◌, IsPermutation}
 use Rattle.std.proofs.lemmas.List.{get_or_default, Elements.All-append, Elements.All-head, Elements.All-tail, Elements.All-from_recursion}
 use Rattle.std.proofs.lemmas.List.Sorted.{Contains-permutation}
 use Rattle.std.specs.List.{AllByRecursion as Every, Contains, Sorted.IsStrictlyIncreasing}
 use Rattle.qh_model.specs.headline.Sets.{In, Once}
 
--- what holds of each element holds of a member
+-- a fact about each element holds for a member
 pub All-In : {X : Type 0} (P : X → Type 0) (xs : List X) (x : X) → All P xs → In x xs → P x
 All-In P [] x all h = absurd h
 All-In P (y ∷ ys) x all (inl e) = subst P (sym e) (All-head P y ys all)
 All-In P (y ∷ ys) x all (inr h) = All-In P ys x (All-tail P y ys all) h
 
--- what holds of the first and of the rest holds of each member
+-- a fact about the first element and about the rest holds for each member
 pub each_more : {X : Type 0} (P : X → Type 0) (x : X) (xs : List X) → P x → ((y : X) → In y xs → P y) → (y : X) → In y (x ∷ xs) → P y
 each_more P x xs p r y (inl e) = subst P (sym e) p
 each_more P x xs p r y (inr i) = r y i
 
--- what holds of three holds of each of them
+-- a fact about three elements holds for each of them
 pub each_of_three : {X : Type 0} (P : X → Type 0) (x y z : X) → P x → P y → P z → (l : X) → In l (x ∷ y ∷ z ∷ []) → P l
 each_of_three P x y z p q r = each_more P x (y ∷ z ∷ []) p (each_more P y (z ∷ []) q (each_more P z [] r (λ l n. absurd n)))
 
@@ -26,69 +26,69 @@ In-get_or [] k d h = absurd (omega arith)
 In-get_or (x ∷ xs) zero d h = inl refl
 In-get_or (x ∷ xs) (suc k) d h = inr (In-get_or xs k d (omega arith))
 
--- a member, in the word of std
+-- a member of the list satisfies the predicate of std
 pub to_contains : {X : Type 0} (xs : List X) (x : X) → In x xs → Contains xs x
 to_contains [] x m = absurd m
 to_contains (y ∷ xs) x (inl e) = (0, omega arith, sym e)
 to_contains (y ∷ xs) x (inr m) = let r = to_contains xs x m in let h = r.1 in (suc r.0, omega arith, r.2)
 
--- a member stands at an index
+-- a member has an index
 pub in_at : (xs : List ℕ) (x : ℕ) → In x xs → (k : ℕ) × (k < length xs) × (get_or xs k 0 ≡ x)
 in_at xs x m = let r = to_contains xs x m in (r.0, r.1, get_or_default xs r.0 0 x r.1 ∙ r.2)
 
--- and back
+-- the converse
 pub of_contains : {X : Type 0} (xs : List X) (x : X) → Contains xs x → In x xs
 of_contains xs x c = subst (λ y. In y xs) c.2 (In-get_or xs c.0 x c.1)
 
--- a member of a list is one of the list in another order
+-- a member of a list is a member of the same list in another order
 pub in_permutation : {X : Type 0} (xs ys : List X) → IsPermutation xs ys → (x : X) → In x xs → In x ys
 in_permutation xs ys p x m = of_contains ys x (Contains-permutation xs ys x p (to_contains xs x m))
 
--- a rising list goes on rising after its first
+-- the rest of a rising list rises
 pub rising_tail : (x : ℕ) (xs : List ℕ) → IsStrictlyIncreasing (x ∷ xs) → IsStrictlyIncreasing xs
 rising_tail x xs h k l = rw (add-one k) (rw (add-one (suc k)) at (h (suc k) (omega arith)))
 
--- the first of a rising list is below the others
+-- the first element of a rising list is below the others
 pub rising_first : (x : ℕ) (xs : List ℕ) → IsStrictlyIncreasing (x ∷ xs) → (y : ℕ) → In y xs → x < y
 rising_first x [] h y i = absurd i
 rising_first x (z ∷ zs) h y (inl e) = let next : x < z = h 0 (omega arith) in omega (arith, next, e)
 rising_first x (z ∷ zs) h y (inr i) =
     let next : x < z = h 0 (omega arith) in let above : z < y = rising_first z zs (rising_tail x (z ∷ zs) h) y i in omega (arith, next, above)
 
--- each member of a rising list stands in it once
+-- each member of a rising list occurs once in it
 pub rising_once : (xs : List ℕ) → IsStrictlyIncreasing xs → Once xs
 rising_once [] h = tt
 rising_once (x ∷ xs) h = (λ i. let below : x < x = rising_first x xs h x i in omega (arith, below), rising_once xs (rising_tail x xs h))
 
--- what holds of each member holds of the list, by recursion
+-- a fact about each member holds for the list, by recursion
 pub every_of : {X : Type 0} (P : X → Type 0) (xs : List X) → ((x : X) → In x xs → P x) → Every P xs
 every_of P [] f = tt
 every_of P (x ∷ xs) f = (f x (inl refl), every_of P xs (λ y i. f y (inr i)))
 
--- and in the word of std
+-- the same with the predicate of std
 pub All-of : {X : Type 0} (P : X → Type 0) (xs : List X) → ((x : X) → In x xs → P x) → All P xs
 All-of P xs f = All-from_recursion P xs (every_of P xs f)
 
--- of an empty list all
+-- all members of an empty list satisfy any predicate
 pub all_none : {X : Type 0} (P : X → Type 0) (xs : List X) → xs ≡ [] → All P xs
 all_none P xs e = subst (All P) (sym e) (All-from_recursion P [] tt)
 
--- of one more at the end
+-- one more member at the end
 pub all_and : {X : Type 0} (P : X → Type 0) (xs : List X) (x : X) → All P xs → P x → All P (xs ++ x ∷ [])
 all_and P xs x h p = All-append P xs (x ∷ []) h (All-from_recursion P (x ∷ []) (p, tt))
 
--- what holds of a list by recursion holds of a member
+-- a fact about a list by recursion holds for a member
 pub every_at : {X : Type 0} (P : X → Type 0) (xs : List X) (x : X) → Every P xs → In x xs → P x
 every_at P (y ∷ ys) x h (inl e) = subst P (sym e) h.0
 every_at P (y ∷ ys) x h (inr m) = every_at P ys x h.1 m
 every_at P [] x h m = absurd m
 
--- what follows of each from what holds of each
+-- a consequence for each member, from a fact about each member
 pub every_map : {X : Type 0} (P Q : X → Type 0) (xs : List X) → ((x : X) → P x → Q x) → Every P xs → Every Q xs
 every_map P Q [] f h = tt
 every_map P Q (x ∷ xs) f h = (f x h.0, every_map P Q xs f h.1)
 
--- the same from two facts
+-- the same, from two facts
 pub every_zip : {X : Type 0} (P Q R : X → Type 0) (xs : List X) → ((x : X) → P x → Q x → R x) → Every P xs → Every Q xs → Every R xs
 every_zip P Q R [] f h k = tt
 every_zip P Q R (x ∷ xs) f h k = (f x h.0 k.0, every_zip P Q R xs f h.1 k.1)

@@ -28,7 +28,7 @@ many [] (z ∷ zs) e = cc
 many (w ∷ ws) [] e = cc
 many (w ∷ ws) (z ∷ zs) e = let rest : numbers ws ≡ map Some zs = cc in ap suc (many ws zs rest)
 
--- the first numbers of two files with the same words
+-- the first numbers of two files with the same words are equal
 same_first : (us bs xs ys : List Word) (m n : ℤ) (ms ns : List ℤ) → us ++ xs ≡ bs ++ ys → numbers us ≡ map Some (m ∷ ms)
     → numbers bs ≡ map Some (n ∷ ns) → m ≡ n
 same_first [] bs xs ys m n ms ns e f g = cc

@@ -1,8 +1,8 @@
--- A packed pair tells its halves, and its halves tell it.
+-- A packed pair determines its halves, and its halves determine it.
 use Rattle.std.proofs.Common.{◌≡◌, ◌<◌, ◌∙◌, ℕ, arith, ap, sym}
 use Rattle.qh_model.specs.{contract.Halves.packed, contract.Halves.halves, declared.keys.packed.TheConstants.HALF_ROOM}
 
--- pairs with one number are the same
+-- pairs with the same number are the same
 pub packed-same : (a b u v : ℕ) → b < HALF_ROOM → v < HALF_ROOM → packed a b ≡ packed u v → (a ≡ u) × (b ≡ v)
 packed-same a b u v h k e = (omega arith, omega arith)
 

@@ -70,7 +70,7 @@ whole ws h = let w = next_number _ ws h in let v = next_number _ w.rest w.clear 
         (λ n is. inr ((λ t. let at : is_three (pos 3) ≡ false = subst (λ (y : ℤ). is_three y ≡ false) t pe in cc), three b qe, is)) (counted long_fault a vs h)
     head w v vs a b e f false false pe qe h = cc
 
--- it is the file of some points, or it has a fault
+-- a byte string is the file of some points, or it has a fault
 pub one_or_other : (bytes : List ℕ) → ((ps : List Vector) × Reads bytes ps × (first_fault bytes ≡ None)) ⊎ ((f : ReadFault) × (first_fault bytes ≡ Some f))
 one_or_other bytes = list_or_fault (Reads bytes) (first_fault bytes) (small (nat_lt BYTE_LIMIT (length bytes)) refl)
   where
@@ -112,7 +112,7 @@ words_clear (w ∷ v ∷ ws) a b ps e header some few l =
     subst (λ (t : List Word). counted_fault long_fault (pos (length ps)) t ≡ None) (append-nil ws) (counted_clear long_fault ps ws [] rest some few l refl) in
     next_clear _ w (v ∷ ws) a head (next_clear _ v ws b next (headed_clear a b (length ps) ws header none))
 
--- and never both
+-- a byte string is never both
 pub never_both : (bytes : List ℕ) (ps : List Vector) → Reads bytes ps → first_fault bytes ≡ None
 never_both bytes ps r =
     subst (λ (b : Bool). cond b (Some Big) (words_fault (data_words bytes)) ≡ None) (sym (not_big (length bytes) r.small))

@@ -1,4 +1,4 @@
--- What the words of a file stand for: numbers, coordinates, a count with its points; and when they have no fault.
+-- The values of the words of a file: numbers, coordinates, a count with its points; and the condition that they have no fault.
 use Rattle.std.proofs.Common.{◌≡◌, [], ◌∷◌, ◌++◌, ◌*◌, ◌≤◌, ◌&&◌, ℕ, List, Bool, true, false, cond, refl, ap, sym, arith, zero, suc, length, map, subst, nat_lt}
 use Rattle.std.proofs.Common.{◌⊎◌, inl, inr}
 use Rattle.std.proofs.lemmas.Bool.{leb-true, le-leb, Decides.nat_tests}
@@ -33,7 +33,7 @@ same_points (p ∷ ps) (q ∷ qs) h =
 abbrev pub numbers : List Word → List (Option ℤ)
 numbers ws = map (λ w. number_of w.text) ws
 
--- the front of the words is k coordinates, and the rest has no fault
+-- the first words are k coordinates, and the rest has no fault
 pub record Filled (after : List Word → Option ReadFault) (ws : List Word) (k : ℕ) : Type 0 where
   pub front : List Word
   pub rest : List Word
@@ -44,7 +44,7 @@ pub record Filled (after : List Word → Option ReadFault) (ws : List Word) (k :
   pub limit : AllByRecursion IsCoordinate all
   pub clear : after rest ≡ None
 
--- a coordinate that has no fault, and what follows it
+-- a coordinate without a fault, and the words after it
 in_range : (w : Word) (after : Option ReadFault) → option_or (coordinate_fault (number_of w.text) w.line) after ≡ None
     → (z : ℤ) × (number_of w.text ≡ Some z) × IsCoordinate z × (after ≡ None)
 in_range w after h = by_option (number_of w.text) refl h
@@ -136,7 +136,7 @@ clear_more w z after e l h =
     subst (λ (o : Option ℤ). option_or (coordinate_fault o w.line) after ≡ None) (sym e)
     (subst (λ (b : Bool). option_or (cond b None (Some (Range w.line))) after ≡ None) (sym in_range) h)
 
--- coordinates in range have no fault, if what follows them has none
+-- coordinates in range have no fault, if the words after them have none
 clear : (after : List Word → Option ReadFault) (zs : List ℤ) (ws rest : List Word) → numbers ws ≡ map Some zs
     → AllByRecursion IsCoordinate zs → after rest ≡ None
     → coordinates_fault after (length zs) (ws ++ rest) ≡ None
@@ -153,7 +153,7 @@ pub thrice : (ps : List Vector) → length (coordinates ps) ≡ 3 * length ps
 thrice [] = refl
 thrice (p ∷ ps) = let rest : length (coordinates ps) ≡ 3 * length ps = thrice ps in omega (arith, rest)
 
--- a count in range and its coordinates have no fault, if what follows them has none
+-- a count in range and its coordinates have no fault, if the words after them have none
 pub counted_clear : (after : List Word → Option ReadFault) (ps : List Vector) (ws rest : List Word) → numbers ws ≡ map Some (coordinates ps)
     → 1 ≤ length ps → length ps ≤ POINT_LIMIT → AllByRecursion IsCoordinate (coordinates ps) → after rest ≡ None
     → counted_fault after (pos (length ps)) (ws ++ rest) ≡ None
@@ -164,7 +164,7 @@ counted_clear after ps ws rest e some few l h =
     subst (λ (k : ℕ). coordinates_fault after k (ws ++ rest) ≡ None) (thrice ps) (clear after (coordinates ps) ws rest e l h) in
     subst (λ (b : Bool). cond b (coordinates_fault after (3 * n) (ws ++ rest)) (Some Count) ≡ None) (sym range) none
 
--- a number of the header has no fault, if what follows it has none
+-- a number of the header has no fault, if the words after it have none
 pub next_clear : (after : ℤ → List Word → Option ReadFault) (w : Word) (ws : List Word) (z : ℤ) → number_of w.text ≡ Some z → after z ws ≡ None
     → next_number_fault after (w ∷ ws) ≡ None
 next_clear after w ws z e h = subst (λ (o : Option ℤ). number_fault after o w.line ws ≡ None) (sym e) h
@@ -172,7 +172,7 @@ next_clear after w ws z e h = subst (λ (o : Option ℤ). number_fault after o w
 pub not_big : (n : ℕ) → n ≤ BYTE_LIMIT → nat_lt BYTE_LIMIT n ≡ false
 not_big n h = grind (arith, nat_tests)
 
--- a list of points where there is no fault, or the fault
+-- a list of points if there is no fault, otherwise the fault
 pub list_or_fault : (P : List Vector → Type 0) (fault : Option ReadFault) → (fault ≡ None → (ps : List Vector) × P ps)
     → ((ps : List Vector) × P ps × (fault ≡ None)) ⊎ ((f : ReadFault) × (fault ≡ Some f))
 list_or_fault P None read = let r = read refl in inl (r.0, r.1, refl)

@@ -1,4 +1,4 @@
--- The board: updates of functions and their sums, what each event keeps, how many events there are, the root, and spans.
+-- The board: updates of functions and their sums, invariants of the events, the number of events, the root, and spans.
 pub mod Updates
 pub mod Siblings
 pub mod Grown

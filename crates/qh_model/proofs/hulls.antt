@@ -1,4 +1,4 @@
--- Hulls: each part is one value, and a set and its extreme ids have one hull.
+-- Hulls: each part is unique, and a set and its extreme ids have the same hull.
 pub mod Unique
 pub mod FlatSets
 pub mod OfExtremes

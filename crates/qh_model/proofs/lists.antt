@@ -1,4 +1,4 @@
--- Lists as sets: ordered lists, lists that have each member once, lists joined, images, filters, counts, and searches.
+-- Lists as sets: ordered lists, lists with each member once, joined lists, images, filters, counts, and searches.
 pub mod Ordered
 pub mod OnceEach
 pub mod Lexicographic

@@ -1,4 +1,4 @@
--- Polygons: one list for each set and direction.
+-- Polygons: at most one for each set and direction.
 pub mod Cycles
 pub mod Unique
 pub mod Direction

@@ -1,4 +1,4 @@
--- Sets of ids by other names in the same order: their hulls.
+-- The hulls of sets of ids that are renamed in the same order.
 pub mod Renaming
 pub mod Lists
 pub mod Polygons

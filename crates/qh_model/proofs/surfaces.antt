@@ -1,4 +1,4 @@
--- Surfaces of facets: determinants of weighted points, what sees a point, the horizon, the step, and what is covered.
+-- Surfaces of facets: determinants of weighted points, visible facets, the horizon, the step, and covering.
 pub mod Determinants
 pub mod PlanesThroughLine
 pub mod CramersRule

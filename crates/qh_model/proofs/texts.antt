@@ -1,4 +1,4 @@
--- Texts: what they say when they are read.
+-- Texts, and their values when they are read.
 pub mod RenamedTexts
 pub mod Decimals
 pub mod Lines

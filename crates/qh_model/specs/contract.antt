@@ -1,4 +1,4 @@
--- What else the contracts of public functions cite.
+-- Other definitions that the contracts of public functions cite.
 pub mod BoardMachine
 pub mod Bodies
 pub mod ClosedPolygons

@@ -1,4 +1,4 @@
--- What a reader of the headline must believe.
+-- Definitions that a reader of the headline has to trust.
 pub mod Combination
 pub mod Dimension
 pub mod DistinctIds

@@ -26,7 +26,7 @@ impl Model for Cut {
     ghost invariant = { λ c. IsCut c.bounds.items };
 }
 
-/// Why a cut was refused.
+/// Why a cut is refused.
 #[derive(Clone, Copy, Debug, PartialEq, Eq, Drop)]
 pub enum CutError {
     /// 1: the size of a block is 0.
@@ -35,12 +35,11 @@ pub enum CutError {
     TooManyBlocks,
     /// 3: an allocation failed.
     Memory,
-    /// 4: the bounds do not begin with 0, or do not rise, or have no block, or end above
-    /// `POINT_LIMIT`.
+    /// 4: the bounds do not begin with 0, do not rise, have no block, or end above `POINT_LIMIT`.
     BadBounds,
 }
 
-/// Returns the bounds of `count` blocks of a size, of which the last ends at `m`.
+/// Returns the bounds of `blocks` blocks of `size` positions, of which the last ends at `m`.
 fn even_bounds(alloc: Global, m: u32, size: u32, blocks: u32) -> Result<Vec<u32>, AllocError>
     requires size { size ≢ 0 }
     requires blocks { blocks ≡ blocks_of m size }
@@ -66,7 +65,7 @@ fn rises(bounds: &[u32]) -> bool
     true
 }
 
-/// Returns true if these are the bounds of a cut, of however many blocks.
+/// Returns true if the list holds the bounds of a cut with any number of blocks.
 fn are_bounds(bounds: &[u32]) -> bool
     ensures { IsTrue result ↔ AreBounds bounds.now }
 {
@@ -74,12 +73,12 @@ fn are_bounds(bounds: &[u32]) -> bool
 }
 
 impl Cut {
-    /// Blocks of `size` positions each, the last one perhaps shorter, of `m` positions, which the
-    /// caller keeps from 1 to `POINT_LIMIT`.
+    /// Returns the cut of `m` positions into blocks of `size` positions each; the last block may be shorter. The caller
+    /// keeps `m` from 1 to `POINT_LIMIT`.
     ///
     /// # Errors
     ///
-    /// `ZeroSize`, then `TooManyBlocks` by these numbers alone; `Memory` if an allocation failed.
+    /// `ZeroSize`, then `TooManyBlocks`, both decided by the numbers alone; `Memory` if an allocation failed.
     pub fn even(alloc: Global, m: u32, size: u32) -> Result<Cut, CutError>
         requires some { 0 < m }
         requires few { m ≤ POINT_LIMIT }
@@ -101,11 +100,11 @@ impl Cut {
         Ok(Cut { bounds })
     }
 
-    /// Returns the cut with these bounds, which it keeps: it takes no memory.
+    /// Returns the cut with these bounds. It keeps the list and allocates no memory.
     ///
     /// # Errors
     ///
-    /// `TooManyBlocks` for more than `BLOCK_LIMIT` + 1 bounds, however they are; then `BadBounds`.
+    /// `TooManyBlocks` for more than `BLOCK_LIMIT` + 1 bounds, whatever they are; then `BadBounds`.
     pub fn from_bounds(bounds: Vec<u32>) -> Result<Cut, CutError>
         ensures given { IfOk result (λ c. c ≡ bounds.items) }
         ensures many { IsErrOf result CutError.TooManyBlocks ↔ (BLOCK_LIMIT + 1 < length bounds.items) }
@@ -130,7 +129,7 @@ impl Cut {
         self.bounds.len() as u32 - 1
     }
 
-    /// Returns the first position of a block and the position past its last.
+    /// Returns the first position of block `j` and the position past its last.
     pub fn block(&self, j: u32) -> (u32, u32)
         requires { j < block_count self.now }
         ensures from { result.0 ≡ bound self.now j }

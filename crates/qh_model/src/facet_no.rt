@@ -27,7 +27,7 @@ impl FacetNo {
         FacetNo(number)
     }
 
-    /// Returns its number, as an index into a list.
+    /// Returns the number as an index into a list.
     pub fn index(self) -> usize
         ensures { result ≡ self }
     {

@@ -6,15 +6,15 @@ ghost use Rattle.qh_model.specs.contract.FaceTriangles.{face_triangles};
 use crate::point::Id;
 use std::marker::Model;
 
-/// An iterator over the triangles of the fan of a polygon. Each has the first corner and two neighbours. Created by
-/// [`Polygon::fan`](crate::Polygon::fan).
+/// An iterator over the triangles of the fan of a polygon. Each triangle consists of the first corner and two
+/// neighbours. Created by [`Polygon::fan`](crate::Polygon::fan).
 #[derive(Drop)]
 pub struct Fan<'a> {
-    /// The corner that all triangles have.
+    /// The corner that all triangles share.
     first: Id,
     /// The second corner of the next triangle.
     second: Id,
-    /// The corners behind it.
+    /// The corners after the second.
     along: &'a [Id],
 }
 
@@ -28,7 +28,8 @@ impl<'a> Model for Fan<'a> {
 }
 
 impl<'a> Fan<'a> {
-    /// Returns the triangles of the fan of a list of ids: two fewer than there are ids, and none of fewer than three.
+    /// Returns the triangles of the fan of a list of ids: two fewer than there are ids, and no triangle for fewer than
+    /// three.
     pub fn of(ids: &'a [Id]) -> Fan<'a>
         ensures { result ≡ face_triangles ids.now }
     {

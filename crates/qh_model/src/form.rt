@@ -1,6 +1,6 @@
 //! The forms of files of points.
 
-/// How a file tells its points.
+/// The format of a file of points.
 #[derive(Clone, Copy, Debug, PartialEq, Eq)]
 pub enum Form {
     /// The dimension and the count of points, and then the coordinates. Source: Qhull manual.

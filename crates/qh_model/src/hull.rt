@@ -1,4 +1,4 @@
-//! Hulls, and what they are of.
+//! Hulls of sets of ids and of lists of points.
 use crate::point::Id;
 use crate::polygon::Polygon;
 use std::marker::Model;
@@ -32,7 +32,7 @@ impl Model for Body {
 /// The hull of a list of points.
 #[derive(Debug, Drop)]
 pub struct Hull {
-    /// The number of points that were given.
+    /// The number of points of the list.
     pub given: u32,
     /// The number of distinct points.
     pub distinct: u32,

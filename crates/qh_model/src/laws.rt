@@ -1,6 +1,6 @@
 //! The laws of the definitions: each function's contract is a theorem over `specs/` alone.
 //!
-//! A law takes nothing and does nothing; a proof that needs it calls for the theorem by its name.
+//! Laws are empty functions; proofs cite their contracts by name.
 
 mod board;
 mod closed_faces;

@@ -1,8 +1,8 @@
-//! What the whole of qconvex speaks of: points, ids, facet numbers, limits, and the definitions of a point file
-//! and of an OFF file, of the predicates, of extreme points and of a hull.
+//! Definitions that all of qconvex shares: points, ids, facet numbers, limits, point files and OFF files, the
+//! predicates, extreme points and the hull.
 //!
-//! The definitions stand in `specs/`, one idea a file. Contracts of every crate cite them, and the
-//! functions of [`laws`] prove what follows from them alone.
+//! The definitions are in `specs/`, one idea a file. Contracts of every crate cite them, and the functions of [`laws`]
+//! prove what follows from them alone.
 #![tactic(auto)]
 
 mod cut;

@@ -1,6 +1,6 @@
-//! The limits of the input, each stated here and nowhere else.
+//! The limits of the input. No other file defines them.
 
-/// The greatest size of a coordinate, either way.
+/// The greatest absolute value of a coordinate.
 pub const COORDINATE_LIMIT: u32 = 1073741824;
 
 /// The greatest number of points.

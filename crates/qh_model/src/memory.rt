@@ -1,4 +1,4 @@
-//! The one error of a call that only takes memory.
+//! The only error of a call that fails for no other reason than memory.
 use std::alloc::{AllocError, AllocFailed};
 
 /// An allocation failed.

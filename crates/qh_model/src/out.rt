@@ -1,6 +1,6 @@
 //! The outputs.
 
-/// A text that can be made of a hull.
+/// A kind of text made from a hull.
 #[derive(Clone, Copy, Debug, PartialEq, Eq)]
 pub enum Out {
     /// `rank`: the numbers of points and of distinct points, and the dimension.

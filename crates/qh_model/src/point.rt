@@ -32,7 +32,7 @@ impl Model for Point {
 }
 
 impl Point {
-    /// Returns the point with these coordinates, which the caller keeps within the limit.
+    /// Returns the point with these coordinates. The caller keeps them within the limit.
     pub fn new(x: i32, y: i32, z: i32) -> Point
         requires { IsPlace (record { x = x; y = y; z = z }) }
         ensures { result ≡ record { x = x; y = y; z = z } }
@@ -65,7 +65,7 @@ impl Point {
     }
 }
 
-/// The index of a point in a list, from 0: the list of the input, or the points that a call gathered.
+/// The index of a point in a list, from 0. The list is the input, or the points that a call gathered.
 ///
 /// A contract sees an id as its number.
 #[derive(Clone, Copy, Debug, PartialEq, Eq, PartialOrd, Ord)]
@@ -89,14 +89,14 @@ impl Id {
         Id(number)
     }
 
-    /// Returns its number.
+    /// Returns the number of the id.
     pub fn number(self) -> u32
         ensures { result ≡ self }
     {
         self.0
     }
 
-    /// Returns its number, as an index into a list.
+    /// Returns the number of the id as an index into a list.
     pub fn index(self) -> usize
         ensures { result ≡ self }
     {

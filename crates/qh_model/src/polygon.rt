@@ -8,8 +8,7 @@ use crate::point::Id;
 use crate::sides::Sides;
 use std::marker::Model;
 
-/// How the ids of a polygon are kept. Most faces have three corners or four, and these need no memory
-/// of their own.
+/// The storage of a polygon's ids. Most faces have three or four corners, and these allocate no memory.
 #[derive(Debug, Drop)]
 enum Corners {
     Three([Id; 3]),
@@ -35,7 +34,7 @@ impl Model for Polygon {
 }
 
 impl Polygon {
-    /// Returns the polygon of three ids. It takes no memory.
+    /// Returns the polygon of three ids. It allocates no memory.
     pub fn triangle(i: Id, j: Id, k: Id) -> Polygon
         ensures { result ≡ i ∷ j ∷ k ∷ [] }
     {
@@ -44,8 +43,8 @@ impl Polygon {
         }
     }
 
-    /// Returns the polygon of a list of ids. It takes no memory, and keeps the list unless there are
-    /// three or four.
+    /// Returns the polygon of a list of ids. It allocates no memory, and keeps the list unless it has three or four
+    /// ids.
     pub fn of(ids: Vec<Id>) -> Polygon
         ensures { result ≡ ids.items }
     {
@@ -57,7 +56,7 @@ impl Polygon {
         Polygon { corners }
     }
 
-    /// Returns the ids, from the least on.
+    /// Returns the ids, beginning with the least.
     pub fn ids(&self) -> &[Id]
         ensures { result.now ≡ self.now }
     {
@@ -68,7 +67,7 @@ impl Polygon {
         }
     }
 
-    /// Returns the sides, from the one between the first two ids on. The last side ends at the first id.
+    /// Returns the sides, beginning with the one between the first two ids. The last side ends at the first id.
     pub fn sides(&self) -> Sides<'_>
         ensures sides { result ≡ steps_round self.now }
         ensures few { length (steps_round self.now) < 2 ^ 64 }
@@ -76,7 +75,8 @@ impl Polygon {
         Sides::of(self.ids())
     }
 
-    /// Returns the triangles of the fan: each of the first id and two neighbours. Fewer than three ids have no triangle.
+    /// Returns the triangles of the fan. Each consists of the first id and two neighbours. Fewer than three ids have no
+    /// triangle.
     pub fn fan(&self) -> Fan<'_>
         ensures { result ≡ face_triangles self.now }
     {

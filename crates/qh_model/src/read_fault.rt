@@ -1,19 +1,18 @@
-//! Why a text is no file of points.
+//! The faults of a file of points.
 ghost use Rattle.std.specs.Prelude.{◌≡◌};
 ghost use Rattle.qh_model.specs.declared.read_fault.ReadFault.TheVariants as faults;
 
 use std::alloc::AllocError;
 
-/// Why a point file or an OFF file could not be read. A line is counted from 1 and ends at byte 10.
+/// Why a point file or an OFF file could not be read. Lines are counted from 1, and a line ends at byte 10.
 ///
-/// Each has the number of its place in this list, from 1, save `NotOff`, which has 14. The first seven and
-/// `NotOff` are faults of the text, of which the first in the order of reading is given; `Big` goes before all
-/// of them.
+/// Each fault has the number of its place in this list, from 1, except `NotOff`, which has 14. The first seven and
+/// `NotOff` are faults of the text; the first one in reading order is reported. `Big` has precedence over all of them.
 #[derive(Clone, Copy, Debug, PartialEq, Eq)]
 pub enum ReadFault {
-    /// There are fewer than two data words; in an OFF file no keyword, or fewer than three words after it.
+    /// There are fewer than two data words; or an OFF file has no keyword, or fewer than three words after it.
     NoHeader,
-    /// A word on this line is not a number where a number has to stand.
+    /// A word on this line is not a number where a number is required.
     BadNumber(u32),
     /// Neither number of the header is 3.
     NotThree,
@@ -21,7 +20,7 @@ pub enum ReadFault {
     Count,
     /// A coordinate on this line is past `COORDINATE_LIMIT`.
     Range(u32),
-    /// On this line stands a data word after the last coordinate.
+    /// This line has a data word after the last coordinate.
     Long(u32),
     /// The text ends before the last coordinate.
     Short,

@@ -10,11 +10,11 @@ use std::marker::Model;
 /// [`Polygon::sides`](crate::Polygon::sides).
 #[derive(Drop)]
 pub struct Sides<'a> {
-    /// The corner that the next side begins at.
+    /// The corner at which the next side begins.
     from: Id,
-    /// The corners behind it.
+    /// The corners after `from`.
     along: &'a [Id],
-    /// The corner that the last side ends at, until that side is given.
+    /// The corner at which the last side ends, until that side is returned.
     to: Option<Id>,
 }
 

@@ -1,4 +1,4 @@
--- What settles a point answers it.
+-- A settled point has a witness.
 use Rattle.std.proofs.Common.{◌≡◌, ℕ, ◌⊎◌, inl, inr, List, Bool, false, sym, ◌∙◌}
 use Rattle.std.specs.Prelude.{pos, ◌+ℤ◌, ◌≤ℤ◌, ◌<ℤ◌}
 use Rattle.qh_model.specs.headline.{Vector.Vector, Predicates.place, Predicates.vol, Sets.In}
@@ -20,7 +20,7 @@ use Rattle.qh_parts.specs.steps.Apart.{IsApart}
 use Rattle.qh_parts.specs.steps.Triangles.{four_vols, IsFourOf, IsInCone}
 use Rattle.qh_parts.specs.steps.Witnesses.{IsAnswered, IsRingOver}
 
--- a live facet that settles a point answers it
+-- a live facet that settles a point is its witness
 pub answered : (pts : List Vector) (s : NamedMesh) (stay : List Bool) (o : Four) (f : ℕ) → IsLive s.mesh f
     → (stays : Bool) → stays ≡ mark_at stay f
     → (a b c p : Vector) → a ≡ place pts (facet_at (named s) f).i → b ≡ place pts (facet_at (named s) f).j
@@ -59,7 +59,7 @@ module _ (pts : List Vector) (shared : List ℕ) (o : Four) (z : IsFourOf pts sh
   turned : vol (at z.s) (at z.t) (at z.u) (at z.v) <ℤ pos 0
   turned = rw (z.s_is, z.t_is, z.u_is, z.v_is) at z.turned
 
-  -- answers and a ring that is asked are a seam
+  -- witnesses and a tested ring form a seam
   pub apart_of : (p : Part) → IsPartOf pts shared p → (stay : ℕ → Bool) (others : List ℕ)
       → ((l : ℕ) → In l others → IsAnswered at (surface_of (named p.surface)) stay o (at l))
       → IsRingOver at (surface_of (named p.surface)) stay others → IsApart pts p stay others

@@ -9,7 +9,7 @@ use Rattle.qh_laws.proofs.Joined.{part_is_solid}
 use Rattle.qh_parts_join.specs.declared.parts.Part.{Part}
 use Rattle.qh_parts_join.specs.contract.Parts.{ids_in, IsPartOf}
 
--- is solid, as a part of it is
+-- a divided set is solid, as a part of it is
 pub is_solid : (pts : List Vector) (shared ids : List ℕ) (parts : List Part) → All (IsPartOf pts shared) parts → 0 < length parts
     → ((l : ℕ) → In l (flat_map ids_in parts) → In l ids) → IsDimension (place pts) (Members ids) 3
 is_solid pts shared ids [] are some inside = absurd (omega arith)

@@ -14,7 +14,7 @@ use Rattle.qh_parts.specs.steps.{Given.AreGivenOf, Kept.HaveKept}
 use Rattle.qh_parts.proofs.Divided.{is_solid}
 
 module _ (pts : List Vector) (shared : List ℕ) (parts : List Part) (gone : List (List ℕ)) where
-  -- what parts contribute is the same in any order
+  -- the contributions of parts are the same in any order
   pub given_in_any_order : (faces merged : List (List ℕ)) → IsPermutation faces merged → AreGivenOf pts shared parts faces gone
       → AreGivenOf pts shared parts merged gone
   given_in_any_order faces merged same given = (

@@ -7,7 +7,7 @@ use Rattle.qh_surface.specs.contract.NamedMeshes.{named}
 use Rattle.qh_surface.proofs.NamedFacets.{names}
 use Rattle.qh_laws.specs.contract.Seam.{IsRing}
 
--- a facet of the ring over ids is one over positions
+-- a facet of the ring over ids is a facet of the ring over positions
 pub ring_before : (s : NamedMesh) (stay : ℕ → Bool) (f : ℕ) → IsRing (surface_of (named s)) stay f → IsRing (surface_of s.mesh) stay f
 ring_before s stay f r =
     let live = subst (In f) (names s).live r.live in

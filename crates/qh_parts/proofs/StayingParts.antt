@@ -1,4 +1,4 @@
--- A part that was asked for each other part stays, and contributes its faces.
+-- A part that was tested against each other part stays, and contributes its faces.
 use Rattle.std.proofs.Common.{◌≡◌, ℕ, ◌<◌, ◌⊎◌, inl, inr, List, All, Bool, true, length, get_or, sym, subst, ap, ◌∙◌}
 use Rattle.std.proofs.lemmas.List.{get_or_default}
 use Rattle.std.specs.List.{flat_map}
@@ -24,11 +24,11 @@ named_there xs k x is within = subst (λ y. In y xs) (sym is) (In-get_or xs k x 
 pub own_indices : {pts : List Vector} {shared : List ℕ} {p : Part} → IsPartOf pts shared p → All (λ i. i < length pts) p.own.items
 own_indices {pts} {shared} {p} z = All-of (λ i. i < length pts) p.own.items (λ l i. z.indices l (z.inside l i))
 
--- so are the shared ids
+-- the shared ids are indices of points
 pub shared_indices : {pts : List Vector} {shared : List ℕ} {p : Part} → IsPartOf pts shared p → All (λ i. i < length pts) shared
 shared_indices {pts} {shared} {p} z = All-of (λ i. i < length pts) shared (λ l i. z.indices l (z.has_shared l i))
 
--- what is asked of a part at a place, for another at a place, whatever would stand past the end
+-- the condition on a part for another does not depend on the values past the end of the list
 pub apart_at : (pts : List Vector) (parts : List Part) (stay : ℕ → Bool) (k j : ℕ) (p q d e : Part) → k < length parts → j < length parts
     → IsApart pts (get_or parts k p) stay (own_in (get_or parts j q)) → IsApart pts (get_or parts k d) stay (own_in (get_or parts j e))
 apart_at pts parts stay k j p q d e hk hj apart =
@@ -43,7 +43,7 @@ module _ (pts : List Vector) (shared : List ℕ) (parts : List Part) (number : �
   z : IsPartOf pts shared p
   z = are number d within
 
-  -- what is kept is of the part or of another that was asked
+  -- a kept id is an id of the part or of another part that was tested
   abbrev Split : ℕ → Type 0
   Split l = In l p.ids.items ⊎ ((others : List ℕ) × In l others × IsApart pts p stay others)
 

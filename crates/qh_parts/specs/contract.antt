@@ -1,2 +1,2 @@
--- What the contracts of public functions cite.
+-- Definitions that the contracts of public functions cite.
 pub mod Staying

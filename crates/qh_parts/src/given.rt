@@ -1,5 +1,5 @@
-//! What the parts of a set contribute: their faces that stay and those that go, each part's seen to be right by a thread
-//! of its own.
+//! The contributions of the parts of a set: their faces that stay and those that are removed. A thread for each part
+//! checks that its guess is right.
 ghost use Rattle.std.specs.Prelude.{All, ◌<◌, IfOk, IfSome};
 ghost use Rattle.qh_parts_join.specs.contract.Parts.{IsPartOf};
 ghost use Rattle.qh_parts.specs.steps.Given.{IsContribution, IsGiven};
@@ -14,8 +14,8 @@ use qh_threads::map_indices;
 use std::alloc::{AllocError, Global};
 use std::thread::Threads;
 
-/// Faces that a part contributes and those that go, and what the polygons between the parts are found by: its border,
-/// and the corners of its facets that go.
+/// The faces that a part contributes and those that are removed, and the input for the polygons between the parts: its
+/// border, and the corners of its removed facets.
 #[derive(Drop)]
 pub(crate) struct Contribution {
     pub faces: UnsortedFaces,
@@ -24,7 +24,7 @@ pub(crate) struct Contribution {
     pub seam: Vec<Id>,
 }
 
-/// What all parts contribute.
+/// The contributions of all parts.
 #[derive(Drop)]
 pub(crate) struct Given {
     pub faces: UnsortedFaces,
@@ -33,7 +33,7 @@ pub(crate) struct Given {
     pub seam: Vec<Id>,
 }
 
-/// Returns the outlines of all parts, by a thread for each.
+/// Returns the outlines of all parts, with a thread for each.
 pub(crate) fn outlines_in_threads<R: Threads>(
     rt: &R,
     alloc: Global,
@@ -53,7 +53,7 @@ pub(crate) fn outlines_in_threads<R: Threads>(
     Ok(outlines)
 }
 
-/// Returns what the part with a number contributes, if the guess of it is seen to be right.
+/// Returns the contribution of the part with this number, if its guess is verified.
 fn given_by(
     alloc: Global,
     set: Divided,
@@ -83,7 +83,7 @@ fn given_by(
     }))
 }
 
-/// Returns what all parts contribute together, if each contributes something.
+/// Returns the contributions of all parts together, if each part contributes something.
 fn all_given(
     alloc: Global,
     set: Divided,
@@ -114,8 +114,7 @@ fn all_given(
     }))
 }
 
-/// Returns what the parts of a set contribute, by a thread for each; `None` if the guess of one is not seen to
-/// be right.
+/// Returns the contributions of the parts of a set, with a thread for each; `None` if the guess of one is not verified.
 pub(crate) fn given_in_threads<R: Threads>(
     rt: &R,
     alloc: Global,

@@ -1,4 +1,4 @@
-//! The hull of a set by a number of threads.
+//! The hull of a set by several threads.
 ghost use Rattle.std.specs.Prelude.{◌<◌, IfOk, IfSome, length};
 ghost use Rattle.qh_model.specs.contract.IdSets.{AreIndices, IsIdSet};
 ghost use Rattle.qh_model.specs.headline.Hull.{IsBody};
@@ -13,34 +13,33 @@ use qh_parts_guess::gap::is_worth_parting;
 use std::alloc::Global;
 use std::thread::Threads;
 
-/// Sets of fewer ids have their hull by one thread.
+/// The hull of a set with fewer ids is computed by one thread.
 const LARGE: usize = 50_000;
 
-/// The most parts. More have longer seams, and are no faster.
+/// The greatest number of parts. More parts have longer seams, and are no faster.
 const PARTS: usize = 8;
 
-/// Fewer workers take a hull no sooner by parts than one of them alone, since parts take twice the work.
+/// The least number of workers for parts. With fewer, one worker alone is as fast, since parts take twice the work.
 const LEAST_WORKERS: u32 = 3;
 
-/// Which parts are joined at their seams. The corners of the others have one hull.
+/// When parts are joined at their seams. Otherwise the hull of their corners is computed.
 #[derive(Clone, Copy, Debug, Drop)]
 pub enum Seams {
-    /// Those where it seems to pay: they have many corners, and most facets stay.
+    /// If it is likely to pay: the parts have many corners, and most facets stay.
     WhereTheyPay,
-    /// All, for trials.
+    /// Always, for trials.
     Always,
 }
 
-/// How a set is taken by parts.
+/// How a set is divided into parts.
 #[derive(Clone, Copy, Debug, Drop)]
 pub struct Parting {
-    /// The number of parts. Zero means one.
+    /// The number of parts. 0 counts as 1.
     pub parts: usize,
     pub seams: Seams,
 }
 
-/// Returns true if few ids seem to be extreme, by the first ones. A hull of one thread drops the
-/// others soon.
+/// Returns true if few ids appear to be extreme, judged by the first ones. A hull by one thread drops the others early.
 fn few_stand_out(alloc: Global, pts: &[Point], ids: &[Id]) -> Result<bool, Memory>
     requires { AreIndices pts.now ids.now }
 {
@@ -52,14 +51,14 @@ fn few_stand_out(alloc: Global, pts: &[Point], ids: &[Id]) -> Result<bool, Memor
     Ok(are_few(found.len(), TELLING))
 }
 
-/// Returns the hull of a set by parts of it, however small it is; `None` if it does not come out: a part lies in a
-/// plane, or a guess of what stays of the parts, or of what closes the gap between them, is not seen to be right.
+/// Returns the hull of a set by parts of it, however small it is. Returns `None` if the attempt fails: a part lies in a
+/// plane, or a guess of what stays of the parts, or of what closes the gap between them, is not verified.
 ///
-/// `ids` are indices of points. That they rise and have distinct points (`IsIdSet`) is the caller's condition.
+/// `ids` are indices of points. The caller ensures that they rise and have distinct points (`IsIdSet`).
 ///
 /// # Errors
 ///
-/// `Memory` where an allocation failed.
+/// `Memory` if an allocation failed.
 pub fn hull_by_parts<R: Threads>(
     rt: &R,
     alloc: Global,
@@ -78,11 +77,12 @@ pub fn hull_by_parts<R: Threads>(
     hull_of_parts(rt, alloc, pts, parted, ids, workers, parting.seams)
 }
 
-/// Returns the hull of a set, as [`hull`](qh_block::hull) gives it. Three or more workers take a large set by parts,
-/// which are joined, where most of its first ids are extreme among these: by at most `workers` threads.
+/// Returns the hull of a set, as [`hull`](qh_block::hull) does, with at most `workers` threads. If there are at least
+/// three workers, a large set is divided into parts, which are joined, provided that most of its first ids are extreme
+/// among these.
 ///
-/// `ids` has at least one id, each the index of one of the points. That the ids rise and have distinct
-/// points (`IsIdSet`) is the caller's condition.
+/// `ids` has at least one id, each the index of one of the points. The caller ensures that the ids rise and have
+/// distinct points (`IsIdSet`).
 ///
 /// # Errors
 ///

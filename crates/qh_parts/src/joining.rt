@@ -1,4 +1,4 @@
-//! The hull of a set from its parts: from their faces that stay and those between them, or from their corners.
+//! The hull of a set from its parts: from their remaining faces and those between them, or from their corners.
 ghost use Rattle.std.specs.Prelude.{◌<◌, ℕ, List, IfOk, IfSome, length};
 ghost use Rattle.std.specs.List.{All};
 ghost use Rattle.qh_model.specs.contract.IdSets.{AreIndices, IsIdSet};
@@ -35,7 +35,8 @@ fn hull_of_kept(alloc: Global, pts: &[Point], kept: &[Id]) -> Result<Option<Body
     Ok(Some(body))
 }
 
-/// Returns the hull of a set as that of the corners of its parts; `None` if these are not seen to stand for the set.
+/// Returns the hull of a set as that of the corners of its parts; `None` if they are not verified to have the set's
+/// hull.
 fn hull_of_corners(alloc: Global, set: Divided, ids: &[Id]) -> Result<Option<Body>, Memory>
     requires { All (IsPartOf set.pts.now set.shared.now) set.parts.now }
     ensures { IfOk result (λ found. IfSome found (λ b. IsIdSet set.entry.pts.now ids.now
@@ -47,8 +48,8 @@ fn hull_of_corners(alloc: Global, set: Divided, ids: &[Id]) -> Result<Option<Bod
     hull_of_kept(alloc, set.pts, &kept)
 }
 
-/// Returns the hull of a set in parts from the faces that these contribute and those between them; `None` if the attempt
-/// fails. The meshes of the parts make way for the list of the faces.
+/// Returns the hull of a set in parts from the faces that these contribute and those between them; `None` if the
+/// attempt fails. Frees the meshes before building the face list.
 fn hull_at_joint<R: Threads>(
     rt: &R,
     alloc: Global,
@@ -79,7 +80,7 @@ fn hull_at_joint<R: Threads>(
     join_faces(rt, alloc, kept, faces, &gone, &bridges, workers)
 }
 
-/// Returns true if parts are to be joined at their seams.
+/// Returns true if parts should be joined at their seams.
 fn has_seams(set: Divided, outlines: &[Outline], seams: Seams) -> bool {
     match seams {
         Seams::WhereTheyPay => is_worth(set, outlines),
@@ -87,8 +88,8 @@ fn has_seams(set: Divided, outlines: &[Outline], seams: Seams) -> bool {
     }
 }
 
-/// Returns the hull of a set from its parts: from their corners if the parts are not joined at their seams, else from the
-/// faces that they contribute and those between them; `None` if the attempt fails.
+/// Returns the hull of a set from its parts: from their corners if the parts are not joined at their seams, else from
+/// the faces that they contribute and those between them; `None` if the attempt fails.
 pub(crate) fn hull_of_parts<R: Threads>(
     rt: &R,
     alloc: Global,

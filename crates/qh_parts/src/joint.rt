@@ -1,4 +1,4 @@
-//! What the parts of a set contribute, with the polygons that close the gap between them.
+//! The contributions of the parts of a set, with the polygons that close the gap between them.
 ghost use Rattle.std.specs.Prelude.{IfOk, IfSome, IsPermutation};
 ghost use Rattle.std.specs.List.{All};
 ghost use Rattle.qh_parts_join.specs.contract.Parts.{IsPartOf};
@@ -14,7 +14,8 @@ use qh_parts_join::{Divided, Part, kept_ids};
 use std::alloc::Global;
 use std::thread::{Threads, join};
 
-/// The faces that the parts of a set contribute, those that are gone from them, and the polygons that close the gap.
+/// The faces that the parts of a set contribute, those that were removed from them, and the polygons that close the
+/// gap.
 #[derive(Drop)]
 pub(crate) struct Joint {
     pub faces: UnsortedFaces,
@@ -22,8 +23,8 @@ pub(crate) struct Joint {
     pub bridges: Vec<Polygon>,
 }
 
-/// Returns faces in order, as far as that saves time later; `None` if the corners of the parts are not seen to stand for
-/// the set.
+/// Returns faces, ordered as far as that saves time later; `None` if the corners of the parts are not verified to have
+/// the set's hull.
 fn merged_if_kept(
     alloc: Global,
     parts: &[Part],
@@ -41,8 +42,8 @@ fn merged_if_kept(
     Ok(Some(merged))
 }
 
-/// Returns the faces that the parts of a set contribute, with those between them; `None` if the attempt fails. While one
-/// thread makes the hull between the parts, another one merges what they contribute.
+/// Returns the faces that the parts of a set contribute, with those between them; `None` if the attempt fails. One
+/// thread computes the hull between the parts, while another merges the contributions.
 pub(crate) fn joint_of<R: Threads>(
     rt: &R,
     alloc: Global,
@@ -58,7 +59,7 @@ pub(crate) fn joint_of<R: Threads>(
     let Some(given) = given_in_threads(rt, alloc, set, &outlines)? else {
         return Ok(None);
     };
-    // Nothing below needs the outlines, and the list of faces needs their memory.
+    // The outlines are no longer needed, and the list of faces needs their memory.
     drop(outlines);
     let Given {
         faces,

@@ -1,4 +1,4 @@
-//! The parts of a set, each made by a thread of its own.
+//! The parts of a set, each made by its own thread.
 ghost use Rattle.std.specs.Prelude.{All, ◌<◌, IfOk, IfSome, IsTrue, length};
 ghost use Rattle.qh_model.specs.contract.IdSets.{AreIndices};
 ghost use Rattle.qh_parts_join.specs.contract.Parts.{IsPartOf};
@@ -34,7 +34,7 @@ pub(crate) fn are_indices(pts: &[Point], ids: &[Id]) -> bool
 }
 
 impl Pieces<'_> {
-    /// Returns the part of the piece with a number, if its points do not lie in one plane.
+    /// Returns the part of the piece with this number, if its points do not lie in one plane.
     fn part(self, alloc: Global, number: usize) -> Result<Option<Part>, Memory>
         ensures { IfOk result (λ found. IfSome found (IsPartOf self.entry.pts.now self.entry.shared.now)) }
     {
@@ -47,7 +47,7 @@ impl Pieces<'_> {
     }
 }
 
-/// Returns the parts in answers; `None` if an answer has no part.
+/// Returns the parts in results; `None` if a result has no part.
 fn all_parts(
     alloc: Global,
     pieces: Pieces,
@@ -67,8 +67,7 @@ fn all_parts(
     Ok(Some(parts))
 }
 
-/// Returns the parts of the first `count` pieces, a thread for each; `None` if the points of one lie in
-/// one plane.
+/// Returns the parts of the first `count` pieces, with a thread for each; `None` if the points of one lie in one plane.
 pub(crate) fn parts_in_threads<R: Threads>(
     rt: &R,
     alloc: Global,
@@ -95,8 +94,8 @@ pub(crate) struct Parted {
     pub parts: Vec<Part>,
 }
 
-/// Returns a set in `count` parts, of ids that lie along a curve, each made by a thread. Zero means one. Returns `None` if the
-/// points of one lie in one plane.
+/// Returns a set in `count` parts, of ids ordered along a curve, each part made by a thread; 0 counts as 1. Returns
+/// `None` if the points of a part lie in one plane.
 pub(crate) fn parts_along_curve<R: Threads>(
     rt: &R,
     alloc: Global,
@@ -116,7 +115,7 @@ pub(crate) fn parts_along_curve<R: Threads>(
     if !are_indices(pts, &shared) {
         return Ok(None);
     }
-    // The ends of the set are among the ids that are shared.
+    // The ends of the set are among the shared ids.
     let listed = along_curve(rt, alloc, pts, ids, &shared, workers)?;
     if !are_indices(pts, &listed) {
         return Ok(None);

@@ -1,4 +1,4 @@
-//! Blocks of points: a box, and how far its points reach along a direction in which the surface faces there.
+//! Blocks of points: a box, and how far its points reach along the direction in which the surface faces there.
 use crate::vector::Vector;
 use qh_model::Point;
 
@@ -40,7 +40,7 @@ impl Bounds {
 }
 
 impl Block {
-    /// Returns the block of points for a direction of length 1, or none.
+    /// Returns the block of points for a direction of length 1, or for the zero vector.
     pub fn around(points: &[Point], way: Vector) -> Block {
         let bounds = Bounds::around(points);
         let middle = bounds.high.plus(bounds.low).times(0.5);

@@ -1,9 +1,9 @@
 //! The order of ids along a curve through their points, by which a set is cut into parts.
 //!
-//! Ids that stand near each other in it have points near each other, so that consecutive ones make parts
-//! whose hulls meet others along short borders. The curve runs through cells (`cells`), by whose numbers the ids are
-//! sorted (`ranges`). Some ids belong to every part (`shared`). Nothing is promised of order or ids: what is made of
-//! them is checked where it is used.
+//! Neighbours in this order have points near each other, so consecutive ids make parts whose hulls meet others along
+//! short borders. The curve runs through cells (`cells`), and the ids are sorted by the numbers of their cells
+//! (`ranges`). Some ids belong to every part (`shared`). The functions guarantee neither the order nor the ids: their
+//! results are checked where they are used.
 //!
 //! Sources: Morton 1966 (the order of cells along a Z-shaped curve), Hilbert 1891 (a curve whose successive cells
 //! touch).

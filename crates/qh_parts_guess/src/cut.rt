@@ -1,9 +1,9 @@
-//! What stays of the hull of a part where the corners of the other parts come in.
+//! The facets of a part's hull that stay in the presence of the corners of the other parts.
 //!
-//! A facet is removed where a point of the others is not strictly below it, with all facets of its plane.
-//! The facets that a point sees are connected, so few are tested. A point that is not within the part sees
-//! the facet through which the ray to it leaves (`rays`), which is removed (`cover`). Then the neighbours of
-//! removed facets are tested, and so on until all around them stay (`cutting`).
+//! A facet is removed, together with all facets of its plane, if a point of the other parts is not strictly below it.
+//! The facets that a point sees are connected, so few facets are tested. A point outside the part sees the facet
+//! through which the ray to it leaves (`rays`), so that facet is removed (`cover`). Then the neighbours of removed
+//! facets are tested, until all facets around them stay (`cutting`).
 mod cover;
 mod cutting;
 mod facets;

@@ -1,10 +1,11 @@
-//! Guesses of the polygons that close the gap between the hulls of parts of a set, and of whether parts pay. What they
-//! say is checked where it is used (`qh_parts_join::join`), so a wrong guess costs time and no more.
+//! Guesses of the polygons that close the gap between the hulls of parts of a set, and of whether parts pay. The
+//! results are checked where they are used (`qh_parts_join::join`), so a wrong guess only costs time.
 //!
-//! The polygons that stay of the parts leave a gap. An edge of a face that goes is open if none that goes
-//! takes it the other way (`edges`). The corners beside the gap make a hull, of which those polygons are taken that
-//! have the open edges, and their neighbours over other edges (`flood`). A sample tells beforehand where most corners
-//! of a set would stand beside the gap, or where planes come near most of them (`nearness`), and parts of it would not pay (`trial`).
+//! The polygons of the parts that stay leave a gap. An edge of a removed face is open if no removed face has it in the
+//! opposite direction (`edges`). The hull of the corners beside the gap contains the polygons that close it: those that
+//! have the open edges, and their neighbours across other edges (`flood`). A sample shows beforehand whether most
+//! corners of a set would be beside the gap, or whether planes come near most of them (`nearness`), so that parts would
+//! not pay (`trial`).
 
 mod edges;
 mod flood;

@@ -1,11 +1,11 @@
-//! Guesses of what stays of the hulls of parts of a set. What they say is checked where it is used (`qh_parts::seam`), so a
-//! wrong guess costs time and no more.
+//! Guesses of what stays of the hulls of parts of a set. The results are checked where they are used (`qh_parts::seam`), so a
+//! wrong guess only costs time.
 //!
-//! A set is cut into parts of consecutive ids along a curve, and some ids belong to every part (`curve`). Each
-//! part shows the others its outline: its corners with boxes round them (`outlines`). Of the facets of a part those
-//! are marked that stay where the corners of the others come in, and each of these corners gets a witness (`cut`).
-//! Where there are few corners, or few facets stay, all this does not pay (`worth`). What closes the gap between
-//! those that stay is guessed by `gap`.
+//! A set is cut into parts of consecutive ids along a curve, and some ids belong to every part (`curve`). The outline
+//! of a part consists of its corners with boxes around them (`outlines`). The facets of a part that stay in the
+//! presence of the corners of the other parts are marked, and each of these corners gets a witness (`cut`). If there
+//! are few corners, or few facets stay, this does not pay (`worth`). `gap` guesses the polygons that close the gap
+//! between the remaining facets.
 #![tactic(auto)]
 
 mod blocks;

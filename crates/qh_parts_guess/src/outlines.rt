@@ -1,4 +1,4 @@
-//! The outline of a part: its own corners in their order, with blocks of them, of blocks of blocks, and so on.
+//! The outline of a part: its own corners in their order, with a hierarchy of blocks over them.
 use crate::blocks::Block;
 use crate::sights::Sight;
 use crate::vector::Vector;
@@ -6,19 +6,20 @@ use qh_model::Point;
 use qh_places::Budget;
 use std::alloc::{AllocError, Global};
 
-/// The points of a block of the lowest level, and the blocks of a level in one of the next.
+/// The number of points of a block on the lowest level, and the number of blocks of a level in a block of the next one.
 const BRANCHES: usize = 8;
 
 /// The binary logarithm of `BRANCHES`.
 const BRANCH_BITS: u32 = 3;
 
-/// The consecutive points that have one direction in which the surface faces there.
+/// The number of consecutive points that share a direction in which the surface faces.
 pub(crate) const FACING_TOGETHER: usize = 32;
 
-/// The most levels, of which the highest has one block over 2^24 points.
+/// The greatest number of levels. On the highest of them, one block has 2^24 points.
 const LEVELS: u32 = 8;
 
-/// The corners of a part that belong to it alone, with blocks of consecutive ones: the smallest first.
+/// The corners of a part that belong to it alone, with blocks of consecutive corners on several levels, the smallest
+/// blocks first.
 #[derive(Drop)]
 pub struct Outline {
     points: Vec<Point>,
@@ -32,15 +33,15 @@ pub(crate) struct Cursor {
     index: usize,
 }
 
-/// Returns the piece of a list with a number, where it is cut into pieces of one size. The last may be shorter, and
-/// there is nothing past it.
+/// Returns the piece with this number of a list that is cut into pieces of one size. The last piece may be shorter, and
+/// pieces past it are empty.
 pub(crate) fn piece<T: Copy>(items: &[T], size: usize, number: usize) -> &[T] {
     let from = size.saturating_mul(number).min(items.len());
     let to = from.saturating_add(size).min(items.len());
     items.get(from..to).unwrap_or(&[])
 }
 
-/// Returns the direction of the sum of some.
+/// Returns the direction of the sum of vectors.
 fn way_of(ways: &[Vector]) -> Vector {
     let mut sum = Vector::NONE;
     for way in ways {
@@ -54,8 +55,8 @@ fn size_at(level: u32) -> usize {
     BRANCHES.wrapping_shl(level.wrapping_mul(BRANCH_BITS))
 }
 
-/// Returns the direction of the block of `size` points with a number, where `ways` has one for each `FACING_TOGETHER`
-/// of them.
+/// Returns the direction of the block with this number, which has `size` points. `ways` has a direction for each
+/// `FACING_TOGETHER` points.
 fn way_at(ways: &[Vector], size: usize, number: usize) -> Vector {
     if size >= FACING_TOGETHER {
         return way_of(piece(ways, size / FACING_TOGETHER, number));
@@ -84,7 +85,7 @@ fn level_over(
 }
 
 impl Outline {
-    /// Returns the outline over points, with a direction for each `FACING_TOGETHER` of them.
+    /// Returns the outline of points, with a direction for each `FACING_TOGETHER` of them.
     pub(crate) fn over(
         alloc: Global,
         points: Vec<Point>,
@@ -107,7 +108,7 @@ impl Outline {
         self.points.len()
     }
 
-    /// Returns a number above that of the blocks of all levels.
+    /// Returns an upper bound of the number of blocks of all levels.
     pub(crate) fn block_limit(&self) -> usize {
         self.points.len().saturating_add(LEVELS as usize)
     }
@@ -131,7 +132,7 @@ impl Outline {
         piece(&self.points, size_at(level), cursor.index)
     }
 
-    /// Returns the first block after all points of a block, as large as a block there can be.
+    /// Returns the largest block that begins after all points of a block.
     pub(crate) fn after(&self, cursor: Cursor) -> Cursor {
         let mut next = Cursor {
             level: cursor.level,
@@ -149,13 +150,14 @@ impl Outline {
         next
     }
 
-    /// Returns true if all points of a block of the lowest level are strictly below a plane, and the budget lasts.
+    /// Returns true if all points of a block of the lowest level are strictly below a plane, and the budget is not
+    /// exhausted.
     fn are_hidden(&self, cursor: Cursor, sight: &Sight, budget: &mut Budget) -> bool {
         let own = self.points_of(cursor);
         budget.spend(own.len()) && own.iter().all(|point| sight.hides(*point))
     }
 
-    /// Returns true if all points are strictly below a plane. Returns false, too, where the budget does not last.
+    /// Returns true if all points are strictly below a plane. Also returns false if the budget is exhausted.
     pub(crate) fn is_below(&self, sight: &Sight, budget: &mut Budget) -> bool {
         let mut cursor = self.top();
         for _ in 0..self.block_limit() {
@@ -180,7 +182,7 @@ impl Outline {
 }
 
 impl Cursor {
-    /// Returns the first block within a block, unless that is of the lowest level.
+    /// Returns the first block inside a block, unless that is of the lowest level.
     pub fn first_within(self) -> Option<Cursor> {
         let level = self.level.checked_sub(1)?;
         Some(Cursor {

@@ -1,14 +1,14 @@
-//! Planes of facets, and which blocks lie wholly on one side of them.
+//! Planes of facets, and tests for blocks that lie wholly on one side of them.
 use crate::blocks::Block;
 use crate::vector::Vector;
 use qh_model::Point;
 use qh_pred::Plane;
 
-/// How much the floating-point height of a block over a plane may be wrong, for each unit of the normal's
-/// components: 2^-16. The products with coordinates to 2^30 lose 2^-23 each, and there are a few of them.
+/// The relative error of the floating-point height of a block over a plane, for each unit of the normal's components:
+/// 2^-16. The products with coordinates to 2^30 lose 2^-23 each, and there are a few of them.
 const SLACK: f64 = 0.0000152587890625;
 
-/// The plane of a facet: exact, for points, and nearly so, for blocks.
+/// The plane of a facet: exact for points, approximate for blocks.
 #[derive(Clone, Copy)]
 pub(crate) struct Sight {
     plane: Plane,
@@ -18,7 +18,7 @@ pub(crate) struct Sight {
 }
 
 impl Sight {
-    /// Returns the plane through the corners of a facet, which go counterclockwise seen from above.
+    /// Returns the plane through the corners of a facet, which are counterclockwise seen from above.
     pub fn of(corners: [Point; 3]) -> Sight {
         let [a, b, c] = corners;
         let plane = Plane::through(a, b, c);
@@ -36,12 +36,12 @@ impl Sight {
         self.normal.unit()
     }
 
-    /// Returns true if a point is strictly above.
+    /// Returns true if a point is strictly above the plane.
     pub fn sees(&self, point: Point) -> bool {
         self.plane.sees(point)
     }
 
-    /// Returns true if a point is strictly below.
+    /// Returns true if a point is strictly below the plane.
     pub fn hides(&self, point: Point) -> bool {
         self.plane.height(point) < 0
     }
@@ -51,14 +51,14 @@ impl Sight {
         self.plane.height(point) == 0
     }
 
-    /// Returns true if all points of a block are seen to lie strictly above.
+    /// Returns true if all points of a block are shown to lie strictly above the plane.
     pub fn sees_all(&self, block: &Block) -> bool {
         let height = self.normal.dot(block.middle) - self.offset;
         height - self.normal.most_within(block.half) > self.slack
     }
 
-    /// Returns true if all points of a block are seen to lie strictly below: by its box alone, or by how far they
-    /// reach along its direction, taken so often that the rest of the normal is least.
+    /// Returns true if all points of a block are shown to lie strictly below the plane: by the box alone, or by the
+    /// reach of the points along the block's direction, multiplied so that the rest of the normal is least.
     pub fn hides_all(&self, block: &Block) -> bool {
         let height = self.normal.dot(block.middle) - self.offset;
         if height + self.normal.most_within(block.half) < -self.slack {

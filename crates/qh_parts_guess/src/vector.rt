@@ -1,4 +1,4 @@
-//! Vectors of floating-point numbers: for what needs no more than to be near enough.
+//! Vectors of floating-point numbers, for approximate computations.
 use qh_model::Point;
 use qh_pred::Normal;
 use std::num::nearest_i64_to_f64;
@@ -17,14 +17,14 @@ fn component(number: i128) -> f64 {
 }
 
 impl Vector {
-    /// No way at all.
+    /// The zero vector.
     pub const NONE: Vector = Vector {
         x: 0.0,
         y: 0.0,
         z: 0.0,
     };
 
-    /// Returns the vector of three whole components, which it has exactly.
+    /// Returns the vector of three whole components, which are represented exactly.
     pub fn of(x: i32, y: i32, z: i32) -> Vector {
         Vector {
             x: f64::from(x),
@@ -47,12 +47,12 @@ impl Vector {
         }
     }
 
-    /// Returns the scalar product with another.
+    /// Returns the scalar product with another vector.
     pub fn dot(self, other: Vector) -> f64 {
         self.x * other.x + self.y * other.y + self.z * other.z
     }
 
-    /// Returns the sum with another.
+    /// Returns the sum with another vector.
     pub fn plus(self, other: Vector) -> Vector {
         Vector {
             x: self.x + other.x,
@@ -61,7 +61,7 @@ impl Vector {
         }
     }
 
-    /// Returns the vector some times as long.
+    /// Returns the vector multiplied by a factor.
     pub fn times(self, factor: f64) -> Vector {
         Vector {
             x: self.x * factor,
@@ -70,18 +70,17 @@ impl Vector {
         }
     }
 
-    /// Returns the difference to another.
+    /// Returns the difference to another vector.
     pub fn minus(self, other: Vector) -> Vector {
         self.plus(other.times(-1.0))
     }
 
-    /// Returns the greatest scalar product with a vector whose components are no larger than these sizes,
-    /// either way.
+    /// Returns the greatest scalar product with a vector whose components have at most these magnitudes.
     pub fn most_within(self, sizes: Vector) -> f64 {
         self.x.abs() * sizes.x + self.y.abs() * sizes.y + self.z.abs() * sizes.z
     }
 
-    /// Returns the vector of length 1 that points the same way, or none.
+    /// Returns the vector of length 1 with the same direction, or the zero vector.
     pub fn unit(self) -> Vector {
         let square = self.dot(self);
         if square > 0.0 {

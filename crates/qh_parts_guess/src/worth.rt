@@ -5,34 +5,34 @@ use crate::sights::Sight;
 use qh_parts_join::{Divided, Part};
 use qh_places::Budget;
 
-/// The greatest number of corners of all parts whose hull is made so quickly that joining at seams does not pay.
+/// The greatest number of corners of all parts whose hull is computed so quickly that joining at seams does not pay.
 const FEW_CORNERS: usize = 40_000;
 
-/// The least number of facets of which one goes, on the mean, where joining pays. Those that go have one more hull, by one
-/// thread.
+/// The least number of facets for each removed one, on average, for joining to pay. One thread computes another hull of
+/// the removed ones.
 const GONE_SHARE: usize = 4;
 
 /// The number of facets of each part that are tested, spread over all.
 const ASKED: usize = 64;
 
-/// The greatest number of blocks and points that the test of a facet looks at, on the mean, for joining to pay. A round set
-/// looks at 50, an ellipsoid of the axes 9, 6 and 2 at 210, and a thin plate aslant at most of its corners.
+/// The greatest number of blocks and points that the test of a facet examines, on average, for joining to pay. A round
+/// set takes 50, an ellipsoid of the axes 9, 6 and 2 takes 210, and a slanted thin plate most of its corners.
 const LOOKED_FOR_EACH: u32 = 384;
 
-/// The number of facets that were tested, and of those among them that are removed.
+/// The number of tested facets, and the number of removed ones among them.
 #[derive(Clone, Copy, Drop)]
 struct Tally {
     asked: usize,
     gone: usize,
 }
 
-/// Returns the plane of the first facet from a place on.
+/// Returns the plane of the first facet at or after a place.
 fn first_sight(facets: Facets, place: usize) -> Option<Sight> {
     facets.sight(facets.first_from(place)?)
 }
 
 impl Tally {
-    /// Returns the tally after a test of some facets of a part, while the budget lasts.
+    /// Returns the tally after testing some facets of a part, until the budget is exhausted.
     fn with(self, part: &Part, others: Others, budget: &mut Budget) -> Tally {
         let facets = Facets::of(&part.surface);
         let step = facets.places() / ASKED + 1;
@@ -60,8 +60,8 @@ fn corner_count(set: Divided) -> usize {
     count
 }
 
-/// Returns true if it seems to pay to join the hulls of parts where they have more than `few` corners. It
-/// does not where many facets go, or where a test of one takes long.
+/// Returns true if joining the hulls of parts is likely to pay: they have more than `few` corners, few facets are
+/// removed, and testing a facet does not take long.
 pub(crate) fn is_worth_above(few: usize, set: Divided, outlines: &[Outline]) -> bool {
     if corner_count(set) <= few {
         return false;
@@ -75,8 +75,8 @@ pub(crate) fn is_worth_above(few: usize, set: Divided, outlines: &[Outline]) -> 
     !budget.is_spent() && tally.gone <= tally.asked / GONE_SHARE
 }
 
-/// Returns true if it seems to pay to join the hulls of the parts of a set at their seams: they have many
-/// corners, most of their facets are likely to stay, and few blocks tell this of a facet. `outlines` has the outline of
+/// Returns true if joining the hulls of the parts of a set at their seams is likely to pay: they have many corners,
+/// most of their facets are likely to stay, and a few blocks are enough to test a facet. `outlines` has the outline of
 /// each part.
 pub fn is_worth(set: Divided, outlines: &[Outline]) -> bool {
     is_worth_above(FEW_CORNERS, set, outlines)

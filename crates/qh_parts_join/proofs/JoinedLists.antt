@@ -1,10 +1,10 @@
--- Lists of polygons that are joined.
+-- Joined lists of polygons.
 use Rattle.std.proofs.Common.{◌≡◌, ℕ, ◌⊎◌, inl, List, [], ◌∷◌, length, refl}
 use Rattle.qh_model.specs.headline.{Vector.Vector, Sets.In, Sets.Members}
 use Rattle.qh_model.specs.contract.{ClosedPolygons.AreClosed, ClosedPolygons.IsFace}
 use Rattle.qh_laws.specs.contract.Parts.{IsPartFace, AreJoined}
 
--- polygons, one at least, that close up are joined
+-- polygons, at least one, that close up are joined
 pub are_joined : (at : ℕ → Vector) (ids kept : List ℕ) (qs : List (List ℕ)) → (length qs ≡ 0 → ⊥)
     → ((q : List ℕ) → In q qs → IsPartFace at ids kept q ⊎ IsFace at (Members kept) q) → AreClosed qs → AreJoined at ids kept qs
 are_joined at ids kept [] some each closed = absurd (some refl)

@@ -1,19 +1,19 @@
--- Ids of a list that are gathered one by one, but for those that are passed over.
+-- Ids of a list that are gathered one by one, except those that are skipped.
 use Rattle.std.proofs.Common.{◌≡◌, ℕ, ◌+◌, ◌<◌, ◌⊎◌, inl, inr, List, [], ◌∷◌, ◌++◌, length, slice_index, sym, subst, arith, ◌∙◌}
 use Rattle.std.proofs.lemmas.Bool.{cases_lt}
 use Rattle.qh_model.specs.headline.Sets.{In}
 use Rattle.qh_model.proofs.{Members.In-get_or, lists.Joined.in_append, lists.Joined.of_append}
 
--- of the first n ids, each is left, or passed over for P
+-- of the first n ids, each is gathered, or skipped because of P
 pub record AreLeftOf (P : ℕ → Type 0) (ids left : List ℕ) (n : ℕ) : Type 0 where
   pub each : (k : ℕ) → k < n → In (slice_index ids k) left ⊎ P (slice_index ids k)
   pub only : (l : ℕ) → In l left → In l ids
 
--- at the start none
+-- at the start no id is gathered
 pub none_left : (P : ℕ → Type 0) (ids left : List ℕ) → left ≡ [] → AreLeftOf P ids left 0
 none_left P ids left e = record { each = λ k h. absurd (omega arith); only = λ l i. absurd (subst (In l) e i) }
 
--- one more id is passed over, or is left
+-- one more id is skipped or gathered
 pub one_more : (P : ℕ → Type 0) (ids left more : List ℕ) (n x : ℕ) → AreLeftOf P ids left n → n < length ids
     → x ≡ slice_index ids n → (P x × (more ≡ left)) ⊎ (more ≡ left ++ x ∷ []) → AreLeftOf P ids more (n + 1)
 one_more P ids left more n x a within is (inl (over, e)) = record {

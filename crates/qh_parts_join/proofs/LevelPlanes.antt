@@ -1,4 +1,4 @@
--- Ids in a plane that no id is above, list by list.
+-- Ids in a plane with no id above it, list by list.
 use Rattle.std.proofs.Common.{◌≡◌, ℕ, ◌+◌, ◌<◌, inl, inr, List, [], ◌∷◌, ◌++◌, length, get_or, map, take, ap, sym, subst, ◌∙◌}
 use Rattle.std.proofs.lemmas.Grind.{flat_map-append}
 use Rattle.std.proofs.lemmas.Int.{by_lt_z}
@@ -12,11 +12,11 @@ use Rattle.qh_pred.specs.contract.Planes.{PlaneValue, height}
 use Rattle.qh_places.specs.contract.Places.{AreLevel}
 
 module _ (pts : List Vector) (plane : PlaneValue) where
-  -- of no ids none
+  -- the empty list has no id
   pub none_level : AreLevel pts [] plane []
   none_level = record { below = λ l m. absurd m; members = λ l. (λ m. absurd m, λ m. absurd m.0) }
 
-  -- what is found of two lists
+  -- the ids found in two lists
   pub level_both : (a b f g : List ℕ) → AreLevel pts a plane f → AreLevel pts b plane g → AreLevel pts (a ++ b) plane (f ++ g)
   level_both a b f g x y = record {
     below = λ l m. elim (of_append a b l m) [ inl i ↦ x.below l i | inr i ↦ y.below l i ];
@@ -35,7 +35,7 @@ module _ (pts : List Vector) (plane : PlaneValue) where
         | inr i ↦ inr ((y.members l).1 (i, m.1))
       ])
 
-  -- one more id in the plane
+  -- one more id is in the plane
   pub level_on : (a f : List ℕ) (l : ℕ) → AreLevel pts a plane f → height plane (place pts l) ≡ pos 0
       → AreLevel pts (a ++ l ∷ []) plane (f ++ l ∷ [])
   level_on a f l x e = level_both a (l ∷ []) f (l ∷ []) x (record { below = below; members = members })
@@ -51,7 +51,7 @@ module _ (pts : List Vector) (plane : PlaneValue) where
           on (inl s) = subst (λ n. height plane (place pts n) ≡ pos 0) (sym s) e
           on (inr n) = absurd n
 
-  -- one more id below it
+  -- one more id is below the plane
   pub level_under : (a f : List ℕ) (l : ℕ) → AreLevel pts a plane f → height plane (place pts l) <ℤ pos 0
       → AreLevel pts (a ++ l ∷ []) plane f
   level_under a f l x h = record { below = below; members = λ k. (there k, back k) }
@@ -83,11 +83,11 @@ module _ (pts : List Vector) (plane : PlaneValue) where
     );
   }
 
--- what is neither above nor in the plane is below it
+-- an id that is neither above nor in the plane is below it
 pub below_rest : (z : ℤ) → ¬ (pos 0 <ℤ z) → ¬ (z ≡ pos 0) → z <ℤ pos 0
 below_rest z up on = by_lt_z (pos 0) z (λ x. absurd (up x)) (λ x. le_less _ _ x on)
 
--- ---- a loop over lists, one more
+-- ---- a loop over lists: one more list
 pub one_next : (ids xs : List ℕ) (k x : ℕ) → k < length xs → x ≡ get_or xs k x → ids ++ take (k + 1) xs ≡ (ids ++ take k xs) ++ x ∷ []
 one_next ids xs k x h e =
     ap (λ t. ids ++ t) (take_more xs k x h ∙ ap (λ y. take k xs ++ y ∷ []) (sym e)) ∙ sym (append_assoc ids (take k xs) (x ∷ []))

@@ -1,4 +1,4 @@
--- Members that a loop lists: one by one, and three by three.
+-- Members that a loop lists one by one or three by three.
 use Rattle.std.proofs.Common.{◌≡◌, ℕ, inl, inr, List, [], ◌∷◌, ◌++◌, sym, subst, refl}
 use Rattle.qh_model.specs.headline.Sets.{In}
 use Rattle.qh_model.specs.contract.Surface.{Surface, IsCorner}
@@ -6,19 +6,19 @@ use Rattle.qh_model.specs.laws.CompletenessLaws.{IsLiveCorner}
 use Rattle.qh_model.proofs.lists.Joined.{in_append, of_append}
 use Rattle.qh_parts_join.proofs.Asked.{AreAsked, asking_starts, asking_goes}
 
--- the corners of the live facets that were asked, and no others
+-- exactly the corners of the live facets that were tested
 pub record AreListed (m : Surface) (left corners : List ℕ) : Type 0 where
   pub all : AreAsked (λ f. (l : ℕ) → IsCorner m f l → In l corners) m.live left
   pub only : (l : ℕ) → In l corners → IsLiveCorner m l
 
--- at the start there is no such corner
+-- at the start there is no corner
 pub none_listed : (m : Surface) (left corners : List ℕ) → left ≡ m.live → corners ≡ [] → AreListed m left corners
 none_listed m left corners e none = record {
   all = asking_starts _ m.live left e;
   only = λ l i. absurd (subst (In l) none i);
 }
 
--- three more
+-- three more corners
 pub three_more : (m : Surface) (all left corners : List ℕ) (f : ℕ) → AreListed m all corners → all ≡ f ∷ left
     → AreListed m left (corners ++ m.i f ∷ m.j f ∷ m.k f ∷ [])
 three_more m all left corners f a is = record {

@@ -1,4 +1,4 @@
--- A list with no fewer different ids than items has each once.
+-- A list whose different ids are at least the number of its items has each once.
 use Rattle.std.proofs.Common.{ℕ, ◌+◌, ◌≤◌, inl, inr, List, [], ◌∷◌, ◌++◌, length, arith, sym, subst}
 use Rattle.std.proofs.lemmas.List.{length-append}
 use Rattle.std.specs.Prelude.{◌↔◌}
@@ -8,12 +8,12 @@ use Rattle.qh_model.proofs.lists.Joined.{in_append, of_append}
 use Rattle.qh_model.proofs.lists.OnceEach.{once_within}
 
 module _ {X : Type 0} (each : List X) (once : Once each) where
-  -- where the members of `each` stand in two lists that together are no longer, the second list has each of its members once
+  -- if the members of `each` are in two lists that together are no longer, the second list has each of its members once
   behind : (before xs : List X) → ((x : X) → In x each → In x (before ++ xs)) → length before + length xs ≤ length each → Once xs
   behind before [] all short = tt
   behind before (x ∷ xs) all short = (again, behind (before ++ x ∷ []) xs moved (omega (arith, short, length-append before (x ∷ []))))
     where
-      -- were x to stand twice, it could be left out
+      -- if x occurred twice, it could be omitted
       again : In x xs → ⊥
       again m =
           let most = once_within each (before ++ xs) once left_out in

@@ -16,7 +16,7 @@ module _ (pts : List Vector) (shared : List ℕ) (parts : List Part) (are : All 
       let z = All-In (IsPartOf pts shared) parts p are i in
       subst (ArePlaced pts) (sym e) (record { indices = λ l j. z.indices l (z.inside l ((z.places.same l).0 j)); points = z.places.points }))
 
-  -- what the parts keep is what their places hold
+  -- the kept ids of the parts are those that their places hold
   pub corners_held : (kept : List ℕ) → KeepsCorners parts shared kept → AreHeld (map places_of parts) shared kept
   corners_held kept keeps l = (λ m. there ((keeps l).0 m), λ m. (keeps l).1 (back m))
     where

@@ -1,4 +1,4 @@
--- The corners of parts have all extreme ids.
+-- The corners of parts include all extreme ids.
 use Rattle.std.proofs.Common.{ℕ, ◌⊎◌, inl, inr, List, All}
 use Rattle.std.specs.Prelude.{◌↔◌}
 use Rattle.std.specs.List.{flat_map}
@@ -17,7 +17,7 @@ module _ (pts : List Vector) (ids shared kept : List ℕ) (parts : List Part) (a
   part : (p : Part) → In p parts → IsPartOf pts shared p
   part p i = All-In (IsPartOf pts shared) parts p are i
 
-  -- the ids of a part are of the set
+  -- the ids of a part are ids of the set
   pub part_inside : (p : Part) → In p parts → (l : ℕ) → In l p.ids.items → In l ids
   part_inside p i l m = (all l).0 (in_flat_map ids_in parts p l i m)
 

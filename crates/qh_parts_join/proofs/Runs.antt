@@ -1,15 +1,15 @@
--- A list that is gone through in pieces.
+-- A list that is processed in pieces.
 use Rattle.std.proofs.Common.{◌≡◌, ℕ, ◌≤◌, ◌⊎◌, inl, inr, List, [], ◌∷◌, length, take, drop, All, sym, subst, arith}
 use Rattle.qh_model.specs.headline.Sets.{In}
 use Rattle.qh_model.proofs.Members.{All-In, All-of}
 use Rattle.qh_places.proofs.ListMembers.{in_either, in_front, in_back}
 
--- what is left is of the list, and P holds of the others
+-- the remaining items are in the list, and P holds for the others
 pub record AreLeft {X : Type 0} (P : X → Type 0) (ids left : List X) : Type 0 where
   pub inside : (l : X) → In l left → In l ids
   pub done : (l : X) → In l ids → In l left ⊎ P l
 
--- at the start all are left
+-- at the start all items remain
 pub left_at_start : {X : Type 0} (P : X → Type 0) (ids : List X) → AreLeft P ids ids
 left_at_start P ids = record { inside = λ l i. i; done = λ l i. inl i }
 
@@ -19,7 +19,7 @@ module _ {X : Type 0} (P : X → Type 0) (ids left front back : List X) (n : ℕ
   pub front_inside : (l : X) → In l front → In l ids
   front_inside l i = a.inside l (in_front n left l (subst (In l) is_front i))
 
-  -- of which P holds
+  -- P holds for the next piece
   pub left_behind : ((l : X) → In l front → P l) → AreLeft P ids back
   left_behind own = record {
     inside = λ l i. a.inside l (in_back n left l (subst (In l) is_back i));
@@ -32,7 +32,7 @@ module _ {X : Type 0} (P : X → Type 0) (ids left front back : List X) (n : ℕ
     ];
   }
 
--- at the end none are left
+-- at the end no item remains
 pub all_done : {X : Type 0} (P : X → Type 0) (ids left : List X) → AreLeft P ids left → length left ≤ 0 → (l : X) → In l ids → P l
 all_done {X} P ids left a short l i = elim (a.done l i) [ inl m ↦ absurd (none left short m) | inr p ↦ p ]
   where
@@ -40,6 +40,6 @@ all_done {X} P ids left a short l i = elim (a.done l i) [ inl m ↦ absurd (none
     none [] h m = m
     none (x ∷ xs) h m = absurd (omega (arith, h))
 
--- all of a part of a list
+-- a fact about all items of a part of a list
 pub all_of_part : (P : ℕ → Type 0) (ids own : List ℕ) → All P ids → ((l : ℕ) → In l own → In l ids) → All P own
 all_of_part P ids own all inside = All-of P own (λ l i. All-In P ids l all (inside l i))

@@ -1,4 +1,4 @@
--- What the contracts of public functions cite.
+-- Definitions that the contracts of public functions cite.
 pub mod Joined
 pub mod Kept
 pub mod Parts

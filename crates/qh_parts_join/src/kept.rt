@@ -1,4 +1,4 @@
-//! The ids that are kept of a set: the corners of its parts. They have all extreme ids of the set.
+//! The kept ids of a set: the corners of its parts. They include all extreme ids of the set.
 ghost use Rattle.std.specs.Prelude.{◌≡◌, ◌↔◌, ℕ, List, IfOk, IfSome, IsTrue};
 ghost use Rattle.std.specs.List.{All, flat_map};
 ghost use Rattle.std.specs.List.Sorted.{IsStrictlyIncreasing};
@@ -42,7 +42,7 @@ fn are_same(ids: &[Id], others: &[Id]) -> bool
     ids == others
 }
 
-/// Returns true if parts have just the ids of a rising list.
+/// Returns true if parts have exactly the ids of a rising list.
 fn have_all(alloc: Global, parts: &[Part], ids: &[Id]) -> Result<bool, Memory>
     ensures { IfOk result (λ all. IsTrue all → (l : ℕ) → In l (flat_map ids_in parts.now) ↔ In l ids.now) }
 {
@@ -61,12 +61,12 @@ fn corners_and_shared(alloc: Global, parts: &[Part], shared: &[Id]) -> Result<Ve
     rising_ids(alloc, &listed)
 }
 
-/// Returns the ids that are kept of a set, rising: the corners of its parts and the shared ids; `None` if the parts
-/// do not have just the ids of the set, or a shared id is not in it. `ids` rise.
+/// Returns the kept ids of a set, rising: the corners of its parts and the shared ids. Returns `None` if the ids of the
+/// parts are not exactly those of the set, or a shared id is not in it. `ids` rise.
 ///
 /// # Errors
 ///
-/// `Memory` where an allocation failed.
+/// `Memory` if an allocation failed.
 pub fn kept_ids(
     alloc: Global,
     ids: &[Id],

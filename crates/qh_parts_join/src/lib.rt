@@ -1,11 +1,11 @@
 //! A set divided into parts, each with a finished mesh and its corners.
 //!
-//! A part (`parts`) has some ids of its own and ids that belong to every part. The corners of all parts are what is kept
-//! of the set (`kept`): all extreme ids are among them.
+//! A part (`parts`) has some ids of its own and ids that belong to every part. The kept ids of the set (`kept`) are the
+//! corners of all parts; they include all extreme ids.
 //!
-//! `guesses` has what a guess tells of a part: which facets stay where the corners of the other parts come in, and a
-//! witness for each of these. `qh_parts_guess` makes guesses, and `qh_parts::seam` checks them.
-//! [`join`] makes the hull of the faces that stay and those that close the gap between them.
+//! A guess about a part (`guesses`) lists the facets that stay when the corners of the other parts are added, and a
+//! witness for each of those corners. `qh_parts_guess` makes guesses, and `qh_parts::seam` checks them. [`join`] makes
+//! the hull of the faces that stay and the faces that close the gap between them.
 #![tactic(auto)]
 
 mod guesses;

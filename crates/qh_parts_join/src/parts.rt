@@ -21,8 +21,8 @@ use qh_surface::starts::Simplex;
 use qh_surface::{NamedMesh, surface_along};
 use std::alloc::{AllocError, Global};
 
-/// A part of a set: its ids, rising, their finished mesh, and the corners of the mesh that are no shared ids,
-/// in the order in which the ids were listed, with their points by blocks.
+/// A part of a set: its ids, rising, their finished mesh, and the corners of the mesh that are not shared ids. The
+/// corners are in the order in which the ids were listed, with their points by blocks.
 #[derive(Drop)]
 pub struct Part {
     pub ids: Vec<Id>,
@@ -52,8 +52,8 @@ fn simplex_of(pts: &[Point], shared: &[Id]) -> Option<Simplex>
     })
 }
 
-/// Returns the ids that are not shared in their order, then the shared ones, each once; where one that is not shared
-/// is listed twice, they rise instead. `rising` has the same ids.
+/// Returns the ids that are not shared in their order, then the shared ones, each once. If an id that is not shared is
+/// listed twice, the ids rise instead. `rising` has the same ids.
 fn each_once(
     alloc: Global,
     unshared: &[Id],
@@ -89,7 +89,8 @@ fn without(alloc: Global, ids: &[Id], others: &[Id]) -> Result<Vec<Id>, AllocErr
     Ok(left)
 }
 
-/// Returns for each position of a mesh the way out there, by the facets that begin at it. No answer depends on it.
+/// Returns the outward direction at each position of a mesh, computed from the facets that begin there. No answer
+/// depends on it.
 fn ways_out(alloc: Global, surface: &NamedMesh) -> Result<Vec<Outward>, AllocError> {
     let points = &surface.points;
     let mut ways = vec![in alloc; Outward::NONE; points.len()]?;
@@ -112,8 +113,8 @@ fn ways_out(alloc: Global, surface: &NamedMesh) -> Result<Vec<Outward>, AllocErr
     Ok(ways)
 }
 
-/// Returns the ways out at those ids of a mesh that stand in a list, in the same order. No answer
-/// depends on it.
+/// Returns the outward directions at those ids of a mesh that are in a list, in the same order. No answer depends on
+/// it.
 fn outward_of(alloc: Global, surface: &NamedMesh, own: &[Id]) -> Result<Vec<Outward>, AllocError> {
     let ways = ways_out(alloc, surface)?;
     let mut outward = Vec::with_capacity(alloc, own.len())?;
@@ -125,7 +126,7 @@ fn outward_of(alloc: Global, surface: &NamedMesh, own: &[Id]) -> Result<Vec<Outw
     Ok(outward)
 }
 
-/// Returns the ids of the corners of the live facets, as they come.
+/// Returns the ids of the corners of the live facets, facet by facet.
 fn corners_of(alloc: Global, surface: &NamedMesh) -> Result<Vec<Id>, AllocError>
     requires { AreCornersBelow (length surface.now.ids.items) surface.now.mesh }
     ensures all { IfOk result (λ v. (l : ℕ) → IsLiveCorner (surface_of (named surface.now)) l → In l v.items) }
@@ -145,7 +146,7 @@ fn has(ids: &[Id], id: Id) -> bool
     ids.contains(&id)
 }
 
-/// Returns true if all of some ids are in a list.
+/// Returns true if all ids of `some` are in a list.
 pub(crate) fn are_in(some: &[Id], ids: &[Id]) -> bool
     ensures { IsTrue result → (l : ℕ) → In l some.now → In l ids.now }
 {
@@ -157,7 +158,7 @@ pub(crate) fn are_in(some: &[Id], ids: &[Id]) -> bool
     true
 }
 
-/// Marks for the first `count` ids, by which those of a list are marked.
+/// Returns marks for the first `count` ids, set for the ids of a list.
 fn marks_of(alloc: Global, count: usize, ids: &[Id]) -> Result<Vec<bool>, AllocError>
     requires { All (λ i. i < count) ids.now }
     ensures { IfOk result (λ v. (l : ℕ) → In l ids.now → mark_at v.items l ≡ true) }
@@ -195,12 +196,12 @@ fn marked(alloc: Global, ids: &[Id], marks: &[bool]) -> Result<Vec<Id>, AllocErr
 
 impl Part {
     /// Returns the part of listed ids, if the shared ids, those of every part, are among them, and the points of the
-    /// first four of these do not lie in one plane. The ids may stand in any order, and more than once; near ones
-    /// best stand near each other.
+    /// first four shared ids do not lie in one plane. The ids may have any order and may repeat. The part is faster if
+    /// near ids are near each other in the list.
     ///
     /// # Errors
     ///
-    /// `Memory` where an allocation failed.
+    /// `Memory` if an allocation failed.
     pub fn of(
         alloc: Global,
         pts: &[Point],

@@ -1,4 +1,4 @@
--- A bundle of planes is above a block where the bound of its rest and its share is below the depth.
+-- A bundle of planes is above a block if the sum of the bounds of its rest and its share is below the depth.
 use Rattle.std.proofs.Common.{◌≡◌, ◌∙◌, ap, ℕ, ◌<◌, refl, sym, arith, subst, [], ◌∷◌}
 use Rattle.std.proofs.lemmas.Int.{ints, by_lt_z}
 use Rattle.std.specs.Prelude.{ℤ, pos, ◌+ℤ◌, ◌-ℤ◌, ◌*ℤ◌, ◌<ℤ◌, ◌≤ℤ◌}
@@ -16,7 +16,7 @@ use Rattle.qh_places.specs.steps.Boxes.{IsWithin}
 use Rattle.qh_places.specs.contract.Bundles.{taken, IsInSpans, IsOfBundle}
 use Rattle.qh_places.specs.steps.Slabs.{vector_of, less_times, IsInBlock}
 
--- a number of a span less k, times a way from one to another
+-- a number of a span minus k, times a difference from one number to another
 pub rest_top : (n w low high from to k l h f t g : ℤ) → IsBetween low n high → IsBetween from w to
     → l ≡ low -ℤ k → h ≡ high -ℤ k
     → ((r : ℤ) → IsBetween l r h → (from *ℤ r) ≤ℤ f) → ((r : ℤ) → IsBetween l r h → (to *ℤ r) ≤ℤ t)
@@ -36,7 +36,7 @@ rest_top n w low high from to k l h f t g hn hw el eh hf ht fg tg =
     down : (n -ℤ k) ≤ℤ pos 0 → ((n -ℤ k) *ℤ w) ≤ℤ g
     down d = last from f (greatest (n -ℤ k) from to from w ((λ u. absurd (omega (arith, ints, u, d))), (λ _. refl)) hw) (hf (n -ℤ k) inside) fg
 
--- the height of a point above a plane that is taken t times, by k times a direction and the rest
+-- the height of a point above a multiple of a plane, as a multiple of a direction plus the rest
 height_parts : (plane : PlaneValue) (m o p : Vector) (t k : ℤ)
     → height plane p *ℤ t ≡ k *ℤ (dot m p -ℤ dot m o)
     +ℤ dot (record { x = plane.normal.x *ℤ t -ℤ k *ℤ m.x; y = plane.normal.y *ℤ t -ℤ k *ℤ m.y; z = plane.normal.z *ℤ t -ℤ k *ℤ m.z }) (minus p o)
@@ -83,7 +83,7 @@ block_is_below b block k share rest es er total plane of p in_block =
         (height_parts plane m b.origin p of.times (pos k)) first second total of.deep in
         omega (arith, ints, g, l)
 
--- the way to a point between two coordinates is between the ways there
+-- the difference to a point between two coordinates is between the differences to these
 pub way_between : (low p high o a b : ℤ) → a ≡ low -ℤ o → b ≡ high -ℤ o → IsBetween low p high → IsBetween a (p -ℤ o) b
 way_between low p high o a b ea eb h = let l = h.0 in let g = h.1 in (omega (arith, ints), omega (arith, ints))
 
@@ -91,7 +91,7 @@ way_between low p high o a b ea eb h = let l = h.0 in let g = h.1 in (omega (ari
 pub three_below : (x y z a b c s : ℤ) → s ≡ a +ℤ b +ℤ c → x ≤ℤ a → y ≤ℤ b → z ≤ℤ c → (x +ℤ y +ℤ z) ≤ℤ s
 three_below x y z a b c s e hx hy hz = omega (arith, ints)
 
--- a plane is of the bundle, taken t times
+-- a multiple of a plane that is in the bundle
 pub of_bundle : (b : Bundle) (plane : PlaneValue) (n : Vector) (t : ℕ) (h x y z : ℤ) → n ≡ plane.normal → 0 < t
     → x ≡ n.x *ℤ pos t → y ≡ n.y *ℤ pos t → z ≡ n.z *ℤ pos t
     → IsBetween b.x.low x b.x.high → IsBetween b.y.low y b.y.high → IsBetween b.z.low z b.z.high

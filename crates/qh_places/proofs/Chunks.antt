@@ -1,11 +1,11 @@
--- What holds of each of all chunks holds of each of the list.
+-- A property of each element of all chunks holds for each element of the list.
 use Rattle.std.proofs.Common.{◌≡◌, ℕ, ◌+◌, ◌*◌, ◌/◌, ◌%◌, ◌<◌, ◌≤◌, arith, subst, ◌∙◌, ap, inl, inr, List, length}
 use Rattle.std.proofs.Common.{get_or, min, All}
 use Rattle.std.proofs.Math.Nat.{mul-le-mul_left}
 use Rattle.std.proofs.lemmas.Bool.{cases_lt}
 use Rattle.std.specs.Fork.{IsChunk}
 
--- a place lies in one of the chunks
+-- a position lies in one of the chunks
 chunk_of : (i n size : ℕ) → 0 < size → i < n → i / size < n / size + min 1 (n % size)
 chunk_of i n size s l = elim (cases_lt (i / size) (n / size)) [
   | inl h ↦ omega arith

@@ -1,4 +1,4 @@
--- Coordinates that code takes from points and makes points of.
+-- Coordinates that code reads from points and creates points from.
 use Rattle.std.proofs.Common.{◌≡◌, ◌∙◌, ◌<◌, ◌^◌, sym, subst}
 use Rattle.std.proofs.lemmas.Int.{to_z-of_z}
 use Rattle.std.specs.Prelude.{ℤ, pos, ◌<ℤ◌, ◌≤ℤ◌}
@@ -7,11 +7,11 @@ use lib.Signed.{mag}
 use mir.Syntax.{Width, w32, w128}
 use mir.Val.{hbits, to_z, of_z}
 
--- code keeps a number that fits
+-- code stores a number that fits unchanged
 kept : (w : Width) (z : ℤ) → mag z < 2 ^ hbits w → to_z w (of_z w z) ≡ z
 kept w z fits = to_z-of_z w z (record { sfits = fits })
 
--- a coordinate r, made of the far end of a range
+-- a coordinate r, equal to the far end of a range
 pub made_far : (a l h e x p q r : ℤ) → r ≡ to_z w32 (of_z w32 e) → mag e < 2 ^ hbits w32 → mag a < 2 ^ hbits w128
     → mag l < 2 ^ hbits w32 → mag h < 2 ^ hbits w32 → a ≡ x → l ≡ p → h ≡ q
     → IsFarEnd (to_z w128 (of_z w128 a)) (to_z w32 (of_z w32 l)) (to_z w32 (of_z w32 h)) e

@@ -1,4 +1,4 @@
--- What a plane finds position by position, and of the ids of a set.
+-- The ids that a plane finds, position by position and in a set.
 use Rattle.std.proofs.Common.{◌≡◌, ℕ, ◌+◌, ◌<◌, ◌≤◌, arith, refl, sym, ap, subst, ◌∙◌, inl, inr, List, [], ◌∷◌, ◌++◌}
 use Rattle.std.proofs.Common.{length, get_or}
 use Rattle.std.proofs.lemmas.List.{get_or_default, length-map, get_or-map}
@@ -22,7 +22,7 @@ use Rattle.qh_places.specs.contract.Places.{ArePlaces, IsAbove, AreLevel}
 
 -- ---- position by position
 module _ (points : List Vector) (ids : List ℕ) (plane : PlaneValue) where
-  -- nothing is looked at
+  -- no position is tested
   pub look_start : (from : ℕ) (old : List ℕ) → HasLooked points ids plane from from old old
   look_start from old = record {
     below = λ k f h l. absurd (omega arith);
@@ -88,7 +88,7 @@ module _ (points : List Vector) (ids : List ℕ) (plane : PlaneValue) where
       under : (j : ℕ) → j < k + 1 → k ≤ j → rise_at points plane j <ℤ pos 0
       under j m x = let same : k ≡ j = omega arith in subst (λ i. rise_at points plane i <ℤ pos 0) same u
 
-  -- the same of a point that is read
+  -- the same for a point that is read
   pub look_on : (from k : ℕ) (p : Vector) (i : ℕ) (old found : List ℕ) → HasLooked points ids plane from k old found
       → k < length points → k < length ids → p ≡ get_or points k p → i ≡ get_or ids k i → height plane p ≡ pos 0
       → HasLooked points ids plane from (k + 1) old (found ++ i ∷ [])
@@ -113,7 +113,7 @@ module _ (points : List Vector) (ids : List ℕ) (plane : PlaneValue) where
     subst (λ q. pos 0 <ℤ height plane q) (e ∙ get_or_default points k p origin l) h,
   )
 
--- ---- of the ids of a set
+-- ---- the ids of a set
 module _ (pts : List Vector) (ids : List ℕ) (p : Places) (are : ArePlaces pts ids p) (plane : PlaneValue) where
   long : length p.points.items ≡ length p.ids.items
   long = ap length are.points ∙ length-map p.ids.items (place pts)
@@ -136,7 +136,7 @@ module _ (pts : List Vector) (ids : List ℕ) (p : Places) (are : ArePlaces pts 
   pub above_of : (i : ℕ) → IsAboveAt p.points.items p.ids.items plane i → IsAbove pts ids plane i
   above_of i (n, m, e, h) = (id_at n i m e, subst (λ v. pos 0 <ℤ v) (rise_of n i (inside n m) e) h)
 
-  -- from what is found of all positions
+  -- the result for all positions
   pub level_of : (found : List ℕ)
       → ((k : ℕ) → k < length p.points.items → rise_at p.points.items plane k ≤ℤ pos 0)
       → ((k : ℕ) → k < length p.points.items → rise_at p.points.items plane k ≡ pos 0 → In (get_or p.ids.items k 0) found)
@@ -158,13 +158,13 @@ module _ (pts : List Vector) (ids : List ℕ) (p : Places) (are : ArePlaces pts 
           subst (λ x. In x found) a.2
           (lists a.0 (back a.0 a.1) (rise_of a.0 l a.1 a.2 ∙ o.1))
 
-  -- where all positions are looked at
+  -- the result if all positions were tested
   pub level_of_all : (found : List ℕ) → HasLooked p.points.items p.ids.items plane 0 (length p.points.items) [] found
       → AreLevel pts ids plane found
   level_of_all found h = level_of found (λ k l. h.below k (omega arith) l l) (λ k l e. h.lists k (omega arith) l l e)
       (h.only (λ i m. absurd m))
 
-  -- where those near are, and the plane is one of the bundle
+  -- the result if the near ones were tested, and the plane is in the bundle
   pub level_of_near : (near : Near) (found : List ℕ) → IsNear p.points.items near → IsOfBundle near.bundle plane
       → HasSeen p.points.items p.ids.items plane near.starts.items (length near.starts.items) found
       → AreLevel pts ids plane found
@@ -179,7 +179,7 @@ module _ (pts : List Vector) (ids : List ℕ) (p : Places) (are : ArePlaces pts 
       ])
       h.only
 
-  -- the answer of a look at all positions
+  -- the result of testing all positions
   pub all_looked : (o : Option ℕ) (found : List ℕ)
       → MatchOption o (0 ≤ length p.points.items → HasLooked p.points.items p.ids.items plane 0 (length p.points.items) [] found)
       (IsAboveAt p.points.items p.ids.items plane)
@@ -187,7 +187,7 @@ module _ (pts : List Vector) (ids : List ℕ) (p : Places) (are : ArePlaces pts 
   all_looked None found h = level_of_all found (h (omega arith))
   all_looked (Some i) found h = above_of i h
 
--- where none is found in the plane, all are strictly below it
+-- if no id is found in the plane, all are strictly below it
 pub none_found : (pts : List Vector) (ids : List ℕ) (plane : PlaneValue) (found : List ℕ) → AreLevel pts ids plane found
     → length found ≡ 0 → (l : ℕ) → In l ids → height plane (place pts l) <ℤ pos 0
 none_found pts ids plane found h e l m =

@@ -1,4 +1,4 @@
--- A plane that has no id of the set above it, with the polygon of the ids in it, is a face.
+-- A plane with no id of the set above it, with the polygon of the ids in it, is a face.
 use Rattle.std.proofs.Common.{◌≡◌, ℕ, sym, subst, ◌∙◌, inl, refl, List}
 use Rattle.std.specs.Prelude.{pos, ◌≤ℤ◌, ◌↔◌}
 use Rattle.std.specs.List.Sorted.{IsStrictlyIncreasing}

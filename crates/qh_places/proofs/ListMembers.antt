@@ -1,4 +1,4 @@
--- Members of a list: a test that finds them, and those before and behind a cut.
+-- Members of a list: a test that finds them, and those before and after a cut.
 use Rattle.std.proofs.Common.{◌≡◌, ℕ, zero, suc, ◌⊎◌, inl, inr, List, [], ◌∷◌, length, take, drop, subst, arith}
 use Rattle.std.proofs.Common.{refl, sym, Bool, true, false, eqb, eqb-true}
 use Rattle.std.specs.Prelude.{◌||◌}
@@ -27,32 +27,32 @@ in_any x (y ∷ ys) (inr m) = later (eqb y x) (in_any x ys m)
     later true e = refl
     later false e = e
 
--- a member stands before the cut or behind it
+-- a member is before the cut or after it
 pub in_either : {X : Type 0} (n : ℕ) (xs : List X) (x : X) → In x xs → In x (take n xs) ⊎ In x (drop n xs)
 in_either zero xs x m = inr m
 in_either (suc n) [] x m = absurd m
 in_either (suc n) (y ∷ xs) x (inl e) = inl (inl e)
 in_either (suc n) (y ∷ xs) x (inr m) = elim (in_either n xs x m) [ inl a ↦ inl (inr a) | inr b ↦ inr b ]
 
--- what stands before the cut stands in the list
+-- an element before the cut is in the list
 pub in_front : {X : Type 0} (n : ℕ) (xs : List X) (x : X) → In x (take n xs) → In x xs
 in_front zero xs x m = absurd m
 in_front (suc n) [] x m = absurd m
 in_front (suc n) (y ∷ xs) x (inl e) = inl e
 in_front (suc n) (y ∷ xs) x (inr m) = inr (in_front n xs x m)
 
--- so does what stands behind it
+-- so is an element after it
 pub in_back : {X : Type 0} (n : ℕ) (xs : List X) (x : X) → In x (drop n xs) → In x xs
 in_back zero xs x m = m
 in_back (suc n) [] x m = absurd m
 in_back (suc n) (y ∷ xs) x m = inr (in_back n xs x m)
 
--- a list without length has no member
+-- a list of length 0 has no member
 pub in_none : (xs : List ℕ) (x : ℕ) → length xs ≡ 0 → In x xs → ⊥
 in_none [] x e m = absurd m
 in_none (y ∷ ys) x e m = absurd (omega (arith, e))
 
--- a list is the same as itself
+-- a list equals itself
 pub same_itself : (xs : List ℕ) → pointwise eqb xs xs ≡ true
 same_itself [] = refl
 same_itself (x ∷ xs) = rw (eqb-refl x) (same_itself xs)

@@ -1,26 +1,26 @@
--- What holds of each of a list so far, of one more, and of all.
+-- A property of each element of a list so far, of one more, and of all.
 use Rattle.std.proofs.Common.{◌≡◌, ℕ, ◌+◌, ◌<◌, ◌≤◌, arith, sym, subst, List, length, get_or, slice_index, take, All}
 use Rattle.std.proofs.lemmas.List.{get_or_default, get_or-take, length-take, take_more}
 use Rattle.qh_model.specs.headline.Sets.{In}
 use Rattle.qh_model.proofs.Members.{all_and, in_at}
 
--- of one more of a list
+-- the property of one more element
 pub all_goes : {X : Type 0} (P : X → Type 0) (xs : List X) (k : ℕ) (x : X) → All P (take k xs) → k < length xs
     → x ≡ get_or xs k x → P x → All P (take (k + 1) xs)
 all_goes P xs k x h l e p =
     subst (All P) (sym (take_more xs k x l)) (all_and P (take k xs) (get_or xs k x) h (subst P e p))
 
--- and of one more number
+-- the property of one more number
 pub all_next : (P : ℕ → Type 0) (xs : List ℕ) (k : ℕ) → All P (take k xs) → k < length xs → P (get_or xs k 0)
     → All P (take (k + 1) xs)
 all_next P xs k h l p = all_goes P xs k (get_or xs k 0) h l (sym (get_or_default xs k (get_or xs k 0) 0 l)) p
 
--- and of all
+-- the property of all
 pub all_ends : {X : Type 0} (P : X → Type 0) (xs : List X) (k : ℕ) → length xs ≤ k → All P (take k xs) → All P xs
 all_ends P xs k l h i d m =
     subst P (get_or-take k xs i d (omega arith)) (h i d (subst (λ n. i < n) (sym (length-take k xs)) (omega arith)))
 
--- what holds of the ids at all places holds of all ids
+-- a property of the ids at all positions holds for all ids
 pub each_listed : (P : ℕ → Type 0) (ids : List ℕ) (n : ℕ) → length ids ≤ n → ((k : ℕ) → k < n → P (slice_index ids k))
     → (l : ℕ) → In l ids → P l
 each_listed P ids n long each l m = let (k, h, e) = in_at ids l m in subst P e (each k (omega (arith, h, long)))

@@ -1,4 +1,4 @@
--- The positions that begin at starts, and what is seen there.
+-- The positions that starts cover, and the results there.
 use Rattle.std.proofs.Common.{◌≡◌, ℕ, zero, suc, ◌+◌, ◌<◌, ◌≤◌, arith, sym, ap, subst, ◌∙◌, ◌⊎◌, inl, inr, List, [], ◌∷◌, ◌++◌}
 use Rattle.std.proofs.Common.{length, get_or, length-append}
 use Rattle.std.proofs.lemmas.List.{get_or_default, get_or_append_left}
@@ -11,11 +11,11 @@ use Rattle.qh_places.specs.declared.places.TheConstants.{LEAF}
 use Rattle.qh_places.specs.contract.Near.{IsBegun, IsNearUpTo}
 use Rattle.qh_places.specs.steps.Levels.{AreBelowAll, HasLooked, HasSeen}
 
--- a position that begins at one of the first starts begins at one of more
+-- a position that is covered by the first starts is covered by more starts
 more : (starts : List ℕ) (n m k : ℕ) → n ≤ m → IsBegun starts n k → IsBegun starts m k
 more starts n m k l b = (b.0, omega (arith, l, b.1), b.2, b.3)
 
--- a position begins at one of the starts, or at none
+-- a position is covered by one of the starts, or by none
 pub begun : (starts : List ℕ) (n k : ℕ) → IsBegun starts n k ⊎ ¬ (IsBegun starts n k)
 begun starts zero k = inr (λ b. (let l = b.1 in absurd (omega (arith, l))))
 begun starts (suc n) k = elim (begun starts n k) [
@@ -35,7 +35,7 @@ begun starts (suc n) k = elim (begun starts n k) [
       | inr l ↦ (let m = b.1 in let same : b.0 ≡ n = omega (arith, m, l) in absurd (other same))
     ]
 
--- ---- the positions that planes of a bundle look at
+-- ---- the positions where planes of a bundle have to be tested
 module _ (points : List Vector) (b : Bundle) where
   pub near_start : IsNearUpTo points b [] 0
   near_start plane o k l = absurd (omega arith)
@@ -78,7 +78,7 @@ module _ (points : List Vector) (b : Bundle) where
             subst (λ s. k < s + LEAF) (sym e) (omega arith),
           )
 
--- ---- what a plane sees from start to start
+-- ---- the results of a plane, start by start
 module _ (points : List Vector) (ids : List ℕ) (plane : PlaneValue) (starts : List ℕ) where
   pub seen_start : HasSeen points ids plane starts 0 []
   seen_start = record {

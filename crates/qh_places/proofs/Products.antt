@@ -1,4 +1,4 @@
--- Products that code makes of numbers of known sizes.
+-- Products of numbers of known sizes, as code computes them.
 use Rattle.std.proofs.Common.{◌≡◌, ◌∙◌, ap, ℕ, ◌^◌, ◌*◌, ◌<◌, ◌≤◌, sym, subst, arith, FitsSigned}
 use Rattle.std.proofs.Math.Nat.{mul-le-mul}
 use Rattle.std.proofs.lemmas.Int.{to_z-of_z, ints, unsigned_abs-mul, fits_signed_mul}

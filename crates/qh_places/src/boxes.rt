@@ -1,4 +1,4 @@
-//! Boxes of space with sides along the axes, round points.
+//! Boxes with sides along the axes, around points.
 ghost use Rattle.std.specs.Prelude.{◌≡◌, ◌⊎◌, ◌<◌, ◌<ℤ◌, pos, length, IsTrue};
 ghost use Rattle.qh_model.specs.headline.Vector.{Vector};
 ghost use Rattle.qh_pred.specs.contract.Planes.{height};
@@ -8,7 +8,7 @@ ghost use Rattle.qh_places.specs.steps.Boxes.{IsWithin, IsBoxOf};
 use qh_model::Point;
 use qh_pred::{Normal, Plane, greatest_of, least_of};
 
-/// The points from one corner to the opposite one, these among them.
+/// The points between two opposite corners, these included.
 #[derive(Clone, Copy, Drop)]
 pub(crate) struct PointBox {
     pub low: Point,
@@ -24,7 +24,7 @@ fn far_end(factor: i128, low: i32, high: i32) -> i32
 }
 
 impl PointBox {
-    /// Returns the box with one more point.
+    /// Returns the box extended by a point.
     fn with(self, p: Point) -> PointBox
         ensures own { IsWithin result p }
         ensures others { (q : Vector) → IsWithin self q → IsWithin result q }
@@ -35,7 +35,7 @@ impl PointBox {
         }
     }
 
-    /// Returns the smallest box round points.
+    /// Returns the smallest box around points.
     pub fn around(points: &[Point]) -> PointBox
         requires { 0 < length points.now }
         ensures { IsBoxOf points.now 0 (length points.now) result }
@@ -64,8 +64,7 @@ impl PointBox {
         )
     }
 
-    /// Returns true if the box lies strictly below the plane: its corner that lies furthest along the
-    /// normal does.
+    /// Returns true if the box lies strictly below the plane, which holds if its corner furthest along the normal does.
     pub fn is_below(&self, plane: &Plane) -> bool
         ensures { IsTrue result → (p : Vector) → IsWithin self.now p → height plane.now p <ℤ pos 0 }
     {

@@ -1,22 +1,22 @@
-//! Budgets: how much a search may look at before it is given up.
+//! Budgets, which limit the number of tests of a search.
 ghost use Rattle.std.specs.Prelude.{◌≡◌, ◌+◌, ◌-◌, ◌*◌, ◌≤◌, ◌↔◌, IsTrue};
 ghost use Rattle.qh_places.specs.declared.budget.TheConstants.{LEAST};
 
 use crate::places::{LEAF, Near};
 
-/// The least budget: searches in small sets are never given up. They take less than a millisecond.
+/// The least budget. Searches in small sets, which take less than a millisecond, are never given up.
 const LEAST: u64 = 65_536;
 
-/// The number of blocks, points and facets that a search may still look at. It is a count and no clock, so every run over
-/// the same points gives up at the same place.
+/// The number of blocks, points and facets that a search may still examine. Since it is a count and not a time, every
+/// run over the same points gives up at the same step.
 #[derive(Clone, Copy, Debug, Drop)]
 pub struct Budget {
-    /// What is left.
+    /// The remaining number.
     pub left: u64,
 }
 
 impl Budget {
-    /// Creates a budget of `each` for each of `count` things, or the least one if that is more.
+    /// Creates a budget of `each` for each of `count` items, or the least budget if that is more.
     pub fn for_each(count: usize, each: u32) -> Budget
         ensures least { LEAST ≤ result.left }
         ensures most { result.left ≤ count * each + LEAST }
@@ -27,7 +27,7 @@ impl Budget {
         }
     }
 
-    /// Takes a number from what is left. Returns false if there was less, and then nothing is left.
+    /// Subtracts a number from the budget. If the budget was less, sets it to 0 and returns false.
     pub fn spend(&mut self, count: usize) -> bool
         ensures lasts { IsTrue result ↔ count ≤ self.old.left }
         ensures left { self.new.left ≡ self.old.left - count }
@@ -38,7 +38,7 @@ impl Budget {
         lasts
     }
 
-    /// Returns true if nothing is left.
+    /// Returns true if the budget is exhausted.
     pub fn is_spent(&self) -> bool
         ensures { IsTrue result ↔ (self.now.left ≡ 0) }
     {
@@ -47,8 +47,8 @@ impl Budget {
 }
 
 impl Near {
-    /// Returns about how many blocks and points are looked at: to find the positions, and to test the points there against
-    /// `planes` planes.
+    /// Returns an estimate of the number of blocks and points examined: to find the positions, and to test the points
+    /// there against `planes` planes.
     pub fn cost(&self, planes: usize) -> usize {
         let points = self.starts.len().saturating_mul(LEAF);
         self.looked.saturating_add(points.saturating_mul(planes))

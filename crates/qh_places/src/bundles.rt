@@ -1,7 +1,7 @@
-//! Bundles of planes that slant nearly alike. One test of a block of points decides for the whole bundle.
+//! Bundles of planes with similar normals. One test of a block of points decides for the whole bundle.
 //!
-//! A normal of the bundle is a whole number of times the direction of the block, and a rest. The rest is
-//! small where both slant alike, so that it matters little how long the box is.
+//! A normal of the bundle is a multiple of the direction of the block, plus a rest. The rest is small if both are
+//! nearly parallel, so the length of the box matters little.
 ghost use Rattle.std.specs.Prelude.{◌≡◌, ◌<◌, ◌≤◌, ◌^◌, ◌+ℤ◌, ◌*ℤ◌, ◌-ℤ◌, ◌≤ℤ◌, ◌<ℤ◌, ℤ, pos, IsTrue, unsigned_abs};
 ghost use Rattle.qh_model.specs.headline.Vector.{Vector, minus, dot};
 ghost use Rattle.qh_pred.specs.contract.Planes.{PlaneValue, height};
@@ -17,19 +17,19 @@ use crate::spans::{Share, Span, TIMES_LIMIT};
 use qh_model::Point;
 use qh_pred::{Normal, Plane};
 
-/// The size that normals are scaled to, if they are smaller: 2^58.
+/// The size to which smaller normals are scaled: 2^58.
 const SCALE: u64 = 288230376151711744;
 
-/// By how many bits a product is shifted before it is multiplied by a block's inverse, so that 64 bits hold what comes
-/// out. The product lacks 28 bits, those that a middle product leaves off, and the inverse is 2^58 times too large: 30
-/// bits are too many, and the others are shifted off afterwards.
+/// The number of bits by which a product is shifted before it is multiplied by a block's inverse, so that the result
+/// fits 64 bits. The product lacks the 28 bits that a middle product omits, and the inverse is 2^58 times too large:
+/// the result has 30 bits too many, and the remaining ones are shifted off afterwards.
 const SHIFT_BEFORE: u32 = 16;
 
-/// By how many bits the product with a block's inverse is shifted.
+/// The number of bits by which the product with a block's inverse is shifted.
 const SHIFT_AFTER: u32 = 14;
 
-/// Bounds of the normals of planes, each scaled by a whole number, with how deep a point lies below each of the
-/// planes so scaled.
+/// Bounds of the normals of planes, each scaled by a whole number, and the depth of a point below each of the scaled
+/// planes.
 #[derive(Clone, Copy, Drop)]
 pub(crate) struct Bundle {
     pub origin: Point,
@@ -39,7 +39,7 @@ pub(crate) struct Bundle {
     pub depth: i128,
 }
 
-/// Returns the way from one coordinate to another.
+/// Returns the difference from one coordinate to another.
 fn way(from: i32, to: i32) -> i64
     ensures value { result ≡ to -ℤ from }
     ensures limit { unsigned_abs result ≤ 2 ^ 32 }
@@ -58,7 +58,7 @@ fn sum(a: i128, b: i128, c: i128) -> i128
     a + b + c
 }
 
-/// Returns a number taken some times.
+/// Returns the product of a number and a factor.
 fn taken(number: i128, times: u64) -> i128
     requires number { unsigned_abs number ≤ 2 ^ 64 }
     requires times { times ≤ TIMES_LIMIT }
@@ -77,12 +77,12 @@ fn reach_beyond(reach: i64, own: i64) -> i128
     i128::from(reach) - i128::from(own)
 }
 
-/// Returns a number in 64 bits, or the nearest that they hold.
+/// Returns the number as 64 bits, clamped to their range.
 fn narrow(number: i128) -> i64 {
     i64::try_from(number).unwrap_or(if number > 0 { i64::MAX } else { i64::MIN })
 }
 
-/// Returns how many times a normal is taken, so that it has about the size of `SCALE`.
+/// Returns the factor that scales a normal to about the size of `SCALE`.
 fn scale_of(normal: &Normal) -> u64
     ensures some { 0 < result }
     ensures limit { result ≤ SCALE }
@@ -92,7 +92,7 @@ fn scale_of(normal: &Normal) -> u64
     (SCALE / size.max(1)).max(1)
 }
 
-/// Returns a component of a normal, taken some times.
+/// Returns a component of a normal, multiplied by a factor.
 fn scaled(component: i128, times: u64) -> i128
     requires component { unsigned_abs component ≤ normal_limit }
     requires times { times ≤ SCALE }
@@ -101,8 +101,8 @@ fn scaled(component: i128, times: u64) -> i128
     component * i128::from(times)
 }
 
-/// Returns true if a point, by its height above a plane, is at least as deep below the plane as a number says,
-/// where the plane is taken some times.
+/// Returns true if a point, given its height above a plane, is at least `depth` below the plane, after scaling by a
+/// factor.
 fn is_deep(height: i128, times: u64, depth: i128) -> bool
     ensures { IsTrue result → (height *ℤ pos times +ℤ depth) ≤ℤ pos 0 }
 {
@@ -116,7 +116,7 @@ fn is_deep(height: i128, times: u64, depth: i128) -> bool
 }
 
 impl Bundle {
-    /// Returns a bundle of no planes.
+    /// Returns an empty bundle.
     fn none(origin: Point) -> Bundle {
         let none = Span {
             low: i64::MAX,
@@ -131,7 +131,7 @@ impl Bundle {
         }
     }
 
-    /// Returns the bundle with one more plane.
+    /// Returns the bundle extended by a plane.
     fn with(self, plane: &Plane) -> Bundle {
         let normal = plane.normal();
         let times = scale_of(&normal);
@@ -149,7 +149,7 @@ impl Bundle {
         }
     }
 
-    /// Returns the bundle of planes, seen from a point.
+    /// Returns the bundle of planes, relative to a point.
     pub fn of_planes(origin: Point, planes: &[Plane]) -> Bundle {
         let mut bundle = Bundle::none(origin);
         for plane in planes {
@@ -158,7 +158,7 @@ impl Bundle {
         bundle
     }
 
-    /// Returns true if a plane is known to be one of the bundle.
+    /// Returns true if a plane is known to be in the bundle.
     pub fn has(&self, plane: &Plane) -> bool
         ensures { IsTrue result → IsOfBundle self.now plane.now }
     {
@@ -170,8 +170,8 @@ impl Bundle {
             && is_deep(plane.height(self.origin), times, self.depth)
     }
 
-    /// Returns how many times the direction of a block goes into the normals, or 0 where they look the other way. It is
-    /// only a guess: by the upper bits of the products, and with no division.
+    /// Returns the approximate quotient of the normals and the direction of a block, or 0 if they point in opposite
+    /// directions. It is only a guess, computed from the upper bits of the products without division.
     fn times_along(&self, block: &Block) -> u64
         ensures { result ≤ TIMES_LIMIT }
     {
@@ -188,8 +188,8 @@ impl Bundle {
         u64::try_from(times).unwrap_or(0).min(TIMES_LIMIT)
     }
 
-    /// Returns a bound of the products of normals, less a direction taken some times, with the ways from the
-    /// origin to the points of a box.
+    /// Returns an upper bound of the products of two vectors: a normal minus a multiple of the direction, and the
+    /// vector from the origin to a point of a box.
     fn far_rest(&self, bounds: &PointBox, along: Direction, times: u64) -> i128
         requires { times ≤ TIMES_LIMIT }
         ensures value { (n p : Vector) → IsInSpans self.now n → IsWithin bounds.now p
@@ -219,8 +219,7 @@ impl Bundle {
         )
     }
 
-    /// Returns how far the points of a block reach beyond the origin along its direction, taken
-    /// some times.
+    /// Returns how far the points of a block reach beyond the origin along a multiple of its direction.
     fn far_share(&self, block: &Block, times: u64) -> i128
         requires { times ≤ TIMES_LIMIT }
         ensures value { result ≡ pos times *ℤ (block.now.reach -ℤ dot (vector_of block.now.along) self.now.origin) }
@@ -241,7 +240,7 @@ impl Bundle {
         share + rest < self.depth
     }
 
-    /// Returns true if all planes of the bundle are strictly above a block, as the direction of the block shows it.
+    /// Returns true if all planes of the bundle are strictly above a block, as shown by the direction of the block.
     pub fn is_above(&self, block: &Block) -> bool
         ensures { IsTrue result → (plane : PlaneValue) → IsOfBundle self.now plane
             → (p : Vector) → IsInBlock block.now p → height plane p <ℤ pos 0 }

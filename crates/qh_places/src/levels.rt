@@ -11,7 +11,8 @@ use qh_model::Point;
 use qh_pred::Plane;
 use std::alloc::{AllocError, Global};
 
-/// The binary logarithm of the positions of a block on each level but the lowest, the largest blocks first.
+/// The binary logarithm of the number of positions of a block on each level except the lowest, the largest blocks
+/// first.
 const SHIFTS: [u32; 8] = [20, 18, 16, 14, 12, 10, 8, 6];
 
 /// Blocks of `2 ^ shift` consecutive positions. The last block may have fewer.
@@ -21,7 +22,7 @@ pub(crate) struct Level {
     pub blocks: Vec<Block>,
 }
 
-/// Returns the positions of a block with this binary logarithm.
+/// Returns the number of positions of a block with this binary logarithm.
 fn positions(shift: u32) -> usize
     requires { shift < 63 }
     ensures { result ≡ 2 ^ shift }
@@ -30,8 +31,7 @@ fn positions(shift: u32) -> usize
 }
 
 impl Level {
-    /// Returns the blocks of `2 ^ shift` positions. `outward` has a guess for each point of which way
-    /// is out.
+    /// Returns the blocks of `2 ^ shift` positions. `outward` has a guess of the outward direction for each point.
     pub fn over(
         alloc: Global,
         points: &[Point],
@@ -55,8 +55,8 @@ impl Level {
         Ok(Level { shift, blocks })
     }
 
-    /// Returns the number of points from a position on that the box of one block shows to lie below the
-    /// plane: its size where it begins at the position and lies below, else 0.
+    /// Returns the number of points, beginning at a position, that the box of one block proves to lie below the plane:
+    /// the size of the block if it begins at the position and lies below, else 0.
     pub fn below(&self, plane: &Plane, from: usize) -> usize
         ensures { (points : List Vector) → IsLevel points self.now → AreBelow points plane.now from (from + result) }
     {
@@ -80,7 +80,7 @@ impl Level {
         }
     }
 
-    /// Returns the number of points from a position on that a single block shows to lie below all planes of a
+    /// Returns the number of points, beginning at a position, that a single block proves to lie below all planes of a
     /// bundle: the size of a block that begins at the position and lies below, else 0.
     pub fn below_all(&self, bundle: &Bundle, from: usize) -> usize
         ensures { (points : List Vector) → IsLevel points self.now → AreBelowAll points bundle.now from (from + result) }
@@ -100,8 +100,8 @@ impl Level {
     }
 }
 
-/// Returns the levels over points but the lowest, the largest blocks first. `outward` has a guess for each point of
-/// which way is out.
+/// Returns the levels over points except the lowest, the largest blocks first. `outward` has a guess of the outward
+/// direction for each point.
 pub(crate) fn levels_over(
     alloc: Global,
     points: &[Point],
@@ -111,7 +111,7 @@ pub(crate) fn levels_over(
 {
     let mut levels = Vec::new(alloc);
     for shift in SHIFTS {
-        // A level of one block says no more than the one below it, if that has one block, too.
+        // A level of one block is useless if the level below it has one block, too.
         if points.len() <= positions(shift) / 4 {
             continue;
         }
@@ -120,8 +120,8 @@ pub(crate) fn levels_over(
     Ok(levels)
 }
 
-/// Returns the number of points from a position on that the largest block which begins there and lies below
-/// all planes of a bundle shows to lie below them; 0 where there is no such block.
+/// Returns the number of points, beginning at a position, in the largest block that begins there and lies below all
+/// planes of a bundle; 0 if there is no such block.
 pub(crate) fn below_all(levels: &[Level], bundle: &Bundle, from: usize) -> usize
     ensures { (points : List Vector) → All (IsLevel points) levels.now → AreBelowAll points bundle.now from (from + result) }
 {

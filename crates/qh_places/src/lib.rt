@@ -1,12 +1,12 @@
-//! Points of a set by blocks, so that a plane asks few of them.
+//! Points of a set in blocks, so that a test of a plane examines few points.
 //!
-//! The ids of a set stand in an order in which near points are near each other, with a block over each 16, 64 and so on
-//! consecutive positions (`places`, `levels`): a box (`boxes`), a direction, and how far the points of the
-//! block reach along it (`slabs`). Planes that slant nearly alike are one bundle (`bundles`, `spans`). A block is
-//! passed over for all of them where its direction and its box show that it is below.
+//! The ids of a set are ordered so that neighbours in the list are near each other in space. Each 16, 64 and so on
+//! consecutive positions have a block (`places`, `levels`): a box (`boxes`), a direction, and how far the points of the
+//! block reach along it (`slabs`). Planes with similar normals are one bundle (`bundles`, `spans`). A block is skipped
+//! for the whole bundle if its direction and its box prove that it is below.
 //!
-//! Directions and bundles are guesses (`outward`). A wrong one costs time, and no answer depends on it. A search may have a
-//! budget (`budget`), and is given up where this does not last.
+//! Directions and bundles are guesses (`outward`). A wrong guess costs time, and no result depends on it. A search may
+//! have a budget (`budget`), and is given up when that is exhausted.
 #![tactic(auto)]
 
 mod boxes;

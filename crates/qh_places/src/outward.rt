@@ -1,9 +1,9 @@
-//! Guesses of which way is out. A wrong guess costs time alone.
+//! Guesses of outward directions. A wrong guess only costs time.
 use crate::slabs::Direction;
 use qh_model::Point;
 use qh_pred::cross;
 
-/// The sum of the normals of triangles: a guess of which way is out where they meet.
+/// The sum of the normals of triangles: a guess of the outward direction where they meet.
 #[derive(Clone, Copy, Drop)]
 pub struct Outward {
     x: i64,
@@ -12,10 +12,10 @@ pub struct Outward {
 }
 
 impl Outward {
-    /// The way out where there is no triangle: none.
+    /// The outward direction where there is no triangle: the zero vector.
     pub const NONE: Outward = Outward { x: 0, y: 0, z: 0 };
 
-    /// Returns the sum with another.
+    /// Returns the sum with another direction.
     pub fn plus(self, other: Outward) -> Outward {
         Outward {
             x: self.x.wrapping_add(other.x),
@@ -35,11 +35,11 @@ impl Outward {
     }
 }
 
-/// The size of the greatest component that a direction may have.
+/// The greatest magnitude of a component of a direction.
 const GREATEST: u64 = 32767;
 
-/// Returns a component as a direction has it, where `greatest` is the size of the greatest: that is made about as large as
-/// 16 bits hold.
+/// Returns a component scaled for a direction. `greatest` is the magnitude of the greatest component, which is scaled
+/// to about the greatest number that fits 16 bits.
 fn scaled(component: i64, greatest: u64) -> i16 {
     let divisor = i64::try_from(greatest / (GREATEST + 1) + 1).unwrap_or(1);
     let factor = i64::try_from(GREATEST / greatest.max(1))
@@ -49,7 +49,7 @@ fn scaled(component: i64, greatest: u64) -> i16 {
     i16::try_from(quotient.unwrap_or(0)).unwrap_or(0)
 }
 
-/// Returns the direction of the sum of ways.
+/// Returns the direction of the sum of outward directions.
 pub(crate) fn direction_of(ways: &[Outward]) -> Direction {
     let mut sum = Outward::NONE;
     for way in ways {

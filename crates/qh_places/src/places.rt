@@ -1,4 +1,4 @@
-//! The ids of a set in an order of space, with their points and blocks of these.
+//! The ids of a set in a spatial order, with their points and blocks of these.
 ghost use Rattle.std.specs.Prelude.{◌≡◌, ◌+◌, ◌<◌, ◌≤◌, ◌↔◌, ◌<ℤ◌, ℕ, List, pos, IfOk, MatchOption, IsTrue, length, map};
 ghost use Rattle.std.specs.List.{All};
 ghost use Rattle.qh_model.specs.headline.Sets.{In};
@@ -23,7 +23,7 @@ pub(crate) const LEAF: usize = 16;
 /// The binary logarithm of `LEAF`.
 const LEAF_SHIFT: u32 = 4;
 
-/// The ids of a set in an order of space, with their points and blocks of these.
+/// The ids of a set in a spatial order, with their points and blocks of these.
 #[derive(Drop)]
 pub struct Places {
     pub ids: Vec<Id>,
@@ -35,9 +35,10 @@ pub struct Places {
     ghost lowest: { IsLevel points.items leaves },
 }
 
-/// The positions of the points that some planes may meet. Planes that slant nearly alike leave few positions.
+/// The positions of the points that some planes may meet. Planes with similar normals leave few positions.
 ///
-/// They are among the first `LEAF` positions from each start on, found by `looked` blocks; the planes are those of the bundle.
+/// The positions are the first `LEAF` ones from each start on. The search examined `looked` blocks. The planes are
+/// those of the bundle.
 #[derive(Drop)]
 pub struct Near {
     bundle: Bundle,
@@ -67,14 +68,15 @@ fn points_of(alloc: Global, pts: &[Point], ids: &[Id]) -> Result<Vec<Point>, All
 impl Places {
     ghost use Rattle.qh_places.specs.contract.Places.{ArePlaces, IsAbove, AreLevel};
 
-    /// Returns the ids in their order, with their points and blocks of these. `outward` has a guess for each id of
-    /// which way is out.
+    /// Returns the ids in their order, with their points and blocks of these. `outward` has a guess of the outward
+    /// direction for each id.
     ///
-    /// Each of `ids` is the index of one of the points. Near ids best stand near each other.
+    /// Each of `ids` is the index of one of the points. Searches are faster if ids near each other in space are near
+    /// each other in the list.
     ///
     /// # Errors
     ///
-    /// `AllocError` where an allocation failed.
+    /// `AllocError` if an allocation failed.
     pub fn in_order(
         alloc: Global,
         pts: &[Point],
@@ -96,8 +98,8 @@ impl Places {
         })
     }
 
-    /// Lists the ids of the points from a position to another that lie in a plane, if none of these points lies
-    /// above it; else answers the id of one that does.
+    /// Appends the ids of the points in a range of positions that lie in a plane, if none of these points lies above
+    /// it; else returns the id of one that does.
     fn look(
         &self,
         plane: &Plane,
@@ -122,7 +124,7 @@ impl Places {
         Ok(None)
     }
 
-    /// Looks, as `look` does, at the positions that begin at one.
+    /// Does the same as `look` for the positions that begin at one.
     fn look_from(
         &self,
         plane: &Plane,
@@ -140,7 +142,7 @@ impl Places {
         self.look(plane, start, to, found)
     }
 
-    /// Returns the number of points from a position on that a single block shows to lie below all planes of a
+    /// Returns the number of points, beginning at a position, that a single block proves to lie below all planes of a
     /// bundle, or 0.
     fn below_all(&self, bundle: &Bundle, from: usize) -> usize
         ensures { AreBelowAll self.now.points.items bundle.now from (from + result) }
@@ -152,7 +154,7 @@ impl Places {
         self.leaves.below_all(bundle, from)
     }
 
-    /// Returns the positions that the planes of a bundle have to test.
+    /// Returns the positions where the planes of a bundle have to be tested.
     fn near(&self, alloc: Global, bundle: Bundle) -> Result<Near, AllocError>
         ensures { IfOk result (IsNear self.now.points.items) }
     {
@@ -176,12 +178,12 @@ impl Places {
         })
     }
 
-    /// Returns the positions that some planes have to look at, which best slant alike, and best pass near
-    /// a point.
+    /// Returns the positions where some planes have to be tested. The result is smaller if the planes have similar
+    /// normals and pass near one point.
     ///
     /// # Errors
     ///
-    /// `AllocError` where an allocation failed.
+    /// `AllocError` if an allocation failed.
     pub fn near_planes(
         &self,
         alloc: Global,
@@ -193,13 +195,13 @@ impl Places {
         self.near(alloc, Bundle::of_planes(origin, planes))
     }
 
-    /// Lists in `found` the ids whose points lie in a plane, if no point lies above the plane; else answers
-    /// the id of one that does. A plane for which `near` was made looks at the positions there alone, any
-    /// other plane at all.
+    /// Appends to `found` the ids whose points lie in a plane, if no point lies above the plane; else returns the id of
+    /// one that does. If `near` was made for the plane, only its positions are tested; for any other plane, all
+    /// positions are.
     ///
     /// # Errors
     ///
-    /// `AllocError` where an allocation failed.
+    /// `AllocError` if an allocation failed.
     pub fn on_plane(
         &self,
         plane: &Plane,
@@ -223,12 +225,12 @@ impl Places {
         Ok(None)
     }
 
-    /// Returns true if all points are strictly below each of some planes, which best slant alike, and best pass
-    /// near a point. Returns false, too, where the budget does not last.
+    /// Returns true if all points are strictly below each of some planes. The search is faster if the planes have
+    /// similar normals and pass near one point. Also returns false if the budget is exhausted.
     ///
     /// # Errors
     ///
-    /// `AllocError` where an allocation failed.
+    /// `AllocError` if an allocation failed.
     pub fn are_below(
         &self,
         alloc: Global,

@@ -1,4 +1,4 @@
-//! Blocks of points: a box, and how far its points reach along a direction that slants as the surface does there.
+//! Blocks of points: a box, and how far its points reach along a direction that approximates the surface normal there.
 ghost use Rattle.std.specs.Prelude.{◌≡◌, ◌<◌, ◌≤◌, ◌^◌, ◌+ℤ◌, ◌*ℤ◌, ◌≤ℤ◌, ℕ, length, slice_index_or, unsigned_abs};
 ghost use Rattle.qh_model.specs.headline.Vector.{origin, dot};
 ghost use Rattle.qh_places.specs.steps.Slabs.{vector_of, IsBlockOf};
@@ -6,7 +6,7 @@ ghost use Rattle.qh_places.specs.steps.Slabs.{vector_of, IsBlockOf};
 use crate::boxes::PointBox;
 use qh_model::Point;
 
-/// A direction of small components.
+/// A direction with small components.
 #[derive(Clone, Copy, Drop)]
 pub(crate) struct Direction {
     pub x: i16,
@@ -14,8 +14,8 @@ pub(crate) struct Direction {
     pub z: i16,
 }
 
-/// Points of a box that reach no further than `reach` along a direction. `inverse` is `UNIT` by the product of the
-/// direction with itself, or 0 where that is 0; guesses are made by it.
+/// Points of a box that reach no further than `reach` along a direction. `inverse` is `UNIT` divided by the scalar
+/// product of the direction with itself, or 0 if that is 0; it is used for guesses.
 #[derive(Clone, Copy, Drop)]
 pub(crate) struct Block {
     pub bounds: PointBox,
@@ -24,7 +24,7 @@ pub(crate) struct Block {
     pub reach: i64,
 }
 
-/// What inverses are taken of: 2^58.
+/// The numerator of inverses: 2^58.
 const UNIT: i64 = 288230376151711744;
 
 /// Returns the product of a component and a coordinate.
@@ -59,7 +59,7 @@ impl Direction {
         )
     }
 
-    /// Returns `UNIT` by its product with itself, or 0 where that is 0.
+    /// Returns `UNIT` divided by the scalar product of the direction with itself, or 0 if that is 0.
     fn inverse(self) -> i64 {
         let (x, y, z) = (i64::from(self.x), i64::from(self.y), i64::from(self.z));
         let square = x
@@ -69,7 +69,7 @@ impl Direction {
         UNIT.checked_div(square).unwrap_or(0)
     }
 
-    /// Returns how far the points that reach furthest along the direction do.
+    /// Returns the greatest reach of the points along the direction.
     fn furthest(self, points: &[Point]) -> i64
         requires { 0 < length points.now }
         ensures { (k : ℕ) → k < length points.now → dot (vector_of self) (slice_index_or points.now k origin) ≤ℤ result }

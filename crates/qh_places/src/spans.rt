@@ -2,10 +2,10 @@
 ghost use Rattle.std.specs.Prelude.{◌≡◌, ◌≤◌, ◌^◌, ◌*ℤ◌, ◌-ℤ◌, ◌≤ℤ◌, ℤ, pos, IsTrue, unsigned_abs};
 ghost use Rattle.qh_pred.specs.contract.Ranges.{IsBetween, IsFarEnd};
 
-/// The most times that a direction is taken: 2^48.
+/// The greatest multiple of a direction: 2^48.
 pub(crate) const TIMES_LIMIT: u64 = 281474976710656;
 
-/// The numbers from one to another.
+/// A closed range of numbers.
 #[derive(Clone, Copy, Drop)]
 pub(crate) struct Span {
     pub low: i64,
@@ -22,7 +22,7 @@ fn far_end(factor: i64, low: i128, high: i128) -> i128
     if factor > 0 { high } else { low }
 }
 
-/// Returns the product of a way and a number.
+/// Returns the product of a component and a number.
 fn way_product(way: i64, number: i128) -> i128
     requires way { unsigned_abs way ≤ 2 ^ 32 }
     requires number { unsigned_abs number ≤ 2 ^ 64 }
@@ -32,7 +32,7 @@ fn way_product(way: i64, number: i128) -> i128
     i128::from(way) * number
 }
 
-/// Returns the greatest product of a way with the numbers from one to another.
+/// Returns the greatest product of a component and a number of a closed range.
 fn far_product(way: i64, low: i128, high: i128) -> i128
     requires way { unsigned_abs way ≤ 2 ^ 32 }
     requires low { unsigned_abs low ≤ 2 ^ 64 }
@@ -54,7 +54,7 @@ fn greater(a: i128, b: i128) -> i128
     if a < b { b } else { a }
 }
 
-/// A component of a direction, and how many times the direction is taken.
+/// A component of a direction, and the factor of the direction.
 #[derive(Clone, Copy, Drop)]
 pub(crate) struct Share {
     pub times: u64,
@@ -62,7 +62,7 @@ pub(crate) struct Share {
 }
 
 impl Share {
-    /// Returns the component, taken `times` times.
+    /// Returns the component multiplied by the factor.
     fn number(self) -> i128
         requires { self.times ≤ TIMES_LIMIT }
         ensures value { result ≡ pos self.times *ℤ self.component }
@@ -72,7 +72,7 @@ impl Share {
     }
 }
 
-/// Returns an end of a span less a share.
+/// Returns an end of a span minus a share.
 fn end_rest(end: i64, share: i128) -> i128
     requires { unsigned_abs share ≤ 2 ^ 63 }
     ensures value { result ≡ end -ℤ share }
@@ -82,8 +82,8 @@ fn end_rest(end: i64, share: i128) -> i128
 }
 
 impl Span {
-    /// Returns the greatest product of two numbers: one of the span less the share, and one from `from`
-    /// to `to`.
+    /// Returns the greatest product of two numbers: a number of the span minus the share, and a number from `from` to
+    /// `to`.
     pub fn far_rest(&self, share: Share, from: i64, to: i64) -> i128
         requires times { share.times ≤ TIMES_LIMIT }
         requires from { unsigned_abs from ≤ 2 ^ 32 }
@@ -97,14 +97,14 @@ impl Span {
         greater(far_product(from, low, high), far_product(to, low, high))
     }
 
-    /// Returns true if a number is of the span.
+    /// Returns true if a number is in the span.
     pub fn has(self, number: i128) -> bool
         ensures { IsTrue result → IsBetween self.low number self.high }
     {
         i128::from(self.low) <= number && number <= i128::from(self.high)
     }
 
-    /// Returns the span with one more number.
+    /// Returns the span extended by a number.
     pub fn with(self, number: i64) -> Span {
         Span {
             low: self.low.min(number),
@@ -112,8 +112,8 @@ impl Span {
         }
     }
 
-    /// Returns the product of the middle of the span and a component, without the lowest 28 bits: by the upper bits of
-    /// the ends.
+    /// Returns the product of the middle of the span and a component, without the lowest 28 bits, computed from the
+    /// upper bits of the ends.
     pub fn middle_product(self, component: i16) -> i64 {
         self.low
             .wrapping_shr(29)

@@ -1,4 +1,4 @@
--- The distinct ids by marks; and what sorted keys of points tell of those that stand before, whatever numbers tell the places.
+-- The distinct ids by marks, and the repeats among sorted keys of points, for any numbers that determine the places.
 use Rattle.std.proofs.Common.{◌≡◌, ℕ, ◌+◌, ◌-◌, ◌*◌, ◌%◌, ◌/◌, ◌<◌, ◌≤◌, List, length, get_or, map, arith, ap, sym, subst, ◌∙◌, refl, ◌↔◌, ◌⊎◌, inl}
 use Rattle.std.proofs.Common.{inr, ⊎_elim, true, false, Bool}
 use Rattle.std.proofs.lemmas.{Bool.cases_lt, Bool.Decides.nat_tests, Nat.div-add-mod', Nat.div-mul-add, Nat.mod-mul-add}
@@ -20,21 +20,21 @@ rises_each n all a k h = let e = a.len in rw (a.each k (omega arith), a.each (k 
 pub all_in : (n : ℕ) (all : List ℕ) → AllIds n all → (i : ℕ) → i < n → In i all
 all_in n all a i h = subst (λ v. In v all) (a.each i h) (In-get_or all i 0 (let e = a.len in omega arith))
 
--- and nothing else
+-- no other number is listed
 pub in_all : (n : ℕ) (all : List ℕ) → AllIds n all → (i : ℕ) → In i all → i < n
 in_all n all a i m =
     let r = in_at all i m in
     let lt : r.0 < n = subst (λ v. r.0 < v) a.len r.1 in
     subst (λ v. v < n) (sym (a.each r.0 lt) ∙ r.2) lt
 
--- where all points differ, all ids are distinct
+-- if all points differ, all ids are distinct
 pub all_distinct : (pts : List Vector) (all : List ℕ) → AllIds (length pts) all → AllDiffer pts → AreDistinctIds pts all
 all_distinct pts all a differ = record {
   rising = rises_each (length pts) all a;
   members = λ i. ((λ m. let lt = in_all (length pts) all a i m in (lt, λ j l. differ j i l lt)), (λ d. all_in (length pts) all a i d.0));
 }
 
--- where the marks are those of the distinct ids, these are listed
+-- if the marks are those of the distinct ids, these are listed
 pub marked_distinct : (pts : List Vector) (marks : List Bool) → ((i : ℕ) → get_or marks i false ≡ true ↔ IsDistinctId pts i)
     → AreDistinctIds pts (marked_ids 0 marks)
 marked_distinct pts marks is = record {
@@ -49,7 +49,7 @@ marked_distinct pts marks is = record {
 abbrev pub key_by : ℕ → (ℕ → ℕ) → ℕ → ℕ
 key_by room code i = code i * room + i
 
--- the sorted keys of some ids of the points: equal points have one number
+-- the sorted keys of some ids of the points: equal points have equal numbers
 pub record AreSortedKeys (pts : List Vector) (room : ℕ) (code : ℕ → ℕ) (keys : List ℕ) : Type 0 where
   pub ids : List ℕ
   pub up : IsStrictlyIncreasing ids
@@ -66,14 +66,14 @@ id_up room x y e h = let a = div-add-mod' x room in let b = div-add-mod' y room 
 id_less : (room x y : ℕ) → x / room ≡ y / room → x < y → x % room < y % room
 id_less room x y e h = let a = div-add-mod' x room in let b = div-add-mod' y room in let q = ap (λ v. v * room) e in omega (arith, a, b, q, h)
 
--- the key of id i stands at n, and tells the id and its place
+-- the key of id i is at n, and determines the id and its place
 pub record StandsAt (room : ℕ) (code : ℕ → ℕ) (keys : List ℕ) (i n : ℕ) : Type 0 where
   pub within : n < length keys
   pub place_told : get_or keys n 0 / room ≡ code i
   pub id_told : get_or keys n 0 % room ≡ i
 
 module _ (pts : List Vector) (room : ℕ) (code : ℕ → ℕ) (keys : List ℕ) (k : AreSortedKeys pts room code keys) where
-  -- a key tells its id
+  -- a key determines its id
   tell : TellIds room (key_by room code) k.ids
   tell i m = mod-mul-add (code i) room i (k.small i (k.inside i m))
 
@@ -81,7 +81,7 @@ module _ (pts : List Vector) (room : ℕ) (code : ℕ → ℕ) (keys : List ℕ)
   told : (x : ℕ) → In x keys → IsKeyIn room (key_by room code) k.ids x
   told = key_told room (key_by room code) k.ids keys k.same tell
 
-  -- which is an index
+  -- this id is an index
   pub index_in : (x : ℕ) → In x keys → x % room < length pts
   index_in x m = k.inside (x % room) (told x m).has
 
@@ -93,11 +93,11 @@ module _ (pts : List Vector) (room : ℕ) (code : ℕ → ℕ) (keys : List ℕ)
   listed : (i : ℕ) → In i k.ids → In (key_by room code i) keys
   listed = key_listed room (key_by room code) k.ids keys k.same tell
 
-  -- which tells its place
+  -- the key determines the number of the place
   code_in_key : (i : ℕ) → i < length pts → key_by room code i / room ≡ code i
   code_in_key i h = div-mul-add (code i) room i (k.small i h)
 
-  -- and its id
+  -- and the id
   id_in_key : (i : ℕ) → i < length pts → key_by room code i % room ≡ i
   id_in_key i h = mod-mul-add (code i) room i (k.small i h)
 
@@ -109,11 +109,11 @@ module _ (pts : List Vector) (room : ℕ) (code : ℕ → ℕ) (keys : List ℕ)
   pub all_within : All (λ x. x % room < length pts) keys
   all_within = All-of (λ x. x % room < length pts) keys index_in
 
-  -- each key stands for its id
+  -- each key is that of its id
   pub stands : (n : ℕ) → n < length keys → StandsAt room code keys (get_or keys n 0 % room) n
   stands n h = record { within = h; place_told = code_told (get_or keys n 0) (In-get_or keys n 0 h); id_told = refl }
 
-  -- the key of each of the ids stands somewhere
+  -- the key of each of the ids has a position
   pub position : (i : ℕ) → In i k.ids → (n : ℕ) × StandsAt room code keys i n
   position i m =
       let h = k.inside i m in let r = in_at keys (key_by room code i) (listed i m) in (
@@ -121,7 +121,7 @@ module _ (pts : List Vector) (room : ℕ) (code : ℕ → ℕ) (keys : List ℕ)
         record { within = r.1; place_told = ap (λ v. v / room) r.2 ∙ code_in_key i h; id_told = ap (λ v. v % room) r.2 ∙ id_in_key i h },
       )
 
-  -- of two ids with one number, the key of the lower one stands before
+  -- of two ids with one number, the key of the lower one comes first
   pub stands_before : (i j p q : ℕ) → i < j → code i ≡ code j → StandsAt room code keys i p → StandsAt room code keys j q → p < q
   stands_before i j p q l e s t = ⊎_elim (λ h. h) (λ h. absurd (back (id_up room (get_or keys q 0) (get_or keys p 0)
       (t.place_told ∙ sym e ∙ sym s.place_told) (k.rising q p 0 h s.within)))) (cases_lt p q)
@@ -129,7 +129,7 @@ module _ (pts : List Vector) (room : ℕ) (code : ℕ → ℕ) (keys : List ℕ)
       back : get_or keys q 0 % room ≤ get_or keys p 0 % room → ⊥
       back h = let a = s.id_told in let b = t.id_told in omega (arith, l, h, a, b)
 
-  -- ---- the ids that stand before, where the keys are those of all ids
+  -- ---- the repeats, if the keys are those of all ids
   module _ (every : (i : ℕ) → i < length pts → In i k.ids) (apart : (i j : ℕ) → i < j → j < length pts → code i ≡ code j → place pts i ≡ place pts j)
       (ids : List ℕ) (told : ArePlaceRepeats room keys (length keys) ids) where
     -- the key of an id with a lower one of its place has the place of the key before
@@ -159,7 +159,7 @@ module _ (pts : List Vector) (room : ℕ) (code : ℕ → ℕ) (keys : List ℕ)
             within : n + 1 < length keys
             within = subst (λ m. m < length keys) (sym e) q.1.within
 
-    -- and a key that has it has such an id
+    -- a key that has the place of the key before belongs to a repeated id
     repeated : (i : ℕ) → In i ids → IsRepeatedId pts i
     repeated i m = subst (IsRepeatedId pts) (sym r.3) (inside, low, less, apart low high less inside codes)
       where
@@ -187,7 +187,7 @@ module _ (pts : List Vector) (room : ℕ) (code : ℕ → ℕ) (keys : List ℕ)
         less : low < high
         less = id_less room (get_or keys r.0 0) (get_or keys (r.0 + 1) 0) r.2 (up r.0 r.1)
 
-    -- so these are the ids of the points that stand before
+    -- so these are the ids of the points that are equal to an earlier one
     pub all_repeats : AreAllRepeats pts ids
     all_repeats = record { has = λ i _ r. repeats i r; only = repeated }
 

@@ -1,4 +1,4 @@
--- Pieces of a list: the points between the first ones of a piece stand before, and the distinct points of a piece are its first ones.
+-- Pieces of a list: the points between the first ones of a piece are repeats, and the distinct points of a piece are its first ones.
 use Rattle.std.proofs.Common.{◌≡◌, ◌∙◌, ℕ, zero, suc, ◌+◌, ◌-◌, ◌*◌, ◌/◌, ◌%◌, ◌<◌, ◌≤◌, ◌⊎◌, inl, inr, List, length, get_or, min, arith, sym, subst}
 use Rattle.std.proofs.lemmas.{Bool.cases_lt, List.get_or_default, List.get_or_past}
 use Rattle.std.proofs.lemmas.Nat.{div-add-mod'}
@@ -31,7 +31,7 @@ module _ (pts : List Vector) (begin end : ℕ) (firsts : List ℕ) (order : begi
       by_order (inl h) = let r = rising_between firsts i q f.rising h l in omega (arith, r)
       by_order (inr h) = let e : i ≡ q = omega (arith, g, h) in subst (λ k. get_or firsts i 0 ≤ get_or firsts k 0) e (omega arith)
 
-  -- none of them lies between two that follow each other
+  -- none of them lies between two consecutive ones
   between : (i m : ℕ) → ((q : ℕ) → q < i → q < length firsts → get_or firsts q 0 < m) → begin + m < first_at i → IsRepeatedId pts (begin + m)
   between i m above before = told (f.others m (let h = first_within i in omega (arith, before, h)))
     where
@@ -47,7 +47,7 @@ module _ (pts : List Vector) (begin end : ℕ) (firsts : List ℕ) (order : begi
       told (inr r) = r
       told (inl in_) = let a = in_at firsts m in_ in absurd (none_there a.0 a.1 a.2 (cases_lt a.0 i))
 
-  -- where the points before one are seen that have none of the first ones behind them, those before the next first one are
+  -- if the points before a point are processed, and none of the first ones lies between it and the next first one, the points before the next one are processed
   seen_before : (b : CloseBox) (slots ids : List ℕ) (i k : ℕ) → length pts ≤ POINT_LIMIT → HaveFirsts pts b slots (begin + k) ids
       → begin + k ≤ first_at i → ((q : ℕ) → q < i → q < length firsts → get_or firsts q 0 < k) → HaveFirsts pts b slots (first_at i) ids
   seen_before b slots ids i k few old l above =
@@ -56,13 +56,13 @@ module _ (pts : List Vector) (begin end : ℕ) (firsts : List ℕ) (order : begi
       (λ m h. subst (IsRepeatedId pts) {x = begin + (k + m)} {y = begin + k + m} (omega arith)
       (between i (k + m) (λ q g n. let a = above q g n in omega (arith, a)) (omega (arith, h, l)))))
 
-  -- at first those before the first one
+  -- in the beginning those before the first one
   pub first_begun : (b : CloseBox) (slots ids : List ℕ) → length pts ≤ POINT_LIMIT → HaveFirsts pts b slots begin ids → HaveFirsts pts b slots (first_at 0) ids
   first_begun b slots ids few old =
       seen_before b slots ids 0 0 few (subst (λ n. HaveFirsts pts b slots n ids) {x = begin} {y = begin + 0} (omega arith) old) (omega arith)
       (λ q g n. absurd (omega (arith, g)))
 
-  -- then, with one first point more, those before the next one
+  -- then, after one more first point, those before the next one
   pub first_passed : (b : CloseBox) (slots ids : List ℕ) (i : ℕ) → length pts ≤ POINT_LIMIT → i < length firsts
       → HaveFirsts pts b slots (first_at i + 1) ids → HaveFirsts pts b slots (first_at (i + 1)) ids
   first_passed b slots ids i few l old =
@@ -82,13 +82,13 @@ module _ (pts : List Vector) (begin end : ℕ) (firsts : List ℕ) (order : begi
       above : (q : ℕ) → q < i + 1 → q < length firsts → get_or firsts q 0 < get_or firsts i 0 + 1
       above q h n = let r = at_most q i (omega (arith, h)) l in omega (arith, r)
 
-  -- behind the last one the piece is seen
+  -- after the last one the piece is processed
   pub piece_seen : (b : CloseBox) (slots ids : List ℕ) (i : ℕ) → length firsts ≤ i → HaveFirsts pts b slots (first_at i) ids → HaveFirsts pts b slots end ids
   piece_seen b slots ids i g old =
       let past = get_or_past firsts i (end - begin) g in
       subst (λ n. HaveFirsts pts b slots n ids) {x = first_at i} {y = end} (omega (arith, past, order)) old
 
--- an equal point stands before one, or none
+-- an earlier equal point, or none
 stands_before : (pts : List Vector) (i n : ℕ) → Decided ((j : ℕ) × (j < n) × (place pts j ≡ place pts i))
 stands_before pts i zero = inr (λ s. let l = s.1 in omega (arith, l))
 stands_before pts i (suc n) = by_decision (stands_before pts i n) (same_vector (place pts n) (place pts i))
@@ -104,7 +104,7 @@ stands_before pts i (suc n) = by_decision (stands_before pts i n) (same_vector (
         by_order s (inr g) = let l = s.1 in let e : s.0 ≡ n = omega (arith, l, g) in other (subst (λ k. place pts k ≡ place pts i) e s.2)
 
 module _ (pts piece : List Vector) (size n : ℕ) (ids : List ℕ) (c : IsChunk pts size (n * size) piece) (d : AreDistinctIds piece ids) where
-  -- a point of the piece is that of the list
+  -- a point of the piece is a point of the list
   same_place : (k : ℕ) → k < length piece → place piece k ≡ place pts (n * size + k)
   unfolding place
   same_place k l = c.elements k origin l
@@ -148,7 +148,7 @@ chunks_reach len size count some is = by_rest (cases_lt 0 (len % size))
         subst (λ n. len ≤ n * size) (sym e) (omega (arith, parts, below, add-mul (len / size) 1 size, one-mul size))
     by_rest (inr g) = let e : count ≡ len / size = omega (arith, is, g) in subst (λ n. len ≤ n * size) (sym e) (omega (arith, parts, g))
 
--- where a piece ends, and that it does not begin behind it
+-- the end of a piece, which is not before its beginning
 pub next_end : (pts : List Vector) (size n begin sum end : ℕ) → length pts ≤ POINT_LIMIT → begin ≡ end_of pts size n
     → sum ≡ min (begin + size) 18446744073709551615 → end ≡ min sum (length pts) → (end ≡ end_of pts size (n + 1)) × (begin ≤ end)
 next_end pts size n begin sum end few is added least =

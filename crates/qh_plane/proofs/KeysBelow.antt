@@ -1,4 +1,4 @@
--- The keys of consecutive points, and those of one point more or of the points after them.
+-- The keys of consecutive points, extended by one more point or by the points after them.
 use Rattle.std.proofs.Common.{◌≡◌, ℕ, ◌+◌, ◌<◌, ◌≤◌, ◌⊎◌, inl, inr, ⊎_elim, List, [], ◌∷◌, ◌++◌, arith, ap₂, sym, subst, ◌∙◌, refl}
 use Rattle.std.proofs.lemmas.{Bool.cases_lt, List.map-append}
 use native.Mathlib.Decide.{ℕ_discrete}
@@ -6,7 +6,7 @@ use Rattle.qh_model.proofs.lists.{Joined.in_append, Joined.of_append, Rising.ris
 use Rattle.qh_model.specs.headline.{Sets.In, Vector.Vector}
 use Rattle.qh_plane.specs.steps.HashedKeys.{Hashes, hash_at, hashed_key_at, AreKeysBetween}
 
--- of no points there are no keys
+-- no points have no keys
 pub no_keys : (pts : List Vector) (some : Hashes) (from : ℕ) → AreKeysBetween pts some from from []
 no_keys pts some from = record {
   ids = [];
@@ -35,7 +35,7 @@ module _ (pts : List Vector) (some : Hashes) (from n : ℕ) (keys : List ℕ) (k
       next i l s (yes e) = absurd (not (subst (λ j. some (hash_at pts j)) e s))
       next i l s (no ne) = omega (arith, l, ne)
 
-  -- the keys of the points up to another id come after them
+  -- the keys of the points up to another id follow
   pub keys_joined : (to : ℕ) (more : List ℕ) → from ≤ n → n ≤ to → AreKeysBetween pts some n to more → AreKeysBetween pts some from to (keys ++ more)
   keys_joined to more a b m = record {
     ids = k.ids ++ m.ids;
@@ -59,7 +59,7 @@ module _ (pts : List Vector) (some : Hashes) (from n : ℕ) (keys : List ℕ) (k
       told i (inl p) = k.only i p
       told i (inr p) = m.only i p
 
-  -- the key of a point with one of the hashes comes last
+  -- the key of a point with one of the hashes is appended
   pub key_added : from ≤ n → some (hash_at pts n) → AreKeysBetween pts some from (n + 1) (keys ++ hashed_key_at pts n ∷ [])
   key_added a here = keys_joined (n + 1) (hashed_key_at pts n ∷ []) a (omega arith) record {
     ids = n ∷ [];

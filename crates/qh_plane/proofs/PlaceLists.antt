@@ -1,4 +1,4 @@
--- The ids of points that stand before by each of the two keys: by the number of the place, and by a hash of it.
+-- The ids of points that are equal to an earlier one, for each of the two keys: the number of the place, and a hash of it.
 use Rattle.std.proofs.Common.{◌≡◌, ℕ, ◌+◌, ◌-◌, ◌%◌, ◌/◌, ◌<◌, ◌≤◌, ◌⊎◌, inl, inr, List, length, get_or, arith, ap, sym, subst}
 use Rattle.std.proofs.{Common.◌∙◌, Common.IsPermutation, lemmas.Bool.cases_lt}
 use Rattle.std.specs.List.{All, Sorted.IsNonDecreasing}
@@ -35,7 +35,7 @@ module _ (pts : List Vector) (keys : List ℕ) (k : ArePlaceKeys pts keys) (risi
     equal = λ i j e. ap place_code e;
   }
 
-  -- the ids of the keys that have the place of the key before are those of the points that stand before
+  -- the ids of the keys that have the place of the key before are those of the points that are equal to an earlier one
   pub place_repeats : (ids : List ℕ) → ArePlaceRepeats ROOM keys (length keys) ids → AreAllRepeats pts ids
   unfolding sorted
   place_repeats ids told =
@@ -131,7 +131,7 @@ module _ (pts : List Vector) (some : Hashes) (keys : List ℕ) (few : length pts
             two : q.0 - 2 + 2 ≡ q.0
             two = omega (arith, g)
 
-    -- and a key that repeats the one before has such an id
+    -- a key that repeats the key before belongs to a repeated id
     repeated : (i : ℕ) → In i ids → IsRepeatedId pts i
     repeated i m = subst (IsRepeatedId pts) (sym r.3) (lt, key r.0 % ID_ROOM, lower (key r.0) (key (r.0 + 1)) rises r.2.0, r.2.1)
       where
@@ -147,11 +147,11 @@ module _ (pts : List Vector) (some : Hashes) (keys : List ℕ) (few : length pts
         lower : (x y : ℕ) → x < y → x / ID_ROOM ≡ y / ID_ROOM → x % ID_ROOM < y % ID_ROOM
         lower x y a b = omega (arith, a, b)
 
-    -- so these are the ids of the points that stand before
+    -- so these are the ids of the points that are equal to an earlier one
     pub repeats_are : AreRepeats pts (WithHashes pts some) ids
     repeats_are = record { has = repeats; only = repeated }
 
--- of the keys of some hashes, once they are sorted
+-- the keys of some hashes, after they are sorted
 module _ (pts : List Vector) (some : Hashes) (given keys : List ℕ) (few : length pts ≤ POINT_LIMIT)
     (known : AreKeysBelow pts some (length pts) given) (same : IsPermutation given keys) (rising : IsNonDecreasing keys) where
   hashed_keys : AreHashedKeys pts some keys
@@ -161,6 +161,6 @@ module _ (pts : List Vector) (some : Hashes) (given keys : List ℕ) (few : leng
   pub sorted_within : (read : List ℕ) → read ≡ keys → All (λ x. x % ID_ROOM < length pts) read
   sorted_within read e = subst (All (λ x. x % ID_ROOM < length pts)) (sym e) (hashes_within pts some keys few hashed_keys rising)
 
-  -- and those told are the ids of the points that stand before
+  -- the ids found are those of the points that are equal to an earlier one
   pub sorted_repeats : (read : List ℕ) → read ≡ keys → (ids : List ℕ) → RepeatsTold pts read (length read) ids → AreRepeats pts (WithHashes pts some) ids
   sorted_repeats read e ids told = repeats_are pts some keys few hashed_keys rising ids (subst (λ v. RepeatsTold pts v (length v) ids) e told)

@@ -1,4 +1,4 @@
--- Points that stand before: told key by key, joined from parts of the hashes, and left out.
+-- Points that are equal to an earlier one: found key by key, joined from parts of the hashes, and removed.
 use Rattle.std.proofs.Common.{◌≡◌, ◌≢◌, ℕ, zero, suc, ◌+◌, ◌-◌, ◌*◌, ◌/◌, ◌%◌, ◌<◌, ◌≤◌, ◌⊎◌, inl, inr, List, [], ◌∷◌, ◌++◌, Bool, true, false, length}
 use Rattle.std.proofs.Common.{get_or, set, arith, ap, sym, subst, ◌∙◌, refl, get_or-set_same, get_or-set_other, ⊎_elim}
 use Rattle.std.proofs.Math.Nat.{div-lt_iff_lt-mul, mul-lt-mul_of_pos_right}
@@ -14,7 +14,7 @@ use Rattle.qh_plane.specs.steps.PlaceKeys.{AllIds}
 use Rattle.qh_plane.specs.steps.Repeats.{Ids, PartsBelow, IsRepeatedId, AreRepeats, AreAllRepeats, MarksWithout}
 
 -- ---- key by key
--- the first key repeats none
+-- the first key is not a repeat
 pub none_told : (pts : List Vector) (keys : List ℕ) → RepeatsTold pts keys 1 []
 none_told pts keys = record { tells = λ j l. absurd (omega (arith, l)); has = λ j l. absurd (omega (arith, l)); only = λ i m. absurd m }
 
@@ -22,7 +22,7 @@ module _ (pts : List Vector) (keys : List ℕ) (j : ℕ) (ids : List ℕ) (some 
   abbrev key : ℕ → ℕ
   key k = get_or keys k 0
 
-  -- a key that repeats the one before is told
+  -- a key that repeats the key before is listed
   pub repeat_told : j < length keys → IsRepeat pts (key (j - 1)) (key j) → RepeatsTold pts keys (j + 1) (ids ++ key j % ID_ROOM ∷ [])
   repeat_told within here = record {
     tells = λ i l w e. tells i l w e (ℕ_discrete (i + 2) j);
@@ -54,7 +54,7 @@ module _ (pts : List Vector) (keys : List ℕ) (j : ℕ) (ids : List ℕ) (some 
           )
       only i (inr (inr a)) = absurd a
 
-  -- and none that doesn't, where it is not the third of its hash
+  -- a key that does not is not listed, if it is not the third of its hash
   pub new_told : (IsRepeat pts (key (j - 1)) (key j) → ⊥) → (2 ≤ j → key (j - 2) / ID_ROOM ≢ key j / ID_ROOM) → RepeatsTold pts keys (j + 1) ids
   new_told new apart = record { tells = λ i l w e. tells i l w e (ℕ_discrete (i + 2) j); has = λ i l w r. has i l w r (ℕ_discrete (i + 1) j); only = told.only }
     where
@@ -71,7 +71,7 @@ module _ (pts : List Vector) (keys : List ℕ) (j : ℕ) (ids : List ℕ) (some 
           absurd (new (subst (λ m. IsRepeat pts (key (j - 1)) (key m)) q (subst (λ m. IsRepeat pts (key m) (key (i + 1))) before r)))
       has i l w r (no ne) = told.has i (omega (arith, l, ne)) w r
 
--- in the end all keys are told
+-- in the end all keys are decided
 pub told_all : (pts : List Vector) (keys : List ℕ) (n : ℕ) (ids : List ℕ) → length keys ≤ n → RepeatsTold pts keys n ids
     → RepeatsTold pts keys (length keys) ids
 told_all pts keys n ids h told = record {
@@ -88,7 +88,7 @@ no_repeats pts part = record { has = λ i s. absurd (none s.0 s.1); only = λ i 
     none : (n : ℕ) → n < 0 → ⊥
     none n l = omega (arith, l)
 
--- those of some parts and of the next one are those of both
+-- the repeats of some parts and those of the next one are those of both
 pub repeats_joined : (pts : List Vector) (part : ℕ → Ids) (n : ℕ) (xs ys : List ℕ)
     → AreRepeats pts (PartsBelow part n) xs → AreRepeats pts (part n) ys → AreRepeats pts (PartsBelow part (n + 1)) (xs ++ ys)
 repeats_joined pts part n xs ys a b = record {
@@ -107,7 +107,7 @@ repeats_joined pts part n xs ys a b = record {
     told i (inl m) = a.only i m
     told i (inr m) = b.only i m
 
--- those of at least some parts are those of these
+-- the repeats of more parts include those of fewer
 pub repeats_of_fewer : (pts : List Vector) (part : ℕ → Ids) (n k : ℕ) (ids : List ℕ) → n ≤ k → AreRepeats pts (PartsBelow part k) ids
     → AreRepeats pts (PartsBelow part n) ids
 repeats_of_fewer pts part n k ids h r = record { has = λ i s. r.has i (s.0, later s.0 s.1, s.2); only = r.only }
@@ -115,7 +115,7 @@ repeats_of_fewer pts part n k ids h r = record { has = λ i s. r.has i (s.0, lat
     later : (v : ℕ) → v < n → v < k
     later v l = omega (arith, l, h)
 
--- where each id lies in a part, they are all
+-- if each id lies in a part, they are all repeats
 pub repeats_of_parts : (pts : List Vector) (part : ℕ → Ids) (n : ℕ) (ids : List ℕ) → ((i : ℕ) → PartsBelow part n i)
     → AreRepeats pts (PartsBelow part n) ids → AreAllRepeats pts ids
 repeats_of_parts pts part n ids each r = record { has = λ i s. r.has i (each i); only = r.only }
@@ -134,12 +134,12 @@ part_small h n l some = (div-lt_iff_lt-mul (omega arith)).1 (other_way (h * n) (
 pub hash_part : (pts : List Vector) (n : ℕ) → 0 < n → (i : ℕ) → PartsBelow (λ k. WithHashes pts (PartHashes n k)) n i
 hash_part pts n some i = (hash_at pts i * n / NO_HASH, part_small (hash_at pts i) n (place_hash_small (place pts i)) some, refl)
 
--- ---- left out
--- where no point stands before, all ids are distinct
+-- ---- removed
+-- if no point is equal to an earlier one, all ids are distinct
 pub none_repeated : (pts : List Vector) (all ids : List ℕ) → AllIds (length pts) all → AreAllRepeats pts ids → ids ≡ [] → AreDistinctIds pts all
 none_repeated pts all ids a r none = all_distinct pts all a (λ i j l h e. subst (In j) none (r.has j tt (h, i, l, e)))
 
--- one mark more is taken away
+-- one more mark is cleared
 pub mark_taken : (count : ℕ) (ids : List ℕ) (marks : List Bool) (k : ℕ) → k < count → MarksWithout count ids marks
     → MarksWithout count (ids ++ k ∷ []) (set marks k false)
 mark_taken count ids marks k h m = record {
@@ -161,7 +161,7 @@ mark_taken count ids marks k h m = record {
     by_decision i e (inr (inl q)) (no ne) = ne q
     by_decision i e (inr (inr a)) (no ne) = a
 
--- the marks that are left are those of the distinct ids
+-- the remaining marks are those of the distinct ids
 pub distinct_left : (pts : List Vector) (ids : List ℕ) (marks : List Bool) → AreAllRepeats pts ids → MarksWithout (length pts) ids marks
     → AreDistinctIds pts (marked_ids 0 marks)
 distinct_left pts ids marks r m = marked_distinct pts marks (λ i. (only i, has i))

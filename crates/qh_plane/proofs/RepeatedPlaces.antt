@@ -1,11 +1,11 @@
--- Keys that have the place of the key before, told one by one.
+-- Keys that have the place of the key before, found one by one.
 use Rattle.std.proofs.Common.{◌≡◌, ℕ, ◌+◌, ◌-◌, ◌/◌, ◌%◌, ◌<◌, ◌≤◌, ◌⊎◌, inl, inr, List, [], ◌∷◌, ◌++◌, length, get_or, arith, ap, subst, ◌∙◌}
 use native.Mathlib.Decide.{ℕ_discrete}
 use Rattle.qh_model.proofs.lists.Joined.{in_append, of_append}
 use Rattle.qh_model.specs.headline.Sets.{In}
 use Rattle.qh_plane.specs.steps.PlaceKeys.{ArePlaceRepeats}
 
--- the first key has none before it
+-- the first key has no key before it
 pub none_told : (room : ℕ) (keys : List ℕ) → ArePlaceRepeats room keys 1 []
 none_told room keys = record { has = λ j l. absurd (omega (arith, l)); only = λ i m. absurd m }
 
@@ -13,7 +13,7 @@ module _ (room : ℕ) (keys : List ℕ) (j : ℕ) (ids : List ℕ) (some : 1 ≤
   abbrev key : ℕ → ℕ
   key k = get_or keys k 0
 
-  -- a key that has the place of the one before is told
+  -- a key that has the place of the key before is listed
   pub repeat_told : j < length keys → key (j - 1) / room ≡ key j / room → ArePlaceRepeats room keys (j + 1) (ids ++ key j % room ∷ [])
   repeat_told within here = record {
     has = λ i l w e. in_append ids (key j % room ∷ []) (key (i + 1) % room) (has i l w e (ℕ_discrete (i + 1) j));
@@ -37,7 +37,7 @@ module _ (room : ℕ) (keys : List ℕ) (j : ℕ) (ids : List ℕ) (some : 1 ≤
           )
       only i (inr (inr a)) = absurd a
 
-  -- and none that has another place
+  -- a key that has a different place is not
   pub new_told : (key (j - 1) / room ≡ key j / room → ⊥) → ArePlaceRepeats room keys (j + 1) ids
   new_told new = record { has = λ i l w e. has i l w e (ℕ_discrete (i + 1) j); only = told.only }
     where
@@ -47,7 +47,7 @@ module _ (room : ℕ) (keys : List ℕ) (j : ℕ) (ids : List ℕ) (some : 1 ≤
           absurd (new (subst (λ m. key (j - 1) / room ≡ key m / room) q (subst (λ m. key m / room ≡ key (i + 1) / room) before e)))
       has i l w e (no ne) = told.has i (omega (arith, l, ne)) w e
 
--- in the end all keys are told
+-- in the end all keys are decided
 pub told_all : (room : ℕ) (keys : List ℕ) (n : ℕ) (ids : List ℕ) → length keys ≤ n → ArePlaceRepeats room keys n ids
     → ArePlaceRepeats room keys (length keys) ids
 told_all room keys n ids h told = record { has = λ j l w. told.has j (omega (arith, h, w)) w; only = told.only }

@@ -1,4 +1,4 @@
--- Points that come to slots, one after the other: what stands in the slots, and which ids are distinct.
+-- Points that are entered into slots, one after the other: the contents of the slots, and the distinct ids.
 use Rattle.std.proofs.Common.{◌≡◌, ◌≢◌, ◌∙◌, ℕ, zero, suc, ◌+◌, ◌<◌, ◌≤◌, ◌⊎◌, inl, inr, List, [], ◌∷◌, ◌++◌, length, set, slice_index_or}
 use Rattle.std.proofs.Common.{arith, ap, sym, subst, get_or-set_same, get_or-set_other}
 use Rattle.std.specs.List.Sorted.{IsStrictlyIncreasing}
@@ -16,12 +16,12 @@ pub point_read : (pts : List Vector) (k : ℕ) (p : Vector) → k < length pts �
 unfolding place
 point_read pts k p l e = get_or_read pts k p l e origin
 
--- an id of the points is not the content of a slot that no point has
+-- an id of the points is not the content of an empty slot
 id_is_none : (k n : ℕ) → k < n → n ≤ POINT_LIMIT → k ≢ NO_ID
 id_is_none k n l h e = omega (arith, l, h, e)
 
 module _ (pts : List Vector) (b : CloseBox) (slots : List ℕ) (k : ℕ) (ids : List ℕ) (old : HaveFirsts pts b slots k ids) where
-  -- the id that is read from a slot is one that was seen
+  -- an id that is read from a slot was processed
   pub seen_id : (s n : ℕ) → s < length slots → n ≡ slice_index_or slots s n → n ≢ NO_ID → n < k
   seen_id s n room e ne = below (old.held s room)
     where
@@ -33,11 +33,11 @@ module _ (pts : List Vector) (b : CloseBox) (slots : List ℕ) (k : ℕ) (ids : 
       below (inr l) = subst (λ m. m < k) (sym read) l
 
   module _ (within : k < length pts) (few : length pts ≤ POINT_LIMIT) where
-    -- a point before has the same equal point
+    -- a point processed earlier has the same equal point
     more_seen : (p : Vector) → HasFirst pts b slots k p → HasFirst pts b slots (k + 1) p
     more_seen p h = let l = h.seen in record { first = h.first; seen = omega (arith, l); is = h.is; same = h.same }
 
-    -- a slot that no point has come to: one more distinct id
+    -- an empty slot: one more distinct id
     module _ (room : slot_of b (place pts k) < length slots) (free : slot_at slots (slot_of b (place pts k)) ≡ NO_ID) where
       abbrev here : ℕ
       here = slot_of b (place pts k)
@@ -49,7 +49,7 @@ module _ (pts : List Vector) (b : CloseBox) (slots : List ℕ) (k : ℕ) (ids : 
       other_slot j l e = let f = old.firsts j l in
           id_is_none f.first (length pts) (let s = f.seen in omega (arith, s, within)) few (sym f.is ∙ ap (slot_at slots) e ∙ free)
 
-      -- so no point before is equal
+      -- so no earlier point is equal
       new_place : (j : ℕ) → j < k → place pts j ≢ place pts k
       new_place j l e = other_slot j l (ap (slot_of b) e)
 
@@ -115,7 +115,7 @@ module _ (pts : List Vector) (b : CloseBox) (slots : List ℕ) (k : ℕ) (ids : 
               below x y m (inl e) = let l = ((old.members x).0 m).1 in subst (λ (n : ℕ). x < n) (sym e) l
               below x y m (inr n) = absurd n
 
-    -- a point that stands before: none more
+    -- a point that is equal to an earlier one: no more distinct id
     pub repeat_seen : (i : ℕ) → i < k → place pts i ≡ place pts k → HaveFirsts pts b slots (k + 1) ids
     repeat_seen i l e = record {
       firsts = λ j h. firsts j h (ℕ_discrete j k);
@@ -142,7 +142,7 @@ module _ (pts : List Vector) (b : CloseBox) (slots : List ℕ) (k : ℕ) (ids : 
             by_decision (yes q) = absurd ((subst (IsDistinctId pts) q h.0).1 i l e)
             by_decision (no ne) = let n = h.1 in (old.members j).1 (h.0, omega (arith, n, ne))
 
--- points that all stand before: none more
+-- points that are all equal to earlier ones: no more distinct id
 pub repeats_seen : (pts : List Vector) (b : CloseBox) (slots : List ℕ) (k m : ℕ) (ids : List ℕ) → HaveFirsts pts b slots k ids → length pts ≤ POINT_LIMIT
     → ((i : ℕ) → i < m → IsRepeatedId pts (k + i)) → HaveFirsts pts b slots (k + m) ids
 repeats_seen pts b slots k zero ids old few each = subst (λ n. HaveFirsts pts b slots n ids) {x = k} {y = k + 0} (omega arith) old
@@ -151,7 +151,7 @@ repeats_seen pts b slots k (suc m) ids old few each =
     subst (λ n. HaveFirsts pts b slots n ids) {x = k + m + 1} {y = k + suc m} (omega arith)
     (repeat_seen pts b slots (k + m) ids (repeats_seen pts b slots k m ids old few (λ i l. each i (omega (arith, l)))) r.0 few r.1 r.2 r.3)
 
--- when all were seen, the ids are the distinct ones
+-- after all points were processed, the ids are the distinct ones
 pub all_seen : (pts : List Vector) (b : CloseBox) (slots : List ℕ) (k : ℕ) (ids : List ℕ) → HaveFirsts pts b slots k ids → length pts ≤ k
     → AreDistinctIds pts ids
 all_seen pts b slots k ids h l = record { rising = h.rising; members = λ i. ((λ m. ((h.members i).0 m).0), (λ d. (h.members i).1 (d, below i d.0))) }

@@ -1,4 +1,4 @@
--- Slots of a table that hashes come to: point by point, and what a table shows in the end.
+-- Slots of a table for hashes: point by point, and the result of the whole table.
 use Rattle.std.proofs.Common.{◌≡◌, ℕ, ◌+◌, ◌<◌, List, Bool, true, false, ◌||◌, length, arith, ap, sym, subst, ◌∙◌, refl, get_or, set, get_or-set_same}
 use Rattle.std.proofs.{Common.get_or-set_other, lemmas.List.length-set}
 use native.Mathlib.Decide.{ℕ_discrete}
@@ -6,7 +6,7 @@ use Rattle.qh_model.specs.headline.{Predicates.place, Vector.Vector}
 use Rattle.qh_plane.specs.steps.{HashedKeys.place_hash, HashedKeys.hash_at, HashedKeys.WithHashes, Repeats.AreRepeats, Repeats.AreAllRepeats}
 use Rattle.qh_plane.specs.steps.SharedSlots.{slot_in, MarkedHashes, AreTaken, AreShared}
 
--- what is or was marked is
+-- a mark that is or was set is set
 or_left : (a b : Bool) → a ≡ true → (a || b) ≡ true
 or_left true b e = refl
 or_left false b e = cc
@@ -15,7 +15,7 @@ or_right : (a b : Bool) → b ≡ true → (a || b) ≡ true
 or_right true b e = refl
 or_right false b e = e
 
--- a mark stays where another is set, too
+-- a set mark stays set when another one is written
 kept_mark : (marks : List Bool) (s k : ℕ) (b : Bool) → s < length marks → (get_or marks s false ≡ true → b ≡ true)
     → get_or marks k false ≡ true → get_or (set marks s b) k false ≡ true
 kept_mark marks s k b within still e = by_decision (ℕ_discrete k s)
@@ -26,7 +26,7 @@ kept_mark marks s k b within still e = by_decision (ℕ_discrete k s)
     by_decision (no ne) = get_or-set_other marks s k b false ne ∙ e
 
 module _ (pts : List Vector) (n slots s : ℕ) (is : s ≡ slot_in slots (hash_at pts n)) (within : s < slots) where
-  -- the slot of one point more is taken
+  -- the slot of one more point is taken
   pub taken_more : (taken : List Bool) → length taken ≡ slots → AreTaken pts n taken → AreTaken pts (n + 1) (set taken s true)
   taken_more taken len t i h = by_decision (ℕ_discrete i n)
     where
@@ -43,7 +43,7 @@ module _ (pts : List Vector) (n slots s : ℕ) (is : s ≡ slot_in slots (hash_a
       by_decision (no ne) = ap (λ v. get_or (set taken s true) (slot_in v (hash_at pts i)) false) (length-set taken s true)
           ∙ kept_mark taken s (slot_in (length taken) (hash_at pts i)) true here (λ e. refl) (t i (omega (arith, h, ne)))
 
-  -- and shared, if it was taken before
+  -- it is shared if it was taken before
   pub shared_more : (taken shared : List Bool) → length taken ≡ slots → length shared ≡ slots → AreTaken pts n taken → AreShared pts n shared
       → AreShared pts (n + 1) (set shared s (get_or shared s false || get_or taken s false))
   shared_more taken shared tlen slen t a i j l h e = by_decision (ℕ_discrete j n)
@@ -75,7 +75,7 @@ module _ (pts : List Vector) (n slots s : ℕ) (is : s ≡ slot_in slots (hash_a
           ∙ kept_mark shared s (slot_in (length shared) (hash_at pts i)) b here (λ w. or_left (get_or shared s false) (get_or taken s false) w)
           (a i j l (omega (arith, h, ne)) (subst (λ v. slot_in v (hash_at pts i) ≡ slot_in v (hash_at pts j)) (sym slen) met))
 
--- equal points come to one slot, so those that stand before are among the points of shared slots
+-- equal points have one slot, so those that are equal to an earlier one are among the points of shared slots
 pub all_in_slots : (pts : List Vector) (shared : List Bool) (ids : List ℕ) → AreShared pts (length pts) shared
     → AreRepeats pts (WithHashes pts (MarkedHashes shared)) ids → AreAllRepeats pts ids
 all_in_slots pts shared ids a r = record { has = λ i s q. r.has i (marked i q.1 q.0 q.2 q.3) q; only = r.only }

@@ -1,10 +1,10 @@
--- Numbers that rise from each to the next, or fall, don't repeat.
+-- Numbers that rise from each to the next, or fall, do not repeat.
 use Rattle.std.proofs.Common.{◌≡◌, ℕ, zero, suc, ◌+◌, ◌<◌, ◌≤◌, ◌⊎◌, inl, inr, List, length, arith, ap, subst, add-one}
 use Rattle.std.proofs.lemmas.Bool.{cases_lt}
 use Rattle.qh_model.specs.headline.{Predicates.place, Vector.Vector}
 use Rattle.qh_plane.specs.steps.{HashedKeys.place_number, SortedPoints.NumbersRise, SortedPoints.NumbersFall, SortedPoints.AllDiffer}
 
--- what each has with the next, each has with any later one
+-- a transitive relation of neighbours holds between each element and any later one
 along : (R : ℕ → ℕ → Type 0) (f : ℕ → ℕ) (n : ℕ) → ((a b c : ℕ) → R a b → R b c → R a c) → ((j : ℕ) → j + 1 < n → R (f j) (f (j + 1)))
     → (i j : ℕ) → i < j → j < n → R (f i) (f j)
 along R f n t h i zero l m = absurd (omega (arith, l))
@@ -21,7 +21,7 @@ module _ (pts : List Vector) where
   abbrev number : ℕ → ℕ
   number j = place_number (place pts j)
 
-  -- so points whose numbers do are all different
+  -- so points with such numbers are all different
   pub rising_differ : NumbersRise pts → AllDiffer pts
   rising_differ h i j l m e =
       let r = along (λ a b. a < b) number (length pts) (λ a b c p q. omega (arith, p, q)) h i j l m in let q : number i ≡ number j = ap place_number e in

@@ -1,4 +1,4 @@
--- What private functions speak of: nothing to believe.
+-- Definitions that private functions cite: nothing to believe.
 pub mod CloseBoxes
 pub mod Pieces
 pub mod FirstIds

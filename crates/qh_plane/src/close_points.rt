@@ -1,4 +1,4 @@
-//! Slots for points that lie close together, as those of lattices and grids do, or in one line: one for each place of the
+//! Slots for points that lie close together, as in lattices and grids, or in one line: one slot for each place of the
 //! box around them, or for each place along the line.
 ghost use Rattle.std.specs.Prelude.{◌≡◌, ◌≤◌, ◌<◌, ◌↔◌, IsTrue, length};
 ghost use Rattle.qh_plane.specs.steps.CloseBoxes.{slot_of};
@@ -13,24 +13,24 @@ const SLOTS_FOR_EACH: u64 = 2;
 /// The greatest number of slots of a line for each point.
 const LINE_SLOTS_FOR_EACH: u64 = 3;
 
-/// The number of points that decide whether all points seem to lie in one line.
+/// The number of points that decide whether all points appear to lie in one line.
 const LOOKED_AT: usize = 32;
 
-/// The greatest number of first points of a list that are tested alone. If these lie too far apart for the whole
-/// list, the others are not tested.
+/// The greatest number of leading points of a list that are tested first. If these lie too far apart for the whole
+/// list, the other points are not tested.
 const FIRST_POINTS: usize = 4096;
 
-/// A table of fewer slots than this fits a processor's own memory, its cache. A slot takes four bytes.
+/// A table with fewer slots fits into the cache of one processor. A slot takes four bytes.
 pub const CACHE_SLOTS: u64 = 65_536;
 
-/// The numbers from one to another.
+/// A closed range of numbers.
 #[derive(Clone, Copy, Drop)]
 struct Span {
     least: u64,
     greatest: u64,
 }
 
-/// The coordinates of points along each axis.
+/// The range of the coordinates of points along each axis.
 #[derive(Clone, Copy, Drop)]
 struct BoundingBox {
     x: Span,
@@ -38,8 +38,8 @@ struct BoundingBox {
     z: Span,
 }
 
-/// The slots of a box of places: its least coordinates, what each coordinate above them counts in a slot's
-/// number, and the number of slots.
+/// The slots of a box of places: its least coordinates, the factor of each coordinate in a slot's number, and the
+/// number of slots.
 #[derive(Clone, Copy, Drop)]
 pub struct CloseBox {
     x: u64,
@@ -48,12 +48,12 @@ pub struct CloseBox {
     x_factor: u64,
     y_factor: u64,
     z_factor: u64,
-    /// How many slots there are.
+    /// The number of slots.
     pub slots: u64,
 }
 
 impl Span {
-    /// Returns no numbers yet.
+    /// Returns an empty range.
     fn none() -> Span {
         Span {
             least: u64::MAX,
@@ -61,7 +61,7 @@ impl Span {
         }
     }
 
-    /// Returns the span with one number more.
+    /// Returns the range extended by a number.
     fn with(self, number: u64) -> Span {
         Span {
             least: self.least.min(number),
@@ -69,14 +69,14 @@ impl Span {
         }
     }
 
-    /// Returns how many numbers there are.
+    /// Returns the number of numbers in the range.
     fn extent(&self) -> u64 {
         self.greatest.saturating_sub(self.least).saturating_add(1)
     }
 }
 
 impl BoundingBox {
-    /// Returns the coordinates of points.
+    /// Returns the ranges of the coordinates of points.
     fn of(pts: &[Point]) -> BoundingBox {
         let (mut x, mut y, mut z) = (Span::none(), Span::none(), Span::none());
         for point in pts {
@@ -100,7 +100,7 @@ impl BoundingBox {
         }
     }
 
-    /// Returns a slot for each place of the box; `None` if there are too many.
+    /// Returns slots with one for each place of the box; `None` if there are too many.
     fn full(&self) -> Option<CloseBox> {
         let height = self.z.extent();
         let area = self.y.extent().checked_mul(height)?;
@@ -108,7 +108,7 @@ impl BoundingBox {
         Some(self.with_factors(area, height, 1, slots))
     }
 
-    /// Returns a slot for each place along the longest axis.
+    /// Returns slots with one for each place along the longest axis.
     fn along_axis(&self) -> CloseBox {
         let (x, y, z) = (self.x.extent(), self.y.extent(), self.z.extent());
         if x >= y && x >= z {
@@ -120,7 +120,7 @@ impl BoundingBox {
         }
     }
 
-    /// Returns a slot for each place of the box or along its longest axis, where these are few for `count` points.
+    /// Returns slots for the places of the box or for those along its longest axis, if they are few for `count` points.
     fn slots_for(&self, count: u64) -> Option<CloseBox> {
         if let Some(full) = self.full() {
             if full.slots / SLOTS_FOR_EACH <= count {
@@ -136,8 +136,7 @@ impl BoundingBox {
     }
 }
 
-/// Returns true if points seem to lie in one line, as a few of them tell that are spread over the
-/// list.
+/// Returns true if points appear to lie in one line, judged by a few points spread over the list.
 fn seem_in_line(pts: &[Point]) -> bool
     requires { length pts.now ≤ POINT_LIMIT }
 {
@@ -161,8 +160,8 @@ fn seem_in_line(pts: &[Point]) -> bool
 }
 
 impl CloseBox {
-    /// Returns slots for the box around some of the points, where they are few for all, or for the line in which all
-    /// seem to lie.
+    /// Returns slots for the box around some of the points if they are few for all points, or for the line in which all
+    /// points appear to lie.
     fn around_some(pts: &[Point], some: &[Point]) -> Option<CloseBox>
         requires { length pts.now ≤ POINT_LIMIT }
     {
@@ -181,15 +180,15 @@ impl CloseBox {
         CloseBox::around_some(pts, first)
     }
 
-    /// Returns the slots for points that lie close together, or seem to lie in one line, where they are
-    /// few for the number of points.
+    /// Returns slots for points that lie close together, or appear to lie in one line, if the slots are few for the
+    /// number of points.
     pub fn around(pts: &[Point]) -> Option<CloseBox>
         requires { length pts.now ≤ POINT_LIMIT }
     {
         CloseBox::around_some(pts, pts)
     }
 
-    /// Returns true if the slots tell places along one axis only.
+    /// Returns true if the slots distinguish places along one axis only.
     fn is_line(&self) -> bool {
         self.x_factor == 0 || self.y_factor == 0 || self.z_factor == 0
     }
@@ -211,7 +210,7 @@ impl CloseBox {
     }
 }
 
-/// Returns true if two points are one.
+/// Returns true if two points are equal.
 pub fn same_point(p: Point, q: Point) -> bool
     ensures { IsTrue result ↔ p ≡ q }
 {

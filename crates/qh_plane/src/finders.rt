@@ -1,4 +1,4 @@
-//! Who finds the points that stand in a list before: the calling thread alone, or threads side by side.
+//! Finders of the points that are equal to an earlier one: the calling thread alone, or several threads.
 ghost use Rattle.std.specs.Prelude.{◌≤◌, IfOk, IfSome, length};
 ghost use Rattle.std.specs.Thread.{IsSync};
 ghost use Rattle.qh_model.specs.headline.DistinctIds.{AreDistinctIds};
@@ -15,15 +15,15 @@ use std::thread::Threads;
 
 /// The least number of points that keeps a thread busy.
 ///
-/// Two threads sort 32,768 points in no less time than one does.
+/// Two threads sort 32,768 points no faster than one.
 const POINTS_FOR_EACH: usize = 32_768;
 
-/// A way to find the points that stand in a list before.
+/// Finds the points of a list that are equal to an earlier one.
 pub trait Finder {
-    /// What is known of one that finds them.
+    /// Precondition of this finder.
     ghost ready: { Self → Type 0 };
 
-    /// Returns the distinct ids of points in a box of few slots, rising; `None` if the points do not all lie in it.
+    /// Returns the distinct ids of points in a box with few slots, rising; `None` if not all points lie in it.
     fn in_box(&self, alloc: Global, close: CloseBox, pts: &[Point]) -> FoundIds
         requires ready { ready self.now }
         requires few { length pts.now ≤ POINT_LIMIT }
@@ -32,8 +32,8 @@ pub trait Finder {
         distinct_in_slots(alloc, close, pts)
     }
 
-    /// Returns the distinct ids of points that lie close together or in one line, rising; `None` if they do not, or another
-    /// way is faster.
+    /// Returns the distinct ids of points that lie close together or in one line, rising; `None` if they do not, or if
+    /// another method is faster.
     fn by_slots(&self, alloc: Global, pts: &[Point]) -> FoundIds
         requires ready { ready self.now }
         requires few { length pts.now ≤ POINT_LIMIT }
@@ -45,14 +45,14 @@ pub trait Finder {
         }
     }
 
-    /// Returns the ids of all points that stand before; `None` if too many have one hash.
+    /// Returns the ids of all points that are equal to an earlier one; `None` if too many have one hash.
     fn repeats(&self, alloc: Global, pts: &[Point]) -> FoundIds
         requires ready { ready self.now }
         requires few { length pts.now ≤ POINT_LIMIT }
         ensures { IfOk result (λ found. IfSome found (λ v. AreAllRepeats pts.now v.items)) };
 }
 
-/// The calling thread alone.
+/// A finder that uses the calling thread alone.
 #[derive(Clone, Copy, Debug)]
 pub struct Alone;
 
@@ -64,7 +64,7 @@ impl Finder for Alone {
     }
 }
 
-/// The threads of a runtime, which sort all keys.
+/// A finder that uses the threads of a runtime to sort all keys.
 #[derive(Clone, Copy, Debug)]
 pub struct BySort<'a, R>(pub &'a R);
 
@@ -76,8 +76,8 @@ impl<R: Threads + Sync> Finder for BySort<'_, R> {
     }
 }
 
-/// A runtime and the greatest number of its threads, which claim pieces of the list, or parts of the hashes, one after the
-/// other.
+/// A finder that uses a runtime and a greatest number of its threads. These claim pieces of the list, or parts of the
+/// hashes, one after the other.
 #[derive(Clone, Copy, Debug)]
 pub struct InThreads<'a, R> {
     pub rt: &'a R,
@@ -85,7 +85,7 @@ pub struct InThreads<'a, R> {
 }
 
 impl<R> InThreads<'_, R> {
-    /// Returns how many threads a list of points keeps busy.
+    /// Returns the number of threads that a list of points keeps busy.
     fn for_points(&self, pts: &[Point]) -> usize
         ensures { result ≤ length pts.now }
     {
@@ -104,7 +104,8 @@ impl<R: Threads + Sync> Finder for InThreads<'_, R> {
         distinct_in_pieces(self.rt, alloc, close, pts, count)
     }
 
-    /// Leaves the points to a search by hashes, if they keep several threads busy: a table of slots is gone over by one.
+    /// Leaves the points to the search by hashes if they keep several threads busy, since one thread scans a table of
+    /// slots.
     fn by_slots(&self, alloc: Global, pts: &[Point]) -> FoundIds {
         if self.for_points(pts) < 2 {
             return Alone.by_slots(alloc, pts);

@@ -1,11 +1,11 @@
-//! The distinct points of a list that have slots of their own: the first point that comes to a slot stands for its place.
-//! So nothing is sorted.
+//! The distinct points of a list whose places have separate slots: the first point in a slot represents its place, so
+//! nothing is sorted.
 //!
-//! Several threads look at pieces of the list, each with slots of its own. A distinct point is the first of its place in
-//! its piece, so these alone are looked at once more.
+//! Several threads scan pieces of the list, each with its own slots. A distinct point is the first of its place in its
+//! piece, so only these are scanned again.
 //!
-//! No proof asks that different places have different slots: a point that comes to the slot of another place ends the
-//! try.
+//! The proofs do not require that different places have different slots: the attempt is given up if a point falls into
+//! the slot of another place.
 ghost use Rattle.std.specs.Prelude.{◌≡◌, ◌≤◌, ◌<◌, ◌+◌, ◌*◌, true, IfOk, IfSome, length};
 ghost use Rattle.qh_model.specs.headline.DistinctIds.{AreDistinctIds};
 ghost use Rattle.qh_plane.specs.steps.FirstIds.{AreSeen, AreFirstIds, ArePieces};
@@ -17,13 +17,14 @@ use qh_threads::{PARTS_FOR_EACH, map_chunks};
 use std::alloc::{AllocError, Global};
 use std::thread::Threads;
 
-/// The content of a slot that no point has.
+/// The content of an empty slot.
 const NO_ID: u32 = 4294967295;
 
-/// The least number of points of a piece for each slot. In a smaller piece too many points are the first of their places.
+/// The least number of points of a piece for each slot. In a smaller piece too many points are the first of their
+/// places.
 const POINTS_FOR_EACH_SLOT: usize = 2;
 
-/// The slots of a box, and the first of the points that came to each.
+/// The slots of a box, and the first point in each.
 #[derive(Drop)]
 struct FirstIds {
     close: CloseBox,
@@ -34,7 +35,7 @@ struct FirstIds {
 }
 
 impl FirstIds {
-    /// Returns slots to which no point came yet.
+    /// Returns empty slots.
     fn new(alloc: Global, close: CloseBox, pts: &[Point]) -> Result<FirstIds, AllocError>
         ensures { IfOk result (λ v. AreSeen pts.now v 0) }
     {
@@ -43,7 +44,7 @@ impl FirstIds {
         Ok(FirstIds { close, slots, ids })
     }
 
-    /// Looks at one point more. Returns false if it has no slot, or comes to the slot of another place.
+    /// Adds a point. Returns false if it has no slot, or falls into the slot of another place.
     fn look(&mut self, pts: &[Point], number: usize) -> Result<bool, AllocError>
         requires few { length pts.now ≤ POINT_LIMIT }
         requires within { number < length pts.now }
@@ -63,8 +64,8 @@ impl FirstIds {
         Ok(true)
     }
 
-    /// Looks at the points of a piece, of which those are listed that are the first of their places in it. Returns false
-    /// as [`look`](FirstIds::look) does.
+    /// Adds the points of a piece, and lists those that are the first of their places in it. Returns false as
+    /// [`look`](FirstIds::look) does.
     fn look_at_piece(
         &mut self,
         pts: &[Point],
@@ -88,7 +89,7 @@ impl FirstIds {
     }
 }
 
-/// Returns the distinct ids of points, rising. Returns `None` if different places come to one slot, or a point has no slot.
+/// Returns the distinct ids of points, rising; `None` if different places fall into one slot, or a point has no slot.
 pub fn distinct_in_slots(alloc: Global, close: CloseBox, pts: &[Point]) -> FoundIds
     requires { length pts.now ≤ POINT_LIMIT }
     ensures { IfOk result (λ found. IfSome found (λ v. AreDistinctIds pts.now v.items)) }
@@ -102,7 +103,7 @@ pub fn distinct_in_slots(alloc: Global, close: CloseBox, pts: &[Point]) -> Found
     Ok(Some(firsts.ids))
 }
 
-/// Returns the distinct ids of points, of whose pieces of one size the distinct ids are known.
+/// Returns the distinct ids of points, given the distinct ids of their pieces of one size.
 fn distinct_of_pieces(
     alloc: Global,
     close: CloseBox,
@@ -130,7 +131,7 @@ fn distinct_of_pieces(
     Ok(Some(firsts.ids))
 }
 
-/// Returns into how many pieces a list of `count` points is cut.
+/// Returns the number of pieces into which a list of `count` points is cut.
 fn piece_count(close: CloseBox, count: usize, threads: usize) -> usize {
     let least = (close.slots as usize)
         .saturating_mul(POINTS_FOR_EACH_SLOT)
@@ -138,7 +139,7 @@ fn piece_count(close: CloseBox, count: usize, threads: usize) -> usize {
     threads.saturating_mul(PARTS_FOR_EACH).min(count / least)
 }
 
-/// Returns the distinct ids of points as [`distinct_in_slots`] does, found by at most `threads` threads.
+/// Returns the distinct ids of points as [`distinct_in_slots`] does, with at most `threads` threads.
 pub fn distinct_in_pieces<R: Threads>(
     rt: &R,
     alloc: Global,

@@ -1,9 +1,9 @@
-//! One number of 64 bits for a point and its id: a hash of the place, and below it the id. It is half as wide
-//! as a key that tells the place, and a sort of such keys, too, brings equal points together, the lowest
-//! id first.
+//! One number of 64 bits for a point and its id: a hash of the place in the upper bits, and the id in the lower ones.
+//! It is half as wide as a key that contains the place. Sorting these keys also brings equal points together, the
+//! lowest id first.
 //!
-//! Equal points have one hash. Different points hardly ever have; where they do, some stand next to each
-//! other among the sorted keys, and are told as long as they are the first two of that hash.
+//! Equal points have equal hashes. Different points rarely have; if they do, some are adjacent among the sorted keys,
+//! and they are distinguished as long as they are the first two of that hash.
 ghost use Rattle.std.specs.Prelude.{◌≡◌, ◌<◌, ◌≤◌, ◌+◌, ◌*◌, ◌/◌, ◌%◌, ◌↔◌, IfOk, IsTrue, length};
 ghost use Rattle.qh_plane.specs.steps.HashedKeys.{place_number, place_hash, AllHashes, AreKeysBelow, IsRepeat};
 
@@ -13,20 +13,19 @@ use qh_polygon::biased;
 use qh_pred::point_at;
 use std::alloc::{AllocError, Global};
 
-/// Points with coordinates up to this far from 0 have numbers of their own: the third power of
-/// `SPREAD` is below 2^64.
+/// Points whose coordinates have at most this magnitude have unique numbers: the third power of `SPREAD` is below 2^64.
 const NEAR: u64 = 1048576;
 
-/// The room of a coordinate in a number.
+/// The number of values of a coordinate in a number.
 pub const SPREAD: u64 = 2 * NEAR + 1;
 
-/// By this odd factor numbers that lie near each other come far apart: 2^64 over the golden ratio.
+/// This odd factor spreads numbers that lie near each other: 2^64 divided by the golden ratio.
 pub const MIXER: u64 = 11400714819323198485;
 
-/// The room of an id in a key.
+/// The number of values of an id in a key.
 pub const ID_ROOM: u64 = POINT_LIMIT as u64;
 
-/// The hash of no place: all places have lower ones.
+/// A hash that no place has: the hashes of all places are lower.
 pub const NO_HASH: u64 = u64::MAX / ID_ROOM + 1;
 
 /// Returns the number of a place.
@@ -81,7 +80,7 @@ pub fn hashed_keys(alloc: Global, pts: &[Point]) -> Result<Vec<u64>, AllocError>
     Ok(keys)
 }
 
-/// Returns true if two keys have one hash and equal points.
+/// Returns true if two keys have equal hashes and equal points.
 pub fn is_repeat(pts: &[Point], before: u64, key: u64) -> bool
     requires before { before % ID_ROOM < length pts.now }
     requires key { key % ID_ROOM < length pts.now }

@@ -1,7 +1,7 @@
 //! The distinct points of a list: of equal points the one with the lowest id.
 //!
-//! They are told by whole numbers of their places, so no answer is rounded. The shape of a set and the polygon of points in
-//! one plane are calls of `qh_polygon`, which stand here, too.
+//! Points are compared by whole numbers of their places, so no result is rounded. This crate also re-exports the
+//! functions of `qh_polygon` for the shape of a set and the polygon of points in one plane.
 #![tactic(auto)]
 
 mod close_points;

@@ -1,4 +1,4 @@
-//! Points that stand in a list before, told by sorted keys of 64 bits.
+//! Finds points that are equal to an earlier one by sorted keys of 64 bits.
 ghost use Rattle.std.specs.Prelude.{◌≤◌, ◌<◌, ◌%◌, IfOk, IfSome, length};
 ghost use Rattle.std.specs.List.{All};
 ghost use Rattle.qh_plane.specs.steps.HashedKeys.{RepeatsTold};
@@ -12,16 +12,16 @@ use rayon::slice::par_sort_unstable;
 use std::alloc::Global;
 use std::thread::Threads;
 
-/// The least number of points from which on a table saves time, if few of them share a slot.
+/// The least number of points for which a table saves time, if few of them share a slot.
 const TABLE_FROM: usize = 64;
 
-/// The table of more points than this lies outside of a processor's own memory, and a sort is as fast.
+/// The table of more points exceeds the cache of one processor, and sorting is as fast.
 const TABLE_TO: usize = 65_536;
 
-/// Returns the ids of the keys that repeat the one before, of rising keys; `None` if one hash has
-/// different points past its first two keys.
+/// Returns the ids of the keys that repeat the key before, for rising keys; `None` if one hash has different points
+/// after its first two keys.
 ///
-/// So points that differ meet, among the keys of one hash, at most in its first two.
+/// So among the keys of one hash, only the first two may have different points.
 pub fn repeats_told(alloc: Global, pts: &[Point], keys: &[u64]) -> FoundIds
     requires { All (λ k. k % ID_ROOM < length pts.now) keys.now }
     ensures { IfOk result (λ found. IfSome found (λ v. RepeatsTold pts.now keys.now (length keys.now) v.items)) }
@@ -37,8 +37,8 @@ pub fn repeats_told(alloc: Global, pts: &[Point], keys: &[u64]) -> FoundIds
     Ok(Some(repeats))
 }
 
-/// Returns the ids of all points that stand before, by a sort of all keys; `None` if too many have
-/// one hash.
+/// Returns the ids of all points that are equal to an earlier one, by sorting all keys; `None` if too many have one
+/// hash.
 fn repeats_of_keys(alloc: Global, pts: &[Point]) -> FoundIds
     requires { length pts.now ≤ POINT_LIMIT }
     ensures { IfOk result (λ found. IfSome found (λ v. AreAllRepeats pts.now v.items)) }
@@ -48,8 +48,8 @@ fn repeats_of_keys(alloc: Global, pts: &[Point]) -> FoundIds
     repeats_told(alloc, pts, &keys)
 }
 
-/// Returns the ids of all points that stand before, by a sort of the keys that share a slot of a table; none
-/// where too many have one hash.
+/// Returns the ids of all points that are equal to an earlier one, by sorting the keys that share a slot of a table;
+/// `None` if too many have one hash.
 fn repeats_in_slots(alloc: Global, pts: &[Point]) -> FoundIds
     requires some { 0 < length pts.now }
     requires few { length pts.now ≤ TABLE_TO }
@@ -61,7 +61,7 @@ fn repeats_in_slots(alloc: Global, pts: &[Point]) -> FoundIds
     repeats_told(alloc, pts, &keys)
 }
 
-/// Returns the ids of all points that stand before; `None` if too many have one hash.
+/// Returns the ids of all points that are equal to an earlier one; `None` if too many have one hash.
 pub fn repeats_of_all(alloc: Global, pts: &[Point]) -> FoundIds
     requires { length pts.now ≤ POINT_LIMIT }
     ensures { IfOk result (λ found. IfSome found (λ v. AreAllRepeats pts.now v.items)) }
@@ -74,8 +74,8 @@ pub fn repeats_of_all(alloc: Global, pts: &[Point]) -> FoundIds
     }
 }
 
-/// Returns the ids of all points that stand before, by a sort of all keys by the threads of a runtime; none where
-/// too many have one hash.
+/// Returns the ids of all points that are equal to an earlier one, by sorting all keys with the threads of a runtime;
+/// `None` if too many have one hash.
 pub fn repeats_by_sort<R: Threads + Sync>(rt: &R, alloc: Global, pts: &[Point]) -> FoundIds
     requires { length pts.now ≤ POINT_LIMIT }
     ensures { IfOk result (λ found. IfSome found (λ v. AreAllRepeats pts.now v.items)) }

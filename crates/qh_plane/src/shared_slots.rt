@@ -1,7 +1,7 @@
-//! The points that may stand in a list before, told by a table of slots.
+//! Finds the points that may be equal to an earlier one with a table of slots.
 //!
-//! A hash tells the slot of a point, so equal points come to one slot. Where a table has some slots for each
-//! point, most points are alone in theirs. Only the keys of the others need be sorted.
+//! A hash determines the slot of a point, so equal points fall into one slot. If a table has several slots for each
+//! point, most points are alone in their slots. Only the keys of the others have to be sorted.
 ghost use Rattle.std.specs.Prelude.{◌≡◌, ◌≤◌, ◌<◌, ◌*◌, ◌↔◌, IfOk, IsTrue, length};
 ghost use Rattle.qh_plane.specs.steps.HashedKeys.{AreKeysBelow};
 ghost use Rattle.qh_plane.specs.steps.SharedSlots.{slot_in, IsTable, MarkedHashes, AreShared};
@@ -10,7 +10,7 @@ use crate::hashed_keys::{ID_ROOM, NO_HASH, key_of, place_hash};
 use qh_model::{POINT_LIMIT, Point};
 use std::alloc::{AllocError, Global};
 
-/// The number of slots of a table for each point: of different points about one in five comes to the slot of another.
+/// The number of slots of a table for each point. About one in five of different points falls into the slot of another.
 pub const SLOTS_FOR_EACH: usize = 4;
 
 /// Returns the slot of a hash in a table of `slots` slots.
@@ -24,7 +24,7 @@ fn slot_of(hash: u64, slots: usize) -> usize
     (hash * slots as u64 / NO_HASH) as usize
 }
 
-/// Marks the slots that more than one point comes to.
+/// Marks the slots that contain more than one point.
 pub fn shared_slots(alloc: Global, pts: &[Point]) -> Result<Vec<bool>, AllocError>
     requires some { 0 < length pts.now }
     requires few { length pts.now * SLOTS_FOR_EACH ≤ ID_ROOM }

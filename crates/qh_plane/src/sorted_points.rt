@@ -1,12 +1,11 @@
-//! Points that stand in the order of their places, or against it, as those of files often do. They differ,
-//! and one pass tells.
+//! Points in the order of their places, or in reverse, as files often have them. One pass shows that they differ.
 ghost use Rattle.std.specs.Prelude.{IsTrue};
 ghost use Rattle.qh_plane.specs.steps.SortedPoints.{NumbersRise, NumbersFall, AllDiffer};
 
 use crate::hashed_keys::place_number;
 use qh_model::Point;
 
-/// Returns true if the number of each place is above that of the one before.
+/// Returns true if the number of each place is above that of the place before.
 fn numbers_rise(pts: &[Point]) -> bool
     ensures { IsTrue result → NumbersRise pts.now }
 {
@@ -18,7 +17,7 @@ fn numbers_rise(pts: &[Point]) -> bool
     true
 }
 
-/// Returns true if it is below.
+/// Returns true if the number of each place is below that of the place before.
 fn numbers_fall(pts: &[Point]) -> bool
     ensures { IsTrue result → NumbersFall pts.now }
 {
@@ -30,7 +29,7 @@ fn numbers_fall(pts: &[Point]) -> bool
     true
 }
 
-/// Returns true if points are seen to differ, since they stand in order or against it.
+/// Returns true if points are in order or in reverse, which shows that they differ.
 pub fn are_in_order(pts: &[Point]) -> bool
     ensures { IsTrue result → AllDiffer pts.now }
 {

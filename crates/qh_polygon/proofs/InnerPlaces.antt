@@ -1,4 +1,4 @@
--- Points to the left of all sides of a closed cycle: they are not extreme, so what is left without them has the polygon.
+-- Points to the left of all sides of a closed cycle: they are not extreme, so the remaining points have the same polygon.
 use Rattle.std.proofs.Common.{◌≡◌, ◌≢◌, ℕ, List, [], ◌∷◌, arith, ap, sym, subst, ◌∙◌, refl, inl, inr, ⊎_elim, Bool, true}
 use Rattle.std.proofs.lemmas.{Bool.false_from_ne_true, Bool.and_parts, Int.ints, Int.by_lt_z}
 use Rattle.std.specs.List.Sorted.{IsStrictlyIncreasing}
@@ -17,7 +17,7 @@ use Rattle.qh_polygon.specs.{contract.PlanarSets.IsPlanarSet, steps.Chains.is_le
 use Rattle.qh_polygon.specs.steps.InnerPlaces.{is_left_along, is_inside, is_outside, IsFlatSet}
 
 -- ---- triangles
--- a point in a triangle is not beyond all its corners: a, b and c are how far these lie beyond it
+-- a point in a triangle is not beyond all its corners: a, b and c are the distances of these beyond it
 not_beyond : (tv tu uv a b c : ℤ) → tv *ℤ b ≡ tu *ℤ c +ℤ uv *ℤ a → pos 0 <ℤ tu → pos 0 <ℤ uv → tv ≤ℤ pos 0 → a <ℤ pos 0 → b <ℤ pos 0 → c <ℤ pos 0 → ⊥
 not_beyond tv tu uv a b c e htu huv htv ha hb hc =
     let x : pos 0 ≤ℤ (tv *ℤ b) = mul-nonpos tv b htv (negative_le b hb) in
@@ -30,7 +30,7 @@ module _ (n : Vector) (at : ℕ → Vector) (A : ℕ → Type 0) (flat : IsFlat 
   abbrev to_left : ℕ → ℕ → ℤ
   to_left u v = left n (at u) (at v) (at p)
 
-  -- with p on its left a side begins at another id
+  -- a side with p on its left begins at an id other than p
   begins_apart : (u v : ℕ) → pos 0 <ℤ to_left u v → u ≢ p
   begins_apart u v h q = less_differ _ _ (subst (λ t. pos 0 <ℤ left n (at t) (at v) (at p)) q h) (sym (left-back n (at p) (at v)))
 
@@ -38,7 +38,7 @@ module _ (n : Vector) (at : ℕ → Vector) (A : ℕ → Type 0) (flat : IsFlat 
   ends_apart : (u v : ℕ) → pos 0 <ℤ to_left u v → v ≢ p
   ends_apart u v h q = less_differ _ _ (subst (λ t. pos 0 <ℤ left n (at u) (at t) (at p)) q h) (sym (left-there n (at u) (at p)))
 
-  -- the same as a bracket of the ways from p
+  -- the same as a bracket of the vectors from p
   abbrev seen : ℕ → ℕ → ℤ
   seen u v = bracket n (step at p u) (step at p v)
 
@@ -70,11 +70,11 @@ module _ (n : Vector) (at : ℕ → Vector) (A : ℕ → Type 0) (flat : IsFlat 
           (subst (λ x. pos 0 <ℤ x) (to_left-seen t u) tu) (subst (λ x. pos 0 <ℤ x) (to_left-seen u v) uv) (subst (λ x. x ≤ℤ pos 0) (to_left-seen t v) tv)
           (below t (inl refl)) (below u (inr (inl refl))) (below v (inr (inr (inl refl))))
 
-  -- turns of which those to the left are seen to be
+  -- turns whose sign to the left is right
   abbrev AreTold : (ℕ → ℕ → ℕ → ℤ) → Type 0
   AreTold turn = (u v : ℕ) → A u → A v → is_left (turn u v p) ≡ true → pos 0 <ℤ to_left u v
 
-  -- nor is it to the left of a way from u back to t, where it is to the left of that from t to u
+  -- nor is it to the left of a path from u back to t, if it is to the left of the one from t to u
   no_way : (turn : ℕ → ℕ → ℕ → ℤ) → AreTold turn → (t u : ℕ) (r : List ℕ) → A t → A u → ((x : ℕ) → In x r → A x)
       → pos 0 <ℤ to_left t u → is_left_along turn p u r t ≡ true → ⊥
   no_way turn told t u [] it iu ir tu h = omega (arith, ints, left-swap n (at t) (at u) (at p), tu, told u t iu it h)
@@ -83,7 +83,7 @@ module _ (n : Vector) (at : ℕ → Vector) (A : ℕ → Type 0) (flat : IsFlat 
       by_lt_z (pos 0) (to_left t v) (λ tv. no_way turn told t v r it iv (λ x m. ir x (inr m)) tv b.1)
       (λ tv. no_triangle t u v it iu iv tu (told u v iu iv b.0) tv)
 
-  -- nor of all sides of a cycle
+  -- nor to the left of all sides of a cycle
   pub not_inside : (turn : ℕ → ℕ → ℕ → ℤ) → AreTold turn → (cycle : List ℕ) → ((x : ℕ) → In x cycle → A x) → is_inside turn cycle p ≡ true → ⊥
   not_inside turn told [] all h = cc
   not_inside turn told (t ∷ []) all h =
@@ -92,13 +92,13 @@ module _ (n : Vector) (at : ℕ → Vector) (A : ℕ → Type 0) (flat : IsFlat 
       let b = and_parts _ _ h in let it = all t (inl refl) in let iu = all u (inr (inl refl)) in
       no_way turn told t u r it iu (λ x m. all x (inr (inr m))) (told t u it iu b.0) b.1
 
--- ---- what a cycle of a planar set leaves
+-- ---- the ids of a planar set that remain outside a cycle
 module _ (pts : List Vector) (ids cycle : List ℕ) (n : Vector) (h : IsPlanarSet pts ids n) (within : (i : ℕ) → In i cycle → In i ids) where
-  -- the test that is passed
+  -- the test that ids have to pass to remain
   abbrev outside : ℕ → Bool
   outside = is_outside (turn_of pts n) cycle
 
-  -- an extreme id passes, so it is left
+  -- an extreme id passes, so it remains
   pub extreme_left : (i : ℕ) → Extreme (place pts) (Members ids) i → In i (filter outside ids)
   extreme_left i e = in_filter outside ids i e.0 (ap not (false_from_ne_true (is_inside (turn_of pts n) cycle i)
       (not_inside n (place pts) (Members ids) flat i e (turn_of pts n) told cycle within)))
@@ -116,7 +116,7 @@ module _ (pts : List Vector) (ids part : List ℕ) (n : Vector) (h : IsPlanarSet
   abbrev at : ℕ → Vector
   at = place pts
 
-  -- it is flat, too: three of it are not in line
+  -- the part is flat, too: three of its points are not in line
   pub outer_flat : IsFlatSet pts part n
   outer_flat =
       let mixes = members_are_combinations at ids h.set.distinct in

@@ -39,7 +39,7 @@ pair_line d x y n p q =
     (line_x d.y d.z d.x x.y x.z x.x y.y y.z y.x (omega (arith, ints)) (ap (λ v. v.y) p) (ap (λ v. v.z) p) (ap (λ v. v.x) p) (ap (λ v. v.y) q))
     (line_x d.z d.x d.y x.z x.x x.y y.z y.x y.y (omega (arith, ints)) (ap (λ v. v.z) p) (ap (λ v. v.x) p) (ap (λ v. v.y) p) (ap (λ v. v.z) q))
 
--- what is in line with i and j is in one line
+-- points that are in line with i and j are in one line
 pub three_line : (i j a b c : Vector) → pos 0 <ℤ dot (minus j i) (minus j i) → AreInLine i j a → AreInLine i j b → AreInLine i j c → AreInLine a b c
 unfolding cross
 three_line i j a b c n p q r =
@@ -60,17 +60,17 @@ pub same_point : (p q : Vector) → minus q p ≡ origin → p ≡ q
 same_point p q e = vector_path p q (omega (arith, ints, ap (λ v. v.x) e)) (omega (arith, ints, ap (λ v. v.y) e)) (omega (arith, ints, ap (λ v. v.z) e))
 
 -- ---- planes
--- the way from a to b, from the ways from i
+-- the vector from a to b, from the vectors from i
 pub between_eq : (n i a b : Vector) → dot n (minus b a) ≡ dot n (minus b i) -ℤ dot n (minus a i)
 between_eq n i a b =
     ring (put n (put i (put a (put b [])))) (dotE (vec 0) (subE (vec 3) (vec 2)))
     (less (dotE (vec 0) (subE (vec 3) (vec 1))) (dotE (vec 0) (subE (vec 2) (vec 1)))) refl
 
--- the same of two
+-- a difference of zeros is zero
 pub none : (l u v : ℤ) → l ≡ u -ℤ v → u ≡ pos 0 → v ≡ pos 0 → l ≡ pos 0
 none l u v e p q = omega (arith, ints)
 
--- what is in the plane of i, j and k is in one plane
+-- points in the plane of i, j and k are in one plane
 pub four_plane : (i j k a b c d : Vector) → ¬ (AreInLine i j k) → vol i j k a ≡ pos 0 → vol i j k b ≡ pos 0
     → vol i j k c ≡ pos 0 → vol i j k d ≡ pos 0 → vol a b c d ≡ pos 0
 unfolding vol cross

@@ -1,4 +1,4 @@
--- The shape of a set of ids tells its dimension.
+-- The shape of a set of ids determines its dimension.
 use Rattle.std.proofs.Common.{◌≡◌, ℕ, ◌<◌, List, length, get_or, arith, sym, subst, ◌∙◌, refl, inl, inr}
 use Rattle.std.proofs.{Math.Nat.ne_of_lt, lemmas.Grind.get_or_default_zero}
 use Rattle.std.specs.List.Sorted.{IsStrictlyIncreasing}
@@ -8,11 +8,11 @@ use Rattle.qh_model.specs.headline.{Dimension.HasSegment, Dimension.IsDimension,
 use Rattle.qh_polygon.proofs.{LinesAndPlanes.three_line, LinesAndPlanes.four_plane, LinesAndPlanes.same_point, ShapeIds.first_two_in}
 use Rattle.qh_polygon.specs.contract.Shapes.{IsInLine, IsInPlane, IsFirstNot, Each, AreFirstTwo}
 
--- what holds of each position holds of each member
+-- a property of each position holds for each member
 each_in : (P : ℕ → Type 0) (ids : List ℕ) → Each P ids → (x : ℕ) → In x ids → P x
 each_in P ids h x m = let r = in_at ids x m in subst P r.2 (h r.0 r.1)
 
--- what stands at a position is a member
+-- the element at a position is a member
 listed : (ids : List ℕ) (m i : ℕ) → m < length ids → get_or ids m 0 ≡ i → In i ids
 listed ids m i h e = subst (λ v. In v ids) e (In-get_or ids m 0 h)
 
@@ -40,12 +40,12 @@ segment pts ids i j t h s =
           (each_in (IsInLine pts i j) ids h k.i k.has_i) (each_in (IsInLine pts i j) ids h k.j k.has_j) (each_in (IsInLine pts i j) ids h k.k k.has_k)),
     )))
 
--- the first off their line makes a triangle
+-- the first id off their line makes a triangle
 three : (pts : List Vector) (ids : List ℕ) (i j k : ℕ) → AreFirstTwo ids i j → IsFirstNot (IsInLine pts i j) ids k → HasTriangle (place pts) (Members ids)
 three pts ids i j k t f = let e = first_two_in ids i j t in
     record { i = i; j = j; k = k; has_i = e.0; has_j = e.1; has_k = listed ids f.at k f.within f.is; area = f.not }
 
--- one off the line of the first two, and all in the plane of the three: a polygon
+-- one id off the line of the first two, and all in the plane of the three: a polygon
 pub flat : (pts : List Vector) (ids : List ℕ) (i j k : ℕ) → AreFirstTwo ids i j → IsFirstNot (IsInLine pts i j) ids k
     → Each (IsInPlane pts i j k) ids → IsDimension (place pts) (Members ids) 2
 flat pts ids i j k t f h =
@@ -57,7 +57,7 @@ flat pts ids i j k t f h =
           (each_in (IsInPlane pts i j k) ids h s.k s.has_k) (each_in (IsInPlane pts i j k) ids h s.l s.has_l)),
     ))
 
--- one off the plane of three: a solid
+-- one id off the plane of three: a solid
 pub solid : (pts : List Vector) (ids : List ℕ) (i j k l : ℕ) → AreFirstTwo ids i j → IsFirstNot (IsInLine pts i j) ids k
     → IsFirstNot (IsInPlane pts i j k) ids l → IsDimension (place pts) (Members ids) 3
 solid pts ids i j k l t f g = let e = first_two_in ids i j t in let third = listed ids f.at k f.within f.is in let last = listed ids g.at l g.within g.is in

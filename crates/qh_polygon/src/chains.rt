@@ -7,7 +7,7 @@ use qh_model::{Id, Point};
 use qh_pred::{Normal, left, point_at};
 use std::alloc::{AllocError, Global};
 
-/// Returns true if the way from u over v to w turns left.
+/// Returns true if the path from u over v to w turns left.
 pub fn turns_left(pts: &[Point], normal: &Normal, u: Id, v: Id, w: Id) -> bool
     requires u_in { u < length pts.now }
     requires v_in { v < length pts.now }
@@ -17,8 +17,7 @@ pub fn turns_left(pts: &[Point], normal: &Normal, u: Id, v: Id, w: Id) -> bool
     left(normal, point_at(pts, u), point_at(pts, v), point_at(pts, w)).is_gt()
 }
 
-/// Returns true if the top of the stack goes before the next id comes: the way over it does not
-/// turn left.
+/// Returns true if the top of the stack has to be dropped before the next id: the path over it does not turn left.
 fn is_dropped(stack: &[Id], pts: &[Point], normal: &Normal, next: Id) -> bool
     requires stack_in { AreIndices pts.now stack.now }
     requires next_in { next < length pts.now }
@@ -28,7 +27,7 @@ fn is_dropped(stack: &[Id], pts: &[Point], normal: &Normal, next: Id) -> bool
     count >= 2 && !turns_left(pts, normal, stack[count - 2], stack[count - 1], next)
 }
 
-/// Drops the tops at which the way to the next id does not turn left.
+/// Drops the top ids at which the path to the next id does not turn left.
 fn drop_tops(stack: &mut Vec<Id>, pts: &[Point], normal: &Normal, next: Id)
     requires stack_in { AreIndices pts.now stack.old.items }
     requires next_in { next < length pts.now }
@@ -40,8 +39,8 @@ fn drop_tops(stack: &mut Vec<Id>, pts: &[Point], normal: &Normal, next: Id)
     }
 }
 
-/// Returns the chain of the ids, in their order: of those in order of place it keeps the corners to
-/// the right of which no point lies.
+/// Returns the chain of the ids, in their order. If the ids are in order of place, it keeps the corners that have no
+/// point to their right.
 pub fn chain(
     alloc: Global,
     pts: &[Point],

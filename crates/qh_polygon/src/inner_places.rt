@@ -1,8 +1,8 @@
 //! The interior filter of a large set in one plane, which drops points before its ids are sorted.
 //!
-//! A cycle goes over a few ids far out on all sides. A point to the left of each side of a closed cycle lies
-//! in a triangle of three ids of it, whatever the cycle is. So it is not extreme, and nothing needs to be
-//! known of the far ids.
+//! A cycle passes through a few ids far out on all sides. A point to the left of each side of a closed cycle lies in a
+//! triangle of three ids of the cycle, for every cycle. So the point is not extreme, and the proof needs no property of
+//! the far ids.
 ghost use Rattle.std.specs.Prelude.{◌≡◌, ◌<◌, ℕ, IfOk, IfSome, length, filter};
 ghost use Rattle.std.specs.List.Sorted.{IsStrictlyIncreasing};
 ghost use Rattle.qh_model.specs.headline.Extreme.{Extreme};
@@ -21,8 +21,8 @@ use std::alloc::{AllocError, Global};
 /// The least number of ids of a set that is filtered.
 const MANY: usize = 4096;
 
-/// The step of the sample. The ids of the cycle are chosen from the sample, and the sample decides whether it pays to
-/// test all ids.
+/// The step of the sample. The ids of the cycle are chosen from the sample, and the sample decides whether testing all
+/// ids pays.
 const LOOKED_AT: usize = 16;
 
 /// A direction of a plane, along the two coordinates that are used.
@@ -44,8 +44,8 @@ const DIRECTIONS: [Direction; 8] = [
     Direction { right: 1, up: -1 },
 ];
 
-/// Returns two coordinates that tell the points of a plane apart, the second to the left of the first as
-/// seen from the side to which the normal points.
+/// Returns two coordinates that distinguish the points of a plane. The second axis is to the left of the first, seen
+/// from the side to which the normal points.
 fn coordinates(normal: &Normal, p: Point) -> (i64, i64) {
     let (x, y, z) = (i64::from(p.x()), i64::from(p.y()), i64::from(p.z()));
     let (right, up, component) = if normal.z() != 0 {
@@ -63,8 +63,7 @@ fn coordinates(normal: &Normal, p: Point) -> (i64, i64) {
 }
 
 impl Direction {
-    /// Returns how far a point lies along this direction. The sum of two coordinates fits; nothing
-    /// rests on it.
+    /// Returns how far a point lies along this direction. The sum of two coordinates fits, and no proof depends on it.
     fn reach(self, normal: &Normal, p: Point) -> i64 {
         let (right, up) = coordinates(normal, p);
         let (right, up) = (self.right.wrapping_mul(right), self.up.wrapping_mul(up));
@@ -72,7 +71,7 @@ impl Direction {
     }
 }
 
-/// Returns the first of the sampled ids whose points lie furthest along a direction.
+/// Returns the first of the sampled ids whose point lies furthest along a direction.
 fn furthest(pts: &[Point], normal: &Normal, ids: &[Id], direction: Direction) -> Id
     requires some { 0 < length ids.now }
     requires indices { AreIndices pts.now ids.now }
@@ -91,7 +90,7 @@ fn furthest(pts: &[Point], normal: &Normal, ids: &[Id], direction: Direction) ->
     found
 }
 
-/// Returns ids far out along each direction in turn, none twice in a row.
+/// Returns ids far out along each direction in turn, without equal neighbours.
 fn far_cycle(
     alloc: Global,
     pts: &[Point],
@@ -134,7 +133,7 @@ fn is_inside(pts: &[Point], normal: &Normal, cycle: &[Id], id: Id) -> bool
     turns_left(pts, normal, from, cycle[0], id)
 }
 
-/// Returns the ids whose points don't lie to the left of each side of a cycle.
+/// Returns the ids whose points do not lie to the left of each side of a cycle.
 fn ids_outside(
     alloc: Global,
     pts: &[Point],
@@ -155,8 +154,7 @@ fn ids_outside(
     Ok(kept)
 }
 
-/// Returns true if at least half of a sample of the ids have points inside a cycle, so that it pays to test
-/// all ids.
+/// Returns true if at least half of a sample of the ids have points inside a cycle, so that testing all ids pays.
 fn holds_most(pts: &[Point], normal: &Normal, ids: &[Id], cycle: &[Id]) -> bool
     requires ids_in { AreIndices pts.now ids.now }
     requires cycle_in { AreIndices pts.now cycle.now }
@@ -171,11 +169,11 @@ fn holds_most(pts: &[Point], normal: &Normal, ids: &[Id], cycle: &[Id]) -> bool
     held >= parts / 2
 }
 
-/// Returns the ids of a large set in one plane but those that the interior filter finds strictly inside, in the
-/// order of the set; `None` if no filter pays: the set is small, or the sample says that few points are inside.
+/// Returns the ids of a large set in one plane without those that the interior filter finds strictly inside, in the
+/// order of the set; `None` if no filter pays: the set is small, or the sample shows that few points are inside.
 ///
-/// Each id is the index of one of the points. The caller keeps `IsPlanarSet`, as for [`polygon`](crate::polygon):
-/// then what is left has all extreme ids, and so the polygon of the set.
+/// Each id is the index of one of the points. The caller ensures `IsPlanarSet`, as for [`polygon`](crate::polygon).
+/// Then the result contains all extreme ids, and so has the polygon of the set.
 ///
 /// # Errors
 ///

@@ -1,7 +1,7 @@
-//! The shape of a set of points, and the polygon of a set that lies in one plane. Beside these, ids in rising order.
+//! The shape of a set of points, and the polygon of a set that lies in one plane; also lists of ids in rising order.
 //!
-//! Shapes and polygons are told by the exact predicates of `qh_pred`, and places are ordered by whole numbers, so no
-//! answer is rounded.
+//! Shapes and polygons are computed with the exact predicates of `qh_pred`, and places are ordered by whole numbers, so
+//! no result is rounded.
 #![tactic(auto)]
 
 mod chains;

@@ -1,5 +1,5 @@
-//! One number for the place of a point and its id. The numbers of points are in order of x, then y,
-//! then z, then id, so that a sort of numbers sorts points, and faster than a sort of records.
+//! One number for the place of a point and its id. The numbers are ordered by x, then y, then z, then id, so sorting
+//! the numbers sorts the points, faster than sorting records.
 ghost use Rattle.std.specs.Prelude.{◌≡◌, ◌+◌, ◌*◌, ◌/◌, ◌%◌, ◌<◌, IfOk, map};
 ghost use Rattle.std.specs.List.{All};
 ghost use Rattle.qh_model.specs.headline.Limits.{IsCoordinate};
@@ -12,10 +12,10 @@ use qh_model::{COORDINATE_LIMIT, Id, Point};
 use qh_pred::point_at;
 use std::alloc::{AllocError, Global};
 
-/// The room of a coordinate and of an id in a key of [`place_key`]: 2^32. Each is below it.
+/// The number of values of a coordinate and of an id in a key of [`place_key`]: 2^32. Each is below it.
 pub const ROOM: u128 = 4294967296;
 
-/// Returns a coordinate, biased above 0.
+/// Returns a coordinate, biased so that it is above 0.
 pub fn biased(coordinate: i32) -> u64
     requires { IsCoordinate coordinate }
     ensures value { result ≡ biased coordinate }

@@ -35,7 +35,8 @@ fn by_place(alloc: Global, pts: &[Point], ids: &[Id]) -> Result<Vec<Id>, AllocEr
     Ok(sorted)
 }
 
-/// Returns two chains, there and back, as one cycle: each without its last, where the other begins.
+/// Returns two chains, there and back, as one cycle. The last id of each chain is dropped, since the other chain begins
+/// with it.
 fn joined(mut there: Vec<Id>, back: &[Id]) -> Result<Vec<Id>, AllocError>
     ensures { IfOk result (λ v. v.items ≡ take (length there.items - 1) there.items ++ take (length back.now - 1) back.now) }
 {
@@ -47,7 +48,7 @@ fn joined(mut there: Vec<Id>, back: &[Id]) -> Result<Vec<Id>, AllocError>
     Ok(there)
 }
 
-/// Returns the cycle over the two chains of ids in order of place.
+/// Returns the cycle of the two chains of ids in order of place.
 fn cycle(
     alloc: Global,
     pts: &[Point],
@@ -79,7 +80,7 @@ fn least_position(ids: &[Id]) -> usize
     least
 }
 
-/// Returns the cycle of three ids, from the first on, that turns left.
+/// Returns the cycle of three ids that turns left, beginning with the first.
 fn triangle(pts: &[Point], normal: &Normal, i: Id, j: Id, k: Id) -> Polygon
     requires i_in { i < length pts.now }
     requires j_in { j < length pts.now }
@@ -93,14 +94,14 @@ fn triangle(pts: &[Point], normal: &Normal, i: Id, j: Id, k: Id) -> Polygon
     }
 }
 
-/// Points, and the normal of the plane in which some of them are seen.
+/// Points, and the normal of the plane in which some of them are viewed.
 #[derive(Clone, Copy, Drop)]
 struct Seen<'a> {
     pts: &'a [Point],
     normal: &'a Normal,
 }
 
-/// Returns true if the way round four ids turns left at each.
+/// Returns true if the cycle of four ids turns left at each.
 fn goes_left(seen: Seen, i: Id, j: Id, k: Id, l: Id) -> bool
     requires i_in { i < length seen.pts.now }
     requires j_in { j < length seen.pts.now }
@@ -114,8 +115,8 @@ fn goes_left(seen: Seen, i: Id, j: Id, k: Id, l: Id) -> bool
         && turns_left(seen.pts, seen.normal, l, i, j)
 }
 
-/// Returns the cycle of four ids, from the first on, that turns left at each, if there is one: else one of
-/// them lies between others.
+/// Returns the cycle of four ids that turns left at each, beginning with the first, if there is one. Else one of the
+/// ids lies between others.
 fn quadrilateral(seen: Seen, i: Id, j: Id, k: Id, l: Id) -> Option<[Id; 4]>
     requires i_in { i < length seen.pts.now }
     requires j_in { j < length seen.pts.now }
@@ -123,7 +124,7 @@ fn quadrilateral(seen: Seen, i: Id, j: Id, k: Id, l: Id) -> Option<[Id; 4]>
     requires l_in { l < length seen.pts.now }
     ensures { IfSome result (λ q. IsLeftCycle (turn_of seen.entry.pts.now seen.entry.normal.now) i j k l q) }
 {
-    // The second and the third in the order that turns left; the last comes after any of the first three.
+    // The second and the third id are put into the order that turns left; the last may follow any of the first three.
     let (j, k) = if turns_left(seen.pts, seen.normal, i, j, k) {
         (j, k)
     } else {
@@ -140,8 +141,7 @@ fn quadrilateral(seen: Seen, i: Id, j: Id, k: Id, l: Id) -> Option<[Id; 4]>
     }
 }
 
-/// Returns the cycle of more ids in one plane, over the two chains of their order, from the least
-/// on.
+/// Returns the cycle of more ids in one plane, by the two chains of their order, beginning with the least.
 fn corners(alloc: Global, pts: &[Point], normal: &Normal, ids: &[Id]) -> Result<Vec<Id>, AllocError>
     requires { AreIndices pts.now ids.now }
     ensures { IfOk result (λ v. IsFlatSet pts.now ids.now normal.now
@@ -154,13 +154,11 @@ fn corners(alloc: Global, pts: &[Point], normal: &Normal, ids: &[Id]) -> Result<
     Ok(corners)
 }
 
-/// Returns the polygon of points in one plane: the extreme ids, counterclockwise seen from the side
-/// to which the normal points, from the least id on. It takes time in proportion to `n log n` for n
-/// ids.
+/// Returns the polygon of points in one plane: the extreme ids, counterclockwise seen from the side to which the normal
+/// points, beginning with the least id. It takes time in proportion to `n log n` for n ids.
 ///
-/// Each id is the index of one of the points. The caller keeps `IsPlanarSet`: the ids rise, their
-/// points are distinct, lie in one plane and not in one line, and the normal is that of three of them
-/// or its opposite.
+/// Each id is the index of one of the points. The caller ensures `IsPlanarSet`: the ids rise, their points are
+/// distinct, lie in one plane and not in one line, and the normal is that of three of them or its opposite.
 ///
 /// # Errors
 ///
@@ -171,7 +169,7 @@ pub fn polygon(alloc: Global, pts: &[Point], ids: &[Id], normal: &Normal) -> Res
     requires { AreIndices pts.now ids.now }
     ensures { IfOk result (λ q. IsPlanarSet pts.now ids.now normal.now → IsPolygon (place pts.now) (Extreme (place pts.now) (Members ids.now)) normal.now q) }
 {
-    // One turn tells the order of three ids, and mostly a few that of four.
+    // One turn determines the order of three ids, and in most cases a few turns that of four.
     if ids.len() == 3 {
         return Ok(triangle(pts, normal, ids[0], ids[1], ids[2]));
     }

@@ -69,10 +69,10 @@ fn first_off_plane(pts: &[Point], ids: &[Id], i: Id, j: Id, k: Id) -> Option<Id>
     None
 }
 
-/// Returns the shape of a set of points, in two passes over its ids, with no memory.
+/// Returns the shape of a set of points, in two passes over its ids, without allocation.
 ///
-/// `ids` has at least one id, and each is the index of one of the points. That the ids rise and have
-/// distinct points (`IsIdSet`) is the caller's condition where the shape is to tell the dimension.
+/// `ids` has at least one id, and each is the index of one of the points. The shape determines the dimension if the
+/// caller ensures that the ids rise and have distinct points (`IsIdSet`).
 pub fn rank(pts: &[Point], ids: &[Id]) -> Shape
     requires some { 0 < length ids.now }
     requires ids_in { AreIndices pts.now ids.now }

@@ -1,4 +1,4 @@
--- Bounds of sums and products of whole numbers by their sizes, and what code of a bounded size computes.
+-- Bounds of sums and products of whole numbers by their absolute values, and the results of code with bounded numbers.
 use Rattle.std.proofs.Common.{◌≡◌, ℕ, ◌+◌, ◌*◌, ◌^◌, ◌≤◌, ◌<◌, arith, FitsSigned, lit<, ◌⊎◌, inl, inr}
 use Rattle.std.proofs.Math.Nat.{mul-le-mul, mul-le-mul_left}
 use Rattle.std.proofs.lemmas.Int.{to_z-of_z, ints, by_lt_z, unsigned_abs-mul, fits_signed_from_abs}
@@ -9,27 +9,27 @@ use Rattle.qh_pred.specs.contract.Bounds.{difference_limit, normal_limit, IsNorm
 use Rattle.qh_pred.specs.steps.Differences.{offset_limit, IsDifference}
 use mir.{Syntax.w64, Syntax.w128, Val.to_z, Val.of_z}
 
--- the size of a sum
+-- the absolute value of a sum
 within-add : (x y : ℤ) (m n : ℕ) → unsigned_abs x ≤ m → unsigned_abs y ≤ n → unsigned_abs (x +ℤ y) ≤ m + n
 within-add x y m n h k = omega (arith, ints)
 
--- the size of a difference
+-- the absolute value of a difference
 pub within-sub : (x y : ℤ) (m n : ℕ) → unsigned_abs x ≤ m → unsigned_abs y ≤ n → unsigned_abs (x -ℤ y) ≤ m + n
 within-sub x y m n h k = omega (arith, ints)
 
--- the size of a product
+-- the absolute value of a product
 within-mul : (x y : ℤ) (m n : ℕ) → unsigned_abs x ≤ m → unsigned_abs y ≤ n → unsigned_abs (x *ℤ y) ≤ m * n
 within-mul x y m n h k = rw (unsigned_abs-mul x y) (mul-le-mul h k)
 
--- a number of a size below 2^63 fits 64 bits
+-- a number of absolute value below 2^63 fits 64 bits
 pub fits : (x : ℤ) (m : ℕ) → unsigned_abs x ≤ m → m < 2 ^ 63 → FitsSigned w64 x
 fits x m h k = fits_signed_from_abs w64 x (omega arith)
 
--- a number of a size below 2^127 fits 128 bits
+-- a number of absolute value below 2^127 fits 128 bits
 pub fits_wide : (x : ℤ) (m : ℕ) → unsigned_abs x ≤ m → m < 2 ^ 127 → FitsSigned w128 x
 fits_wide x m h k = fits_signed_from_abs w128 x (omega arith)
 
--- what is known of a b - c d, in 64 bits
+-- the bounds of a b - c d in 64 bits
 pub record MinorFits (a b c d : ℤ) (k : ℕ) : Type 0 where
   pub first : FitsSigned w64 (a *ℤ b)
   pub second : FitsSigned w64 (c *ℤ d)
@@ -44,22 +44,22 @@ rectangles m a b c d s hb hc =
     let r : m * (a + d) ≤ m * m = mul-le-mul_left m s in
     omega (arith, p, q, r)
 
--- two numbers on one side of 0
+-- two numbers on the same side of 0
 abbrev OnOneSide : ℤ → ℤ → Type 0
 OnOneSide x y = ((pos 0 ≤ℤ x) × (pos 0 ≤ℤ y)) ⊎ ((x ≤ℤ pos 0) × (y ≤ℤ pos 0))
 
--- numbers that are no further apart than m are on one side of 0, or have sizes of the sum m at most
+-- numbers at a distance of at most m are on the same side of 0, or the sum of their absolute values is at most m
 sizes_apart : (m : ℕ) (x y : ℤ) → unsigned_abs (x -ℤ y) ≤ m → (unsigned_abs x + unsigned_abs y ≤ m) ⊎ OnOneSide x y
 sizes_apart m x y h =
     by_lt_z x (pos 0) (λ l. by_lt_z (pos 0) y (λ k. inl (omega (arith, ints))) (λ k. inr (inr (negative_le x l, k))))
     (λ l. by_lt_z y (pos 0) (λ k. inl (omega (arith, ints))) (λ k. inr (inl (l, k))))
 
--- numbers on one side of 0 are no further apart than the larger of them
+-- the distance of numbers on the same side of 0 is at most the larger absolute value
 one_side-sub : (m : ℕ) (x y : ℤ) → OnOneSide x y → unsigned_abs x ≤ m → unsigned_abs y ≤ m → unsigned_abs (x -ℤ y) ≤ m
 one_side-sub m x y (inl s) h k = let p = s.0 in let q = s.1 in omega (arith, ints)
 one_side-sub m x y (inr s) h k = let p = s.0 in let q = s.1 in omega (arith, ints)
 
--- products of pairs on one side each are on one side
+-- the products of two pairs, each on one side of 0, are on one side of 0
 one_side-mul : (a b c d : ℤ) → OnOneSide a d → OnOneSide c b → OnOneSide (a *ℤ b) (c *ℤ d)
 one_side-mul a b c d (inl s) (inl t) = inl (mul-nonneg a b s.0 t.1, mul-nonneg c d t.0 s.1)
 one_side-mul a b c d (inl s) (inr t) = inr (mul-nonneg_nonpos a b s.0 t.1, mul-nonpos_nonneg c d t.0 s.1)
@@ -83,7 +83,7 @@ area-within m a b c d ha hb hc hd wide high = by_cases (sizes_apart m a d wide) 
     by_cases (inr s) (inl l) = let r = rectangles m (unsigned_abs c) (unsigned_abs d) (unsigned_abs a) (unsigned_abs b) l hd ha in sum (omega (arith, r))
     by_cases (inr s) (inr t) = one_side-sub (m * m) (a *ℤ b) (c *ℤ d) (one_side-mul a b c d s t) (within-mul a b m m ha hb) (within-mul c d m m hc hd)
 
--- such an area fits, with its two products
+-- this area fits, with its two products
 pub minor_fits : (m : ℕ) (a b c d : ℤ) → m * m < 2 ^ 63 → unsigned_abs a ≤ m → unsigned_abs b ≤ m → unsigned_abs c ≤ m
     → unsigned_abs d ≤ m → unsigned_abs (a -ℤ d) ≤ m → unsigned_abs (c -ℤ b) ≤ m
     → MinorFits a b c d (m * m)
@@ -96,26 +96,26 @@ minor_fits m a b c d s ha hb hc hd wide high =
       bound = r;
     }
 
--- the difference of two ways from a to b and c is one of points
+-- the difference of two vectors from a, to b and to c, is a difference of points
 pub differences : (a b c p q : Vector) → p ≡ minus b a → q ≡ minus c a → IsPlace b → IsPlace c → IsDifference (minus p q)
 differences a b c p q e f hb hc = rw (e, f) (record { x = between b.x a.x c.x hb.x hc.x; y = between b.y a.y c.y hb.y hc.y; z = between b.z a.z c.z hb.z hc.z })
   where
     between : (x o y : ℤ) → IsCoordinate x → IsCoordinate y → unsigned_abs ((x -ℤ o) -ℤ (y -ℤ o)) ≤ difference_limit
     between x o y h k = omega (arith, ints)
 
--- a number that went to its 128 bits and came back
+-- a number that was converted to 128 bits and back
 abbrev pub through : ℤ → ℤ
 through z = to_z w128 (of_z w128 z)
 
--- a number that went to its 64 bits and came back
+-- a number that was converted to 64 bits and back
 abbrev pub through_half : ℤ → ℤ
 through_half z = to_z w64 (of_z w64 z)
 
--- the product of two components, as the code hands them on
+-- the product of two components in the code
 abbrev handed : ℤ → ℤ → ℤ
 handed x y = through_half x *ℤ through_half y
 
--- 64 bits keep the components of a normal
+-- 64 bits hold the components of a normal
 kept : (x y p : ℤ) → unsigned_abs x ≤ normal_limit → unsigned_abs y ≤ normal_limit → p ≡ handed x y → p ≡ x *ℤ y
 kept x y p h k e =
     let fx : FitsSigned w64 x = fits x normal_limit h (lit< tt) in
@@ -147,7 +147,7 @@ dot_fits u v p q r hu hv ep eq er = rw (kept u.x v.x p hu.x hv.x ep, kept u.y v.
         fits_wide (u.x *ℤ v.x +ℤ u.y *ℤ v.y +ℤ u.z *ℤ v.z) (m + m + m) whole (omega arith) in
         record { two = simp to_z-of_z ft; whole = simp to_z-of_z fw; value = simp to_z-of_z }
 
--- the size of a scalar product of vectors within the limit of normals
+-- the absolute value of a scalar product of vectors within the limit of normals
 pub dot-within : (u v : Vector) → IsNormal u → IsNormal v → unsigned_abs (dot u v) ≤ offset_limit
 dot-within u v hu hv =
     sum (normal_limit * normal_limit) (u.x *ℤ v.x) (u.y *ℤ v.y) (u.z *ℤ v.z) (within-mul u.x v.x normal_limit normal_limit hu.x hv.x)

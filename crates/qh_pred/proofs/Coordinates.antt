@@ -1,4 +1,4 @@
--- Coordinates that code takes from two points, and a point that it makes of them.
+-- Coordinates that code reads from two points, and a point that it makes of them.
 use Rattle.std.proofs.Common.{ℕ, ◌≡◌, ◌<◌, ◌≤◌, ◌^◌, arith, lit<, ◌⊎◌, inl, inr}
 use Rattle.std.proofs.lemmas.Int.{ints, to_z-of_z, fits_signed_from_abs}
 use Rattle.std.specs.Prelude.{ℤ, ◌≤ℤ◌, unsigned_abs}
@@ -6,15 +6,15 @@ use Rattle.qh_model.specs.headline.Limits.{IsCoordinate}
 use lib.Signed.{mag}
 use mir.{Syntax.w32, Val.hbits, Val.to_z, Val.of_z}
 
--- a number as it is held in 32 bits
+-- a number as it is stored in 32 bits
 abbrev held : ℤ → ℤ
 held x = to_z w32 (of_z w32 x)
 
--- a coordinate that is read is held as it is
+-- a coordinate that is read keeps its value
 pub read_is : (x y : ℤ) → mag x < 2 ^ 31 → x ≡ y → held x ≡ y
 read_is x y h e = omega (arith, ints)
 
--- a number of a size that fits keeps its size
+-- a number whose absolute value fits keeps it
 held_size : (x : ℤ) (m : ℕ) → unsigned_abs x ≤ m → m < 2 ^ hbits w32 → unsigned_abs (held x) ≤ m
 held_size x m h l = rw (to_z-of_z w32 x (fits_signed_from_abs w32 x (omega (arith, h, l)))) h
 

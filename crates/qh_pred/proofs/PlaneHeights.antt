@@ -1,4 +1,4 @@
--- What the code of a plane computes of a point, in 128 bits.
+-- The height of a point, as the code of a plane computes it in 128 bits.
 use Rattle.std.proofs.Common.{rules, ◌≡◌, ◌+◌, ◌≤◌, ◌∙◌, sym, ap, FitsSigned, lit<, IsTrue, ◌↔◌}
 use Rattle.std.proofs.lemmas.Int.{to_z-of_z}
 use Rattle.std.specs.Prelude.{ℤ, pos, ◌-ℤ◌, ◌<ℤ◌, unsigned_abs}
@@ -35,7 +35,7 @@ height_fits inside plane p r h is e b =
 height_is_vol : (a b c n : Vector) (o : ℤ) → n ≡ cross a b c → o ≡ dot n a → (p : Vector) → dot n p -ℤ o ≡ vol a b c p
 height_is_vol a b c n o e f p = ap (λ v. dot n p -ℤ v) f ∙ ap (λ (v : Vector). dot v p -ℤ dot v a) e ∙ sym (vol-linear a b c p)
 
--- and 64 bits keep its normal
+-- 64 bits hold the normal
 pub stored_height : (a b c n m : Vector) (x y z o : ℤ) → n ≡ cross a b c → m ≡ a → IsNormal n → x ≡ n.x → y ≡ n.y
     → z ≡ n.z → o ≡ dot n m → unsigned_abs o ≤ offset_limit
     → (p : Vector) → height (record { normal = record { x = through_half x; y = through_half y; z = through_half z }; offset = through o }) p ≡ vol a b c p

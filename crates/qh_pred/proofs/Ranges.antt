@@ -1,4 +1,4 @@
--- Products over a range of numbers: the greatest is at an end of it, and that over a box at a corner.
+-- Products over a range of numbers: the greatest is at an end of the range, and the greatest over a box is at a corner.
 use Rattle.std.proofs.Common.{◌≡◌, arith}
 use Rattle.std.proofs.lemmas.Int.{ints, by_lt_z}
 use Rattle.std.specs.Prelude.{ℤ, pos, ◌*ℤ◌, neg_ℤ, ◌≤ℤ◌, ◌<ℤ◌}
@@ -6,8 +6,8 @@ use Rattle.qh_model.proofs.algebra.{Order.mul-le, Integers.neg_mul}
 use Rattle.qh_model.specs.headline.Vector.{Vector}
 use Rattle.qh_pred.specs.contract.{Corners.IsInBox, Planes.PlaneValue, Planes.height, Ranges.IsBetween, Ranges.IsFarEnd}
 
--- beyond the end of a range to which a factor points products are no less than in the range: with a factor above 0
--- beyond the greatest number, with one not above 0 beyond the least
+-- products beyond the end of a range to which a factor points are at least those in the range: beyond the greatest number for a factor above 0, and beyond the
+-- least number for a factor not above 0
 pub beyond : (a l h n e : ℤ) → (pos 0 <ℤ a → h ≤ℤ e) → (a ≤ℤ pos 0 → e ≤ℤ l) → IsBetween l n h → (a *ℤ n) ≤ℤ (a *ℤ e)
 beyond a l h n e above below in_range =
     let least = in_range.0 in let most = in_range.1 in
@@ -21,7 +21,7 @@ pub greatest : (a l h e n : ℤ) → IsFarEnd a l h e → IsBetween l n h → (a
 greatest a l h e n far in_range =
     beyond a l h n e (λ up. let q = far.0 up in omega (arith, ints)) (λ down. let q = far.1 down in omega (arith, ints)) in_range
 
--- a box is below a plane where its corner that lies furthest along the normal is
+-- a box is below a plane if its corner that lies furthest along the normal is
 pub below_by_corner : (low high : Vector) (plane : PlaneValue) (n q : Vector) → n ≡ plane.normal
     → IsFarEnd n.x low.x high.x q.x → IsFarEnd n.y low.y high.y q.y → IsFarEnd n.z low.z high.z q.z
     → height plane q <ℤ pos 0 → (p : Vector) → IsInBox low high p → height plane p <ℤ pos 0

@@ -1,4 +1,4 @@
--- The sign of a turn in a plane, told by one component of the plane's normal.
+-- The sign of a turn in a plane, determined by one component of the plane's normal.
 use Rattle.std.proofs.Common.{◌≡◌, ◌≢◌, [], ◌∷◌, refl, ap, sym, ◌∙◌, Bool, true, false, cond}
 use Rattle.std.proofs.lemmas.Int.{by_lt_z}
 use Rattle.std.specs.{Cmp.int_ranks, Cmp.int_cmp_is, Cmp.signed_Decides, Ordering.MatchOrdering, Ordering.int_eq}
@@ -10,7 +10,7 @@ use Rattle.qh_model.proofs.extremes.Directions.{Parallel, parallel_normal, squar
 use Rattle.qh_model.specs.headline.{Predicates.cross, Predicates.left, Vector.Vector, Vector.origin, Vector.dot}
 use Rattle.qh_pred.specs.contract.Turns.{sign, IsAcross, first_product}
 
--- numbers that are below, at and above 0 together have one sign
+-- numbers that are below, at and above 0 together have the same sign
 same_sign : (x y : ℤ) → (x <ℤ pos 0 → y <ℤ pos 0) → (x ≡ pos 0 → y ≡ pos 0) → (pos 0 <ℤ x → pos 0 <ℤ y) → sign x ≡ sign y
 same_sign x y f g h = int_cmp_is y (pos 0) (sign x) (told (sign x) (int_ranks x (pos 0)))
   where
@@ -23,7 +23,7 @@ same_sign x y f g h = int_cmp_is y (pos 0) (sign x) (told (sign x) (int_ranks x 
 pub sign-mul : (s z : ℤ) → pos 0 <ℤ s → sign z ≡ sign (s *ℤ z)
 sign-mul s z h = same_sign z (s *ℤ z) (λ k. mul-pos_neg s z h k) (λ k. product_zero s z k) (λ k. mul-pos s z h k)
 
--- a square of another number than 0
+-- the square of a number other than 0
 square_above : (x : ℤ) → x ≢ pos 0 → pos 0 <ℤ (x *ℤ x)
 square_above x h = by_lt_z x (pos 0) (λ l. mul-neg_neg x x l l) (λ l. let p = le_less (pos 0) x l (λ e. h (sym e)) in mul-pos x x p p)
 
@@ -36,7 +36,7 @@ component-sign s t x y h e ne = sign-mul s (x *ℤ y) h ∙ ap sign both ∙ sym
         ∙ ap (λ v. x *ℤ v) e
         ∙ ring (t ∷ x ∷ []) (mul (var 1) (mul (var 0) (var 1))) (mul (mul (var 1) (var 1)) (var 0)) refl
 
--- of parallel vectors the first component of n that is not 0 tells the sign of their scalar product
+-- for parallel vectors, the first component of n that is not 0 determines the sign of their scalar product
 first_product-sign : (n c : Vector) → n ≢ origin → Parallel n c → sign (first_product n c) ≡ sign (dot n c)
 first_product-sign n c some along = by_x (int_eq n.x (pos 0)) refl
   where
@@ -54,7 +54,7 @@ first_product-sign n c some along = by_x (int_eq n.x (pos 0)) refl
     by_x true e = by_y (int_eq n.y (pos 0)) refl ((signed_Decides n.x (pos 0)).0 e)
     by_x false e = told n.x c.x along.x (differ n.x e)
 
--- so it tells the sign of a turn in a plane of the normal n
+-- so this component determines the sign of a turn in a plane with the normal n
 pub turn_sign : (n u v w : Vector) → IsAcross n u v w → sign (first_product n (cross u v w)) ≡ sign (left n u v w)
 turn_sign n u v w h = first_product-sign n (cross u v w) h.some (parallel_normal n u v w h.to_v h.to_w)
     ∙ ap sign (dot_comm n (cross u v w) ∙ sym (left-dot n u v w))

@@ -1,4 +1,4 @@
--- What else the contracts of public functions cite.
+-- Other definitions that the contracts of public functions cite.
 pub mod Bounds
 pub mod Corners
 pub mod Planes

@@ -1,3 +1,3 @@
--- What private functions speak of: nothing to believe.
+-- Definitions that only private functions use. A reader of the headline need not trust them.
 pub mod Differences
 pub mod StoredPlanes

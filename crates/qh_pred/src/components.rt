@@ -1,5 +1,4 @@
-//! Differences of points and their products, in 64 bits; only the last product of a volume has 128
-//! bits.
+//! Differences of points and their products, in 64 bits; only the last product of a volume has 128 bits.
 ghost use Rattle.std.specs.Prelude.{◌≡◌, ◌≤◌, ◌*ℤ◌, ◌-ℤ◌, ◌↔◌, IsTrue, unsigned_abs};
 ghost use Rattle.qh_model.specs.headline.Vector.{Vector, origin, minus, cross_product, dot};
 ghost use Rattle.qh_model.specs.headline.Limits.{IsCoordinate};
@@ -70,8 +69,8 @@ fn coordinate_difference(b: i32, a: i32) -> i64
     i64::from(b) - i64::from(a)
 }
 
-/// Returns a component of a cross product, a b - c d: twice the area of the triangle whose sides
-/// from one corner are (a, c) and (d, b), in a square of side `difference_limit`.
+/// Returns a component of a cross product, a b - c d: twice the area of the triangle whose sides from one corner are
+/// (a, c) and (d, b), in a square of side `difference_limit`.
 fn minor(a: i64, b: i64, c: i64, d: i64) -> i64
     requires a_within { unsigned_abs a ≤ difference_limit }
     requires b_within { unsigned_abs b ≤ difference_limit }
@@ -85,7 +84,7 @@ fn minor(a: i64, b: i64, c: i64, d: i64) -> i64
     a * b - c * d
 }
 
-/// Returns the sign of the product of two numbers, without the product.
+/// Returns the sign of the product of two numbers without computing the product.
 fn product_sign(a: i64, b: i64) -> Ordering
     ensures { result ≡ sign (a *ℤ b) }
 {
@@ -104,7 +103,7 @@ fn wide_product(a: i64, b: i64) -> i128
 }
 
 impl Difference {
-    /// Returns the way from a to b.
+    /// Returns the vector from a to b.
     pub fn between(a: Point, b: Point) -> Difference
         ensures value { result ≡ minus b a }
         ensures from { IsPlace a }
@@ -117,8 +116,8 @@ impl Difference {
         }
     }
 
-    /// Returns the cross product of two differences from one point, whose own difference is one of
-    /// points too.
+    /// Returns the cross product of two differences that start at one point. The difference between their ends is a
+    /// difference of points, too.
     pub fn cross(self, other: Difference) -> Components
         requires { IsDifference (minus self other) }
         ensures { result ≡ cross_product self other }
@@ -130,7 +129,7 @@ impl Difference {
         }
     }
 
-    /// Returns the same vector, with room for products.
+    /// Returns the same vector in a type that products fit.
     pub fn components(self) -> Components
         ensures { result ≡ self }
     {
@@ -143,7 +142,7 @@ impl Difference {
 }
 
 impl Components {
-    /// Returns the vector with these components, which the caller keeps within the limit.
+    /// Returns the vector with these components. The caller keeps them within the limit.
     pub fn new(x: i64, y: i64, z: i64) -> Components
         requires { IsNormal (record { x = x; y = y; z = z }) }
         ensures { result ≡ record { x = x; y = y; z = z } }
@@ -151,7 +150,7 @@ impl Components {
         Components { x, y, z }
     }
 
-    /// Returns the way from the origin to a point.
+    /// Returns the vector from the origin to a point.
     pub fn of_point(p: Point) -> Components
         ensures { result ≡ p }
     {
@@ -193,8 +192,7 @@ impl Components {
         self.x == 0 && self.y == 0 && self.z == 0
     }
 
-    /// Returns the sign of the first component that is not 0, times the same component of another
-    /// vector.
+    /// Returns the sign of the first component that is not 0, times the same component of another vector.
     pub fn first_sign(self, other: Components) -> Ordering
         ensures { result ≡ sign (first_product self other) }
     {

@@ -1,4 +1,4 @@
-//! Corners of the box that two points span, with sides along the axes.
+//! Corners of the axis-parallel box that two points span.
 ghost use Rattle.std.specs.Prelude.{◌≡◌, ◌⊎◌, ◌≤ℤ◌};
 ghost use Rattle.qh_pred.specs.contract.Corners.{IsCornerOf, IsUnder};
 

@@ -1,10 +1,10 @@
-//! The exact geometric predicates: the volume of four points, the normal of three, whether three
-//! points lie in one line, and the turn of three points seen from a side. A [`Plane`] keeps what the
-//! volumes of one triangle have in common.
+//! The exact geometric predicates: the volume of four points, the normal of three, whether three points lie in one
+//! line, and the turn of three points seen from a side. A [`Plane`] keeps the values that the volumes over one triangle
+//! share.
 //!
-//! Each answers its definition of `qh_model/specs/headline/Predicates.antt`, `left` the sign of it, with
-//! no rounding, for all points, since a [`qh_model::Point`] keeps the limit of coordinates. No call takes
-//! memory.
+//! Each predicate returns the value of its definition in `qh_model/specs/headline/Predicates.antt`; `left` returns the
+//! sign. The results are exact for all points, since a [`qh_model::Point`] keeps the limit of coordinates. No call
+//! allocates memory.
 //!
 //! [`least_of`] and [`greatest_of`] return corners of the box that two points span.
 //!

@@ -6,8 +6,8 @@ ghost use Rattle.qh_pred.specs.contract.Bounds.{IsNormal};
 use crate::components::Components;
 use std::marker::Model;
 
-/// A cross product of two differences of points, or its opposite: a vector of whole components,
-/// each of size `normal_limit` at most.
+/// A cross product of two differences of points, or its opposite: a vector of whole components, each of absolute value
+/// `normal_limit` at most.
 ///
 /// A contract sees it as its three whole numbers, without bound.
 #[derive(Clone, Copy, Debug, PartialEq, Eq)]
@@ -45,7 +45,7 @@ impl Normal {
         }
     }
 
-    /// Returns its components in 64 bits, which hold them.
+    /// Returns the components in 64 bits, which is enough for them.
     pub(crate) fn components(&self) -> Components
         ensures { result ≡ self.now }
     {
@@ -76,7 +76,7 @@ impl Normal {
         self.z
     }
 
-    /// Returns the normal of the other side.
+    /// Returns the normal of the opposite side.
     pub fn opposite(&self) -> Normal
         ensures { result ≡ minus origin self.now }
     {

@@ -11,8 +11,8 @@ use crate::predicates::product;
 use qh_model::Point;
 use std::marker::Model;
 
-/// The plane of a triangle: its normal, and the scalar product of the normal with each point of the
-/// plane. A point's side of it costs three products of 64 bits, since the normal is worked out once.
+/// The plane of a triangle: its normal, and the scalar product of the normal with each point of the plane. The normal
+/// is computed once, so a side test of a point costs three products of 64 bits.
 ///
 /// A contract sees it as these whole numbers, without bound.
 ///
@@ -41,8 +41,7 @@ impl Model for Plane {
 }
 
 impl Plane {
-    /// Returns the plane of the triangle a, b, c, with the side above from which it goes
-    /// counterclockwise.
+    /// Returns the plane of the triangle a, b, c. The triangle is counterclockwise seen from the side above.
     pub fn through(a: Point, b: Point, c: Point) -> Plane
         ensures { (p : Vector) → height result p ≡ vol a b c p }
     {
@@ -77,8 +76,8 @@ impl Plane {
         Components::new(self.x, self.y, self.z).dot(Components::of_point(p))
     }
 
-    /// Returns six times the volume of the triangle's tetrahedron with `p`: above 0 where `p` is
-    /// above the plane, 0 where it is on it.
+    /// Returns six times the volume of the triangle's tetrahedron with `p`: above 0 if `p` is above the plane, 0 if it
+    /// is on it.
     pub fn height(&self, p: Point) -> i128
         ensures { result ≡ height self.now p }
     {

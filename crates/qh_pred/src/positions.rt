@@ -5,7 +5,7 @@ ghost use Rattle.qh_model.specs.headline.Vector.{minus, dot};
 use crate::components::Difference;
 use qh_model::Point;
 
-/// Returns how far `p` lies along the way from `a` to `b`, times the length of that way: below 0
+/// Returns how far `p` lies along the vector from `a` to `b`, times the length of that vector: below 0 if `p` lies
 /// behind `a`.
 ///
 /// It is the scalar product `(b - a) . (p - a)`.

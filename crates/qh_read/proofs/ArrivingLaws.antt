@@ -10,7 +10,7 @@ use Rattle.qh_read.specs.steps.{Arriving.told_if, Arriving.grown_on, Arriving.ar
 use Rattle.qh_read.proofs.{HoldingLaws.grown_more, Lexing.Lexed, Lexing.start, Lexing.ended, Lexing.closed, Lexing.next, Lexing.lexed}
 use Rattle.qh_read.proofs.{OffLexingLaws.off_words-lexed, TokenLaws.grown_by, TokenLaws.value-number}
 
--- a small number is told apart from all others
+-- a small number is distinguished from all others
 small-capped : (o : Option ℤ) → small_number (option_map capped o) ≡ small_number o
 small-capped (Some (pos n)) = at (nat_le n COORDINATE_LIMIT) refl
   where
@@ -23,7 +23,7 @@ small-capped (Some (pos n)) = at (nat_le n COORDINATE_LIMIT) refl
         ap (λ (b : Bool). cond b (Some (cap n)) None) more
 small-capped o = refl
 
--- the token of a word under way
+-- the token of an unfinished word
 abbrev under : List ℕ → Option Token
 under [] = None
 under (c ∷ w) = Some (grown_by Empty (c ∷ w))
@@ -40,11 +40,11 @@ grows : (w : List ℕ) (c : ℕ) → under (w ++ c ∷ []) ≡ Some (grown_on (u
 grows [] c = refl
 grows (b ∷ w) c = ap Some (grown_more (b ∷ w) Empty c)
 
--- the words that ended, and those that arrive
+-- the words that ended, and those that follow
 abbrev shown : Lexed → List ℕ → List Numeral
 shown s cs = map numeral_of s.words ++ arriving (under s.under_way) s.comment s.line cs
 
--- a word ends, and others arrive
+-- a word ends, and others follow
 goes_on : (ws : List Word) (n : ℕ) (w : List ℕ) (more : List Numeral)
     → map numeral_of (ws ++ ended n w) ++ more ≡ map numeral_of ws ++ (told_if (under w) n ++ more)
 goes_on ws n w more = ap (λ (t : List Numeral). t ++ more) (closes ws n w) ∙ append_assoc (map numeral_of ws) (told_if (under w) n) more

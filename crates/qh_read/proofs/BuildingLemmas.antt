@@ -1,4 +1,4 @@
--- One point more.
+-- One more point.
 use Rattle.std.proofs.Common.{◌≡◌, ◌++◌, [], ◌∷◌, List, refl, ap}
 use Rattle.std.specs.Prelude.{ℤ}
 use Rattle.qh_model.specs.headline.{PointFile.coordinates, Vector.Vector}

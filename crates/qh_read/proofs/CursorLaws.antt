@@ -1,4 +1,4 @@
--- What cursors pass, one part after another.
+-- The bytes that cursors pass, one part after another.
 use Rattle.std.proofs.Common.{◌≡◌, ◌∙◌, ◌++◌, [], ◌∷◌, ◌<◌, ◌≤◌, ◌+◌, ◌-◌, ◌*◌, drop, ℕ, List, ap, arith, suc, refl, length, length-append, append_assoc, sym}
 use Rattle.std.proofs.lemmas.List.{drop_more, append-nil}
 use Rattle.std.specs.Prelude.{ℤ, get_or}
@@ -12,20 +12,20 @@ use Rattle.qh_read.specs.declared.token.Token.TheVariants.{Empty}
 use Rattle.qh_read.specs.steps.Cursors.{ahead, held_from, IsParted, ArePoint, ArePushed}
 use Rattle.qh_read.specs.steps.Numbers.{quiet, ArePoints}
 
--- one byte more
+-- one more byte
 pub step : (h k : Held) (bytes : List ℕ) (i j : ℕ) → i < length bytes → j ≡ i + 1 → next_held h (get_or bytes i 0) ≡ k
     → held_by h (drop i bytes) ≡ held_by k (drop j bytes)
 step h k bytes i j within e next =
     ap (held_by h) (drop_more bytes i 0 within) ∙ ap (λ (s : Held). held_by s (drop (i + 1) bytes)) next
     ∙ ap (λ (n : ℕ). held_by k (drop n bytes)) (sym e)
 
--- what parts words after the points
+-- separators after the points
 pub points-parted : (line : ℕ) (bytes : List ℕ) (points : List Vector) (mid to : Cursor) → ArePoints line bytes points mid.line (ahead mid)
     → IsParted mid to → ArePoints line bytes points to.line (ahead to)
 points-parted line bytes points mid to many h form trailing left t base =
     many form trailing left t base ∙ h.held form (wants trailing left (t ++ coordinates points)) base
 
--- one point more
+-- one more point
 pub points-more : (line : ℕ) (bytes : List ℕ) (points : List Vector) (mid : Cursor) (p : Vector) (to : Cursor)
     → ArePoints line bytes points mid.line (ahead mid) → ArePoint mid p.x p.y p.z to
     → IsCoordinate p.x → IsCoordinate p.y → IsCoordinate p.z → ArePoints line bytes (points ++ p ∷ []) to.line (ahead to)

@@ -1,12 +1,12 @@
--- How great a number can be by the number of its digits.
+-- The greatest number with a given number of digits.
 use Rattle.std.proofs.Common.{ℕ, ◌≤◌, ◌+◌, ◌*◌, zero, suc, arith}
 
--- the greatest number of one digit and `more` digits
+-- the greatest number with one digit and `more` digits
 abbrev pub greatest : ℕ → ℕ
 greatest zero = 9
 greatest (suc more) = 10 * greatest more + 9
 
--- it rises with the number of digits
+-- the greatest number rises with the number of digits
 pub greatest-rises : (i j : ℕ) → i ≤ j → greatest i ≤ greatest j
 greatest-rises zero zero h = omega arith
 greatest-rises zero (suc j) h = omega arith

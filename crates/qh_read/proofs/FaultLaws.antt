@@ -1,4 +1,4 @@
--- The first fault that the words have is the one that a reader finds.
+-- The first fault of the words is the one that a reader finds.
 use Rattle.qh_model.specs.declared.read_fault.ReadFault.TheVariants as faults
 use Rattle.std.proofs.Common.{◌≡◌, ◌∙◌, ◌++◌, [], ◌∷◌, ◌*◌, ◌≤◌, ◌&&◌, ℕ, List, Bool, true, false, cond, refl, ap, sym, arith, zero, suc, length, nat_lt}
 use Rattle.std.proofs.lemmas.Bool.Decides.{nat_tests}
@@ -27,19 +27,19 @@ same_three : (z : ℤ) → is_three (capped z) ≡ is_three z
 same_three (pos n) = grind (arith, nat_tests)
 same_three (negsuc n) = refl
 
--- a test that chooses what goes on
+-- a condition that selects the continuation
 chosen : (b d : Bool) (p q : Progress) (ws : List Word) (x y : Option ReadFault) → b ≡ d → lack (judged p ws) ≡ x → lack (judged q ws) ≡ y
     → lack (judged (cond b p q) ws) ≡ cond d x y
 chosen true true p q ws x y e f g = f
 chosen false false p q ws x y e f g = g
 chosen b d p q ws x y e f g = cc
 
--- a test before or behind the choice of the earlier fault
+-- a condition before or after the choice of the earlier fault
 either : (b : Bool) (x : Option ReadFault) (f : ReadFault) → cond b x (Some f) ≡ option_or (cond b None (Some f)) x
 either true x f = refl
 either false x f = refl
 
--- what is wrong with the words after the last coordinate
+-- the fault of the words after the last coordinate
 abbrev trailing_fault : Trailing → List Word → Option ReadFault
 trailing_fault Refused ws = long_fault ws
 trailing_fault Ignored ws = None
@@ -77,7 +77,7 @@ counts trailing ws (pos n) = tested (nat_le 1 (cap n) && nat_le (cap n) POINT_LI
         let test : (nat_le 1 n && nat_le n POINT_LIMIT) ≡ false = grind (arith, nat_tests) in
         fallen faults.Count ws ∙ ap told (sym test)
 
--- a number of the header, and then what is wrong with the rest
+-- a number of the header, and then the fault of the rest
 asked : (p : Progress) (next : ℤ → Progress) (fault : ℤ → List Word → Option ReadFault) → Asks p next
     → ((z : ℤ) (ws : List Word) → lack (judged (next (capped z)) ws) ≡ fault z ws) → (ws : List Word) → lack (judged p ws) ≡ next_number_fault fault ws
 asked p next fault asks rest [] = asks.lacks
@@ -117,7 +117,7 @@ within : (bs : List ℕ) (fault : Option ReadFault) → length bs ≤ BYTE_LIMIT
 within bs fault small = let e : nat_lt BYTE_LIMIT (length bs) ≡ false = grind (arith, nat_tests) in
     ap (λ (b : Bool). cond b (Some faults.Big) fault) e
 
--- what is lacking is the first fault
+-- the fault for missing words is the first fault
 pub found : (form : Form) (bs : List ℕ) (e : ReadFault) → length bs ≤ BYTE_LIMIT → lack (judged (started form) (words_in form bs)) ≡ Some e
     → IsFirstFault form bs e
 found Qhull bs e small h = within bs (words_fault (data_words bs)) small ∙ sym (lacks (data_words bs)) ∙ h

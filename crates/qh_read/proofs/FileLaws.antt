@@ -1,4 +1,4 @@
--- What is read of a file that is a list of faces, and what its fault is.
+-- The result for a file that is a list of faces, and its fault.
 use Rattle.std.proofs.Common.{ℕ, ◌≡◌, ◌⊎◌, [], List, refl, sym, subst, inl, inr}
 use Rattle.qh_model.specs.{declared.read_fault.ReadFault.ReadFault, headline.Vector.Vector}
 use Rattle.qh_read.specs.contract.Numerals.{numerals_in}

@@ -1,4 +1,4 @@
--- A file that a reader has filled in is that of its points.
+-- A completely read file is the file of its points.
 use Rattle.qh_read.specs.declared.builder.Pending.TheVariants as pendings
 use Rattle.qh_read.proofs.OffProgressLaws as off
 use Rattle.std.proofs.Common.{◌≡◌, ◌∙◌, ◌++◌, [], ◌∷◌, ◌*◌, ◌≤◌, ℕ, List, ap, sym, arith, length, map, subst, length-append}
@@ -21,7 +21,7 @@ none_left ps pendings.Zero k h =
 none_left ps (pendings.One x) k h = absurd (omega (arith, thrice ps, length-append (coordinates ps) (x.value ∷ [])))
 none_left ps (pendings.Two x y) k h = absurd (omega (arith, thrice ps, length-append (coordinates ps) (x.value ∷ y.value ∷ [])))
 
--- where all that the header asks for was taken, the points are those of the point file
+-- if everything that the header announces was read, the points are those of the point file
 reads_points : (bs : List ℕ) (ps : List Vector) (q : Pending) → length bs ≤ BYTE_LIMIT
     → filled_in (judged wants_first (data_words bs)) ≡ Some (coordinates ps ++ pending_list q) → Reads bs ps
 reads_points bs ps q small h =
@@ -40,7 +40,7 @@ reads_points bs ps q small h =
       limit = subst (AllByRecursion IsCoordinate) all file.limit;
     }
 
--- the same of an OFF file
+-- the same for an OFF file
 reads_off : (bs : List ℕ) (ps : List Vector) (q : Pending) → length bs ≤ BYTE_LIMIT
     → filled_in (judged wants_keyword (off_words bs)) ≡ Some (coordinates ps ++ pending_list q) → ReadsOff bs ps
 reads_off bs ps q small h =

@@ -1,4 +1,4 @@
--- What a reader holds is what the words of its bytes make of the file.
+-- The state of a reader is determined by the words of its bytes.
 use Rattle.std.proofs.Common.{◌≡◌, ◌∙◌, ◌++◌, [], ◌∷◌, ◌+◌, ◌-◌, ◌*◌, ◌==◌, ◌||◌, ℕ, List, Bool, true, false, cond, refl, ap, sym, arith}
 use Rattle.std.proofs.lemmas.{Bool.Decides.nat_tests, List.append-nil}
 use Rattle.std.specs.{Char.is_ascii_digit, Prelude.ℤ, Prelude.Option, Prelude.codes, Str.bytes_eq}
@@ -12,11 +12,11 @@ use Rattle.qh_read.specs.contract.Holding.{Held, held_at_start, word_ended, held
 use Rattle.qh_read.specs.contract.{Progress.Progress, Progress.started, Progress.after, Tokens.cap, Tokens.grown, Tokens.value_of, Tokens.is_keyword}
 use Rattle.qh_read.specs.declared.token.Token.{Token, TheVariants.Empty, TheVariants.Sign, TheVariants.Digits, TheVariants.Keyword, TheVariants.Other}
 
--- what is held of bytes that are seen as words
+-- the state after bytes that are split into words
 abbrev pub held_of : Form → Lexed → Held
 held_of form s = record { form = form; progress = judged (started form) s.words; token = grown_by Empty s.under_way; comment = s.comment; line = s.line }
 
--- a word is under way
+-- there is an unfinished word
 abbrev solid : Token → Type 0
 solid Empty = ⊥
 solid t = Unit {0}
@@ -67,7 +67,7 @@ begins ws n b (a ∷ w) c =
     ap (λ (t : Token). record (held_of Qhull s) { token = t }) (grown_more (a ∷ w) Empty c)
     ∙ sym (begun_solid (held_of Qhull s) (grown_by Empty (a ∷ w)) c (solid_by w (grown Empty a) (solid_grown Empty a)))
 
--- a digit goes on with a word, or begins one
+-- a digit continues a word, or begins one
 digit_begun : (h : Held) (t : Token) (c : ℕ) → is_ascii_digit c ≡ true → held_begun h t c ≡ record h { token = grown t c }
 digit_begun h Empty c e = ap (λ (b : Bool). cond (b || c == 43 || c == 45 || c == 46) (record h { token = grown Empty c }) (record h { comment = true })) e
 digit_begun h t c e = refl
@@ -78,7 +78,7 @@ digit_marked Off h c e =
     let plain : (c == 35) ≡ false = grind (arith, nat_tests) in
     ap (λ (b : Bool). cond b (record (ended_held h) { comment = true }) (record h { token = grown h.token c })) plain
 
--- whether a digit is told apart makes no difference
+-- treating a digit separately makes no difference
 told_digit : (form : Form) (h : Held) (c : ℕ) (b : Bool) → is_ascii_digit c ≡ b
     → held_marked form h c ≡ cond b (record h { token = grown h.token c }) (held_marked form h c)
 told_digit form h c true e = digit_marked form h c e

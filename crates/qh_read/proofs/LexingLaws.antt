@@ -1,4 +1,4 @@
--- The words of bytes that come one at a time are the data words of the whole.
+-- The words of bytes that are read one at a time are the data words of the whole text.
 use Rattle.std.proofs.Common.{◌≡◌, ◌∙◌, ◌++◌, [], ◌∷◌, ◌+◌, ◌==◌, ℕ, ◌<◌, length, List, Bool, true, false, cond, refl, ap, sym, subst, arith, filter}
 use Rattle.std.proofs.{Common.append_assoc, lemmas.List.append-nil, lemmas.List.Splits.slice_split-cons_no, lemmas.List.Splits.length-slice_split}
 use Rattle.std.specs.List.{slice_split, onto_first}
@@ -11,18 +11,18 @@ pub push_cond : {A B : Type 0} (f : A → B) (b : Bool) (x y : A) (u v : B) → 
 push_cond f true x y u v p q = p refl
 push_cond f false x y u v p q = q refl
 
--- ---- what both forms share: `parts` are the words of a line
--- the words of a line that goes on with these bytes, in a comment or not
+-- ---- common to both forms: `parts` are the words of a line
+-- the words of a line that continues with these bytes, in a comment or not
 abbrev pub own : (List ℕ → List (List ℕ)) → Bool → List ℕ → List (List ℕ)
 own parts true w = []
 own parts false w = parts w
 
--- the words that lines give to what was read before them
+-- the words that lines add to those read before them
 abbrev pub rest : (List ℕ → List (List ℕ)) → ℕ → Bool → List ℕ → List (List ℕ) → List Word
 rest parts line comment w [] = []
 rest parts line comment w (l ∷ ls) = on_line line (own parts comment (w ++ l)) ++ words_from parts (line + 1) ls
 
--- a list without bytes of a kind, and one more of another
+-- a list without bytes of a kind, and one more byte of another kind
 pub clear_append : (p : ℕ → Bool) (w : List ℕ) (c : ℕ) → Clear p w → p c ≡ false → Clear p (w ++ c ∷ [])
 clear_append p [] c h e = (e, tt)
 clear_append p (b ∷ w) c (nb, h) e = (nb, clear_append p w c h e)
@@ -31,30 +31,30 @@ pub in_cond : {A : Type 0} (P : A → Type 0) (b : Bool) (x y : A) → (b ≡ tr
 in_cond P true x y f g = f refl
 in_cond P false x y f g = g refl
 
--- the word under way has no blank and is plain, and none is under way in a comment
+-- the unfinished word has no blank and is plain, and there is none in a comment
 pub record Valid (Plain : List ℕ → Type 0) (s : Lexed) : Type 0 where
   pub clean : Clear is_blank s.under_way
   pub plain : Plain s.under_way
   pub quiet : s.comment ≡ true → s.under_way ≡ []
 
--- what one byte does
+-- the effect of one byte
 pub record Good (parts : List ℕ → List (List ℕ)) (Plain : List ℕ → Type 0) (s : Lexed) (c : ℕ) (over : Bool) (t : Lexed) : Type 0 where
   pub valid : Valid Plain t
   pub same : (l : List ℕ) (ls : List (List ℕ)) → t.words ++ rest parts t.line t.comment t.under_way (l ∷ ls)
       ≡ s.words ++ rest parts s.line s.comment s.under_way (cond over ([] ∷ l ∷ ls) (onto_first c (l ∷ ls)))
 
--- the lines of bytes are never none
+-- there is always at least one line
 some_line : (bs : List ℕ) → 0 < length (lines_of bs)
 some_line bs = omega (arith, length-slice_split (λ c. c == 10) bs)
 
--- the walk over all bytes, where it is known what ends a word of a line and what a byte of no blank does
+-- the induction over all bytes, given what ends a word of a line and the effect of a byte that is not a blank
 module _ (form : Form) (parts : List ℕ → List (List ℕ)) (Plain : List ℕ → Type 0) (none : Plain [])
     (ends : (n : ℕ) (w : List ℕ) → Clear is_blank w → Plain w → ended n w ≡ on_line n (parts (w ++ [])))
     (blank_ends : (n : ℕ) (w : List ℕ) (c : ℕ) (l : List ℕ) → Clear is_blank w → Plain w → is_blank c ≡ true
     → on_line n (parts (w ++ c ∷ l)) ≡ ended n w ++ on_line n (parts l))
     (marks : (ws : List Word) (n : ℕ) (w : List ℕ) (c : ℕ) → let s : Lexed = record { words = ws; line = n; comment = false; under_way = w } in
     Valid Plain s → is_blank c ≡ false → Good parts Plain s c false (marked form s c)) where
-  -- a line ends, with a comment or without
+  -- a line ends, with or without a comment
   line_ends : (n : ℕ) (b : Bool) (w : List ℕ) → Clear is_blank w → Plain w → (b ≡ true → w ≡ []) → ended n w ≡ on_line n (own parts b (w ++ []))
   line_ends n true w h d q = subst (λ (t : List ℕ). ended n t ≡ []) (sym (q refl)) refl
   line_ends n false w h d q = ends n w h d
@@ -100,19 +100,19 @@ module _ (form : Form) (parts : List ℕ → List (List ℕ)) (Plain : List ℕ 
 abbrev line_words : List ℕ → List (List ℕ)
 line_words w = before_comment (words_of w)
 
--- what begins so is no comment
+-- bytes with this beginning are not a comment
 abbrev data_or_none : List ℕ → Type 0
 data_or_none [] = Unit {0}
 data_or_none (c ∷ w) = is_data (c ∷ []) ≡ true
 
--- the word under way is the only one of a line that ends here
+-- the unfinished word is the only one of a line that ends here
 ends : (n : ℕ) (w : List ℕ) → Clear is_blank w → data_or_none w → ended n w ≡ on_line n (line_words (w ++ []))
 ends n [] h d = refl
 ends n (c ∷ w) h d =
     sym (ap (λ t. on_line n (before_comment (filter is_word t))) (ap (slice_split is_blank) (append-nil (c ∷ w)) ∙ split_whole is_blank (c ∷ w) h)
     ∙ ap (λ t. on_line n (cond t ((c ∷ w) ∷ []) [])) d)
 
--- a blank ends the word under way
+-- a blank ends the unfinished word
 blank_ends : (n : ℕ) (w : List ℕ) (c : ℕ) (l : List ℕ) → Clear is_blank w → data_or_none w → is_blank c ≡ true
     → on_line n (line_words (w ++ c ∷ l)) ≡ ended n w ++ on_line n (line_words l)
 blank_ends n [] c l h d e = ap (λ t. on_line n (before_comment (filter is_word t))) (split_clear is_blank [] c l h e)
@@ -120,7 +120,7 @@ blank_ends n (b ∷ w) c l h d e =
     ap (λ t. on_line n (before_comment (filter is_word t))) (split_clear is_blank (b ∷ w) c l h e)
     ∙ ap (λ t. on_line n (cond t ((b ∷ w) ∷ before_comment (words_of l)) [])) d
 
--- a word that does not begin as data is no data word, and nothing after it is
+-- a word that does not begin as data is not a data word, and neither is any word after it
 onto_other : (c : ℕ) (parts : List (List ℕ)) → is_data (c ∷ []) ≡ false → before_comment (filter is_word (onto_first c parts)) ≡ []
 onto_other c [] e = ap (λ t. cond t ((c ∷ []) ∷ []) []) e
 onto_other c (part ∷ parts) e = ap (λ t. cond t ((c ∷ part) ∷ before_comment (filter is_word parts)) []) e
@@ -128,7 +128,7 @@ onto_other c (part ∷ parts) e = ap (λ t. cond t ((c ∷ part) ∷ before_comm
 comments : (c : ℕ) (l : List ℕ) → is_blank c ≡ false → is_data (c ∷ []) ≡ false → line_words (c ∷ l) ≡ []
 comments c l nb e = ap (λ t. before_comment (filter is_word t)) (slice_split-cons_no is_blank c l nb) ∙ onto_other c (slice_split is_blank l) e
 
--- a byte goes on with a data word, or begins one or a comment
+-- a byte continues a data word, or begins one or a comment
 begins : (ws : List Word) (n : ℕ) (w : List ℕ) (c : ℕ) → let s : Lexed = record { words = ws; line = n; comment = false; under_way = w } in
     Valid data_or_none s → is_blank c ≡ false → Good line_words data_or_none s c false (marked Qhull s c)
 begins ws n [] c v nb =

@@ -1,4 +1,4 @@
--- Where the list of faces stands among the words of a file.
+-- The position of the list of faces among the words of a file.
 use Rattle.qh_model.specs.declared.form.Form.TheVariants as forms
 use Rattle.std.proofs.Common.{ℕ, ◌≡◌, ◌∙◌, ◌++◌, ◌+◌, ◌*◌, [], ◌∷◌, List, zero, suc, refl, ap, sym, arith, map, drop, length}
 use Rattle.std.proofs.lemmas.List.{map-append, length-map}
@@ -15,13 +15,13 @@ next-drop [] (suc k) = refl
 next-drop (w ∷ ws) zero = refl
 next-drop (w ∷ ws) (suc k) = next-drop ws k
 
--- one word more is passed over
+-- one more word is skipped
 pub dropped-more : (ws : List Numeral) (k : ℕ) (old new : List Numeral) (r : Option Numeral) → old ≡ drop k ws
     → MatchOption r ((old ≡ []) × (new ≡ [])) (λ w. old ≡ w ∷ new) → new ≡ drop (suc k) ws
 dropped-more ws k old new None e (o, n) = n ∙ sym (ap (drop 1) o) ∙ ap (drop 1) e ∙ sym (next-drop ws k)
 dropped-more ws k old new (Some w) e o = sym (ap (drop 1) o) ∙ ap (drop 1) e ∙ sym (next-drop ws k)
 
--- a first word that is no number is so whatever is passed over after it
+-- if the first word is not a number, that is the fault whatever is skipped after it
 pub behind-fault : (after : ℕ → ℕ → List Numeral → Option ReadFault) (skipped : ℕ) (ws : List Numeral)
     → number_fault after (behind skipped ws) ≡ number_fault (λ n line rest. after n line (drop skipped rest)) ws
 behind-fault after skipped [] = refl
@@ -35,7 +35,7 @@ passed : (front back : List Numeral) → drop (length front) (front ++ back) ≡
 passed [] back = refl
 passed (w ∷ front) back = passed front back
 
--- the list of an OFF file is found behind the keyword and the number of vertices
+-- the list of an OFF file comes after the keyword and the number of vertices
 at-words : (bytes : List ℕ) (points : List Vector) (k : ℕ) → ReadsIn forms.Off bytes points → k ≡ 3 * length points + 1
     → (keyword : Word) (ns rest : List Word) → off_words bytes ≡ keyword ∷ ns ++ rest → length ns ≡ 3 * length points + 3
     → IsOffList bytes points (behind k (drop 2 (numerals_in bytes)))

@@ -1,4 +1,4 @@
--- Coordinates that are taken, and those of points.
+-- Coordinates that are accepted, and those of points.
 use Rattle.std.proofs.Common.{◌≡◌, ◌∙◌, ◌++◌, [], ◌∷◌, ℕ, List, true, false, ap, arith, suc, refl}
 use Rattle.std.proofs.{Common.append_assoc, lemmas.Bool.Decides.nat_tests}
 use Rattle.std.specs.Prelude.{ℤ, Some}
@@ -6,7 +6,7 @@ use Rattle.qh_model.specs.headline.{Limits.IsCoordinate, Limits.is_coordinate, P
 use Rattle.qh_read.specs.contract.{Progress.Progress, Progress.after, Progress.wants}
 use Rattle.qh_read.specs.declared.builder.Trailing.{Trailing}
 
--- a coordinate in range is taken
+-- a coordinate in range is accepted
 takes : (trailing : Trailing) (left : ℕ) (t : List ℤ) (z : ℤ) (n : ℕ) → IsCoordinate z
     → after (wants trailing (suc left) t) false (Some z) n ≡ wants trailing left (t ++ z ∷ [])
 takes trailing left t z n h = let in_range : is_coordinate z ≡ true = grind (arith, nat_tests) in cc

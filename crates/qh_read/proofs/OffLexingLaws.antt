@@ -1,4 +1,4 @@
--- The words of the bytes of an OFF file that come one at a time are the words of the whole.
+-- The words of the bytes of an OFF file that are read one at a time are the words of the whole text.
 use Rattle.std.proofs.Common.{◌≡◌, ◌∙◌, ◌++◌, [], ◌∷◌, ◌+◌, ◌==◌, ℕ, List, Bool, true, false, cond, refl, ap, sym, append_assoc, arith}
 use Rattle.std.proofs.{Common.filter, lemmas.Bool.Decides.nat_tests, lemmas.List.append-nil}
 use Rattle.std.specs.List.{slice_split}
@@ -20,16 +20,16 @@ hash_later : (w l : List ℕ) → Clear is_hash w → before_hash (w ++ l) ≡ w
 hash_later [] l h = refl
 hash_later (b ∷ w) l (n, h) = ap (λ (t : Bool). cond t [] (b ∷ before_hash (w ++ l))) n ∙ ap (λ (t : List ℕ). b ∷ t) (hash_later w l h)
 
--- the word under way is the only one of the bytes of it
+-- the unfinished word is the only one in its bytes
 only_word : (n : ℕ) (w : List ℕ) → Clear is_blank w → on_line n (words_of w) ≡ ended n w
 only_word n [] h = refl
 only_word n (c ∷ w) h = ap (λ t. on_line n (filter is_word t)) (split_whole is_blank (c ∷ w) h)
 
--- where a line ends, or its comment begins
+-- a line or its part before a comment ends
 ends : (n : ℕ) (w l : List ℕ) → Clear is_blank w → Clear is_hash w → before_hash l ≡ [] → on_line n (line_words (w ++ l)) ≡ ended n w
 ends n w l h d e = ap (λ (t : List ℕ). on_line n (words_of t)) (hash_later w l d ∙ ap (λ (t : List ℕ). w ++ t) e ∙ append-nil w) ∙ only_word n w h
 
--- a blank ends the word under way
+-- a blank ends the unfinished word
 blank_ends : (n : ℕ) (w : List ℕ) (c : ℕ) (l : List ℕ) → Clear is_blank w → Clear is_hash w → is_blank c ≡ true
     → on_line n (line_words (w ++ c ∷ l)) ≡ ended n w ++ on_line n (line_words l)
 blank_ends n w c l h d e =
@@ -39,7 +39,7 @@ blank_ends n w c l h d e =
     ∙ elim w as (λ u. on_line n (filter is_word (u ∷ slice_split is_blank (before_hash l))) ≡ ended n u ++ on_line n (line_words l))
     [ [] ↦ refl | b ∷ u ↦ refl ]
 
--- a byte begins a comment, or goes on with a word or begins one
+-- a byte begins a comment, or continues a word or begins one
 marks : (ws : List Word) (n : ℕ) (w : List ℕ) (c : ℕ) → let s : Lexed = record { words = ws; line = n; comment = false; under_way = w } in
     Valid (Clear is_hash) s → is_blank c ≡ false → Good line_words (Clear is_hash) s c false (marked Off s c)
 marks ws n w c v nb =

@@ -1,4 +1,4 @@
--- An OFF file that is filled in has its counts and the number of coordinates that they say.
+-- A completely read OFF file has its counts and the number of coordinates that they announce.
 use Rattle.qh_model.specs.declared.read_fault.ReadFault.TheVariants as faults
 use Rattle.std.proofs.Common.{◌≡◌, ◌∙◌, ◌++◌, [], ◌∷◌, ◌*◌, ◌≤◌, ℕ, List, true, false, refl, ap, sym, length, map, subst}
 use Rattle.std.specs.{Cmp.Lexicographic.same_text, List.AllByRecursion}
@@ -9,7 +9,7 @@ use Rattle.qh_read.specs.declared.builder.Trailing.TheVariants.{Ignored}
 use Rattle.qh_read.specs.steps.{Building.filled_in, SmallTokens.capped}
 use Rattle.qh_read.proofs.ProgressLaws.{counts, is_off, judged, stays, numbers, numbered, vertex_count-asks, face_count-asks, edge_count-asks}
 
--- what a whole file is
+-- the words of a complete file
 pub record Whole (ws : List Word) (u : List ℤ) : Type 0 where
   pub keyword : Word
   pub numbered : List Word

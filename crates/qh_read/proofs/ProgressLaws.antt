@@ -1,4 +1,4 @@
--- What the words of a file that is filled in are: the numbers of a header, and the coordinates that it counts.
+-- The words of a completely read file: the numbers of a header, and the coordinates that it announces.
 use Rattle.qh_model.specs.declared.read_fault.ReadFault.TheVariants as faults
 use Rattle.std.proofs.Common.{◌≡◌, ◌≢◌, ◌∙◌, ◌++◌, [], ◌∷◌, ◌*◌, ◌≤◌, ◌&&◌, ℕ, List, Bool, true, false, cond, refl, ap, sym, arith, zero, suc, min, length, map}
 use Rattle.std.proofs.{Common.inl, Common.inr, Common.append_assoc, Common.subst, lemmas.Bool.leb-true, lemmas.Bool.Decides.nat_tests, lemmas.List.append-nil}
@@ -11,7 +11,7 @@ use Rattle.qh_read.specs.contract.Progress.{fails, counted, headed, took, after}
 use Rattle.qh_read.specs.declared.builder.Trailing.{Trailing, TheVariants.Refused, TheVariants.Ignored}
 use Rattle.qh_read.specs.{contract.Tokens.cap, steps.Building.lack, steps.Building.filled_in, steps.SmallTokens.capped}
 
--- the number of a word, as far as it is told apart
+-- the number of a word, capped
 abbrev pub number_in : Word → Option ℤ
 number_in w = option_map capped (number_of w.text)
 
@@ -53,7 +53,7 @@ pub record Filled (ws : List Word) (k : ℕ) (t u : List ℤ) : Type 0 where
   pub count : length more ≡ k
   pub limit : AllByRecursion IsCoordinate more
 
--- a coordinate that was taken is in range, and told apart
+-- an accepted coordinate is in range, and distinguished from others
 in_range : (next : List ℤ → Progress) (ws : List Word) (t u : List ℤ) (line : ℕ) (z : ℤ) → filled_in (judged (took next t line (capped z)) ws) ≡ Some u
     → (capped z ≡ z) × IsCoordinate z × (filled_in (judged (next (t ++ capped z ∷ [])) ws) ≡ Some u)
 in_range next ws t u line z h =
@@ -73,12 +73,12 @@ filled_more w ws k t u z e same l f = record {
   limit = (l, f.limit);
 }
 
--- words after the coordinates that are ignored change nothing
+-- ignored words after the coordinates change nothing
 pub dropped : (t : List ℤ) (ws : List Word) → judged (wants Ignored 0 t) ws ≡ wants Ignored 0 t
 dropped t [] = refl
 dropped t (w ∷ ws) = dropped t ws
 
--- the first words are k coordinates; none follows where trailing words are refused
+-- the first words are k coordinates; no word follows if trailing words are refused
 pub record FrontFilled (trailing : Trailing) (ws : List Word) (k : ℕ) (t u : List ℤ) : Type 0 where
   pub front : List Word
   pub rest : List Word
@@ -117,7 +117,7 @@ front_filled trailing (w ∷ ws) (suc k) t u h =
           }
     ] refl h
 
--- a number of points that is told, and their coordinates
+-- a number of points, and their coordinates
 pub record Counts (trailing : Trailing) (ws : List Word) (u : List ℤ) (z : ℤ) : Type 0 where
   pub n : ℕ
   pub is : z ≡ pos n
@@ -144,7 +144,7 @@ counts trailing ws u (pos n) h = in_limits (nat_le 1 (cap n) && nat_le (cap n) P
           file = subst (λ (k : ℕ). FrontFilled trailing ws (3 * k) [] u) same (front_filled trailing ws (3 * cap n) [] u h);
         }
 
--- a number of the header is to come
+-- a number of the header is expected
 pub record Asks (p : Progress) (next : ℤ → Progress) : Type 0 where
   pub lacks : lack p ≡ Some faults.NoHeader
   pub none : filled_in p ≡ None
@@ -166,7 +166,7 @@ face_count-asks vertices = record { lacks = refl; none = refl; bad = λ keyword 
 pub edge_count-asks : (vertices : ℤ) → Asks (wants_edge_count vertices) (λ edges. counted Ignored vertices)
 edge_count-asks vertices = record { lacks = refl; none = refl; bad = λ keyword line. refl; good = λ keyword z line. refl }
 
--- a number of the header, and what comes after it
+-- a number of the header, and the words after it
 pub record Numbered (next : ℤ → Progress) (ws : List Word) (u : List ℤ) : Type 0 where
   pub w : Word
   pub rest : List Word
@@ -204,7 +204,7 @@ pub record Whole (ws : List Word) (u : List ℤ) : Type 0 where
   pub count : length u ≡ 3 * n
   pub limit : AllByRecursion IsCoordinate u
 
--- which of two numbers counts the points
+-- which of two numbers is the number of points
 record Header (a b : ℤ) (ws : List Word) (u : List ℤ) : Type 0 where
   z : ℤ
   counted : Counts Refused ws u z
@@ -219,7 +219,7 @@ header a b ws u h = tested (is_three (capped a)) (is_three (capped b)) refl refl
     tested false true pe qe h = record { z = a; counted = counts Refused ws u a h; header = λ n is. inr (not_three a pe, three b qe, is) }
     tested false false pe qe h = cc (ap filled_in (stays faults.NotThree ws))
 
--- two numbers of a header, and the coordinates that it counts
+-- two numbers of a header, and the coordinates that they announce
 made : (ws : List Word) (u : List ℤ) (first : Numbered wants_second ws u) (second : Numbered (headed (capped first.z)) first.rest u)
     → Header first.z second.z second.rest u → Whole ws u
 made ws u first second header =

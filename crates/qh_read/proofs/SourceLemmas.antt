@@ -1,4 +1,4 @@
--- The bytes that a source gives over several reads.
+-- The bytes that are read from a source by several reads.
 use Rattle.std.proofs.Common.{◌≡◌, ◌∙◌, ◌++◌, ◌+◌, ℕ, List, [], ap, sym, subst, arith, length, length-append, append_assoc}
 use Rattle.std.specs.{Io.KnownBytes.Consumes, declared.alloc.Global.Global}
 use Rattle.std.specs.Prelude.{Option, Some, None, Result, Ok, Err, Vec, IfOk, IfErr}
@@ -8,14 +8,14 @@ use Rattle.qh_read.specs.contract.{Answers.AnswersSource, Holding.Reading, Holdi
 use Rattle.qh_read.specs.{headline.SourceBytes.Gives, headline.SourceBytes.GivesAll}
 use Rattle.qh_read.specs.steps.Sources.{FedOn, Stops}
 
--- what two reads give, one after the other
+-- the bytes of two reads, one after the other
 pub Consumes-append : (old mid new : Option (List ℕ)) (xs ys : List ℕ) → Consumes old mid xs → Consumes mid new ys → Consumes old new (xs ++ ys)
 Consumes-append None mid new xs ys h k = tt
 Consumes-append (Some a) None new xs ys h k = absurd h
 Consumes-append (Some a) (Some b) None xs ys h k = absurd k
 Consumes-append (Some a) (Some b) (Some d) xs ys h k = h ∙ ap (λ (t : List ℕ). xs ++ t) k ∙ sym (append_assoc xs ys d)
 
--- first this, and then that
+-- two feeds, one after the other
 pub FedOn-append : (a b d : Reading) (old mid new : Option (List ℕ)) → FedOn a b old mid → FedOn b d mid new → FedOn a d old new
 FedOn-append a b d old mid new f g = record {
   given = f.given ++ g.given;
@@ -24,12 +24,12 @@ FedOn-append a b d old mid new f g = record {
   count = omega (arith, f.count, g.count, length-append f.given g.given);
 }
 
--- why reading stops, by another name
+-- the reason why reading stops, under another name
 pub Stops-equal : (e f : ReadFault) (before : ℕ) (old new : Option (List ℕ)) (failures failures_after : ℕ) → e ≡ f
     → Stops f before old new failures failures_after → Stops e before old new failures failures_after
 Stops-equal e f before old new failures failures_after same s = subst (λ (x : ReadFault). Stops x before old new failures failures_after) (sym same) s
 
--- why reading stops after these bytes
+-- the reason why reading stops after these bytes
 pub Stops-after : (e : ReadFault) (before : ℕ) (old mid new : Option (List ℕ))
     (failures_old failures_mid failures_new : ℕ) (given : List ℕ) (count : ℕ)
     → Consumes old mid given → failures_mid ≡ failures_old → count ≡ before + length given
@@ -50,19 +50,19 @@ Stops-after e before old mid new fo fm fn given count took same is s = record {
   no_text = s.no_text;
 }
 
--- the reader was fed some of what the source gave, and these bytes are still to be fed
+-- the reader was fed a part of the bytes read from the source, and these bytes are still to be fed
 pub record FedBut (before after : Reading) (ahead : List ℕ) (old new : Option (List ℕ)) : Type 0 where
   pub given : List ℕ
   pub took : Consumes old new (given ++ ahead)
   pub fed : (form : Form) (bytes : List ℕ) → Fed form before bytes → Fed form after (bytes ++ given)
   pub count : after.count ≡ before.count + length given
 
--- all that the source gave was fed from the start
+-- all bytes read from the source were fed from the start
 pub Gives-all : (form : Form) (start reader : Reading) (old new : Option (List ℕ)) → Fed form start []
     → FedOn start reader old new → Gives old new (Fed form reader)
 Gives-all form start reader old new h f = (f.given, f.took, f.fed form [] h)
 
--- all that the source gave was fed, and this is what the reader then finds
+-- all bytes read from the source were fed, and this is the reader's result
 pub AnswersSource-fed : {S : Type 0} (form : Form) (reader : Reading) (remaining : S → Option (List ℕ)) (failure_count : S → ℕ) (old new : S)
     (answer : Result (Vec Vector Global) ReadFault) → GivesAll (remaining old) (remaining new) (Fed form reader)
     → failure_count new ≡ failure_count old
@@ -86,7 +86,7 @@ AnswersSource-fed form reader remaining failure_count old new (Err e) all same r
   no_device = λ h. same;
 }
 
--- why reading stops from the start
+-- the reason why reading stops from the start
 pub AnswersSource-stopped : {S : Type 0} (form : Form) (e : ReadFault) (before : ℕ) (remaining : S → Option (List ℕ)) (failure_count : S → ℕ)
     (old new : S) → before ≡ 0 → Stops e before (remaining old) (remaining new) (failure_count old) (failure_count new)
     → AnswersSource form remaining failure_count old new (Err e)

@@ -1,4 +1,4 @@
--- The token of a word tells its number, as far as numbers are told apart.
+-- The token of a word determines its number, up to the cap.
 use Rattle.std.proofs.Common.{◌≡◌, ◌∙◌, [], ◌∷◌, ◌+◌, ◌-◌, ◌*◌, ◌≤◌, ◌==◌, ◌&&◌, ℕ, List, Bool, true, false, cond, refl, ap, sym, arith, zero, suc, min}
 use Rattle.std.proofs.lemmas.Bool.Decides.{nat_tests}
 use Rattle.std.specs.{Char.is_ascii_digit, Prelude.codes, Prelude.pos, Prelude.neg_ℤ, Prelude.Option, Prelude.Some, Prelude.None, Prelude.option_map}
@@ -58,7 +58,7 @@ minus_of : (o : Option ℕ) → option_map (λ k. signed true (cap k)) o ≡ opt
 minus_of None = refl
 minus_of (Some n) = ap Some (negated n)
 
--- letters of the keyword are no number, whatever follows
+-- letters of the keyword are not a number, whatever follows
 no_number : (cs : List ℕ) (letters : ℕ) → value_of (grown_by (Keyword letters) cs) ≡ None
 no_number [] letters = refl
 no_number (c ∷ cs) letters = at (no_number cs) (c == 70) (letters == 1) (letters == 2)
@@ -70,7 +70,7 @@ no_number (c ∷ cs) letters = at (no_number cs) (c == 70) (letters == 1) (lette
     at rest true false false = ap value_of (others cs)
     at rest false b d = ap value_of (others cs)
 
--- a byte that begins no number begins none with letters of the keyword either
+-- a byte that does not begin a number does not begin one with letters of the keyword either
 plain_start : (a b : Bool) (t : Token) (cs : List ℕ) → value_of (grown_by (cond a t (cond b (Keyword 1) Other)) cs) ≡ value_of (grown_by (cond a t Other) cs)
 plain_start false true t cs = no_number cs 1 ∙ sym (ap value_of (others cs))
 plain_start a b t cs = refl
@@ -87,7 +87,7 @@ value-number (c ∷ cs) = at (c == 43) (c == 45) (c == 79)
     at false true o = magnitude true cs ∙ minus_of (magnitude_of cs)
     at false false o = plain_start (is_ascii_digit c) o (Digits false (c - 48)) cs ∙ magnitude false (c ∷ cs) ∙ plain (magnitude_of (c ∷ cs))
 
--- ---- which word is the keyword
+-- ---- the keyword
 other_word : (cs : List ℕ) → is_keyword (grown_by Other cs) ≡ false
 other_word cs = ap is_keyword (others cs)
 
@@ -115,7 +115,7 @@ after_o [] = refl
 after_o (c ∷ w) = elim (c == 70) as (λ b. is_keyword (grown_by (cond b (Keyword 2) Other) w) ≡ (b && bytes_eq w (70 ∷ [])))
     [ true ↦ after_of w | false ↦ other_word w ]
 
--- the token of a word tells whether it is the keyword
+-- the token of a word determines whether it is the keyword
 pub keyword-off : (w : List ℕ) → is_keyword (grown_by Empty w) ≡ bytes_eq w (codes "OFF")
 keyword-off [] = refl
 keyword-off (c ∷ w) = at (c == 43) (c == 45) (is_ascii_digit c) (c == 79) refl refl refl refl

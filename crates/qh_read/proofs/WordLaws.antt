@@ -1,4 +1,4 @@
--- What is taken from words one by one.
+-- Words that are taken one by one.
 use Rattle.std.proofs.Common.{ℕ, ◌≡◌, ◌≢◌, ◌∙◌, ◌++◌, ◌<◌, ◌-◌, ◌+◌, ◌==◌, [], ◌∷◌, List, Bool, true, false, suc, cond, refl, ap, sym, subst, arith, map}
 use Rattle.std.proofs.{Common.append_assoc, lemmas.Bool.Decides.nat_tests, lemmas.List.append-nil, lemmas.List.map-append}
 use Rattle.std.specs.Prelude.{Option, Some}
@@ -12,7 +12,7 @@ last_line-append : (own : List Numeral) (line : ℕ) (w : Numeral) → last_line
 last_line-append [] line w = refl
 last_line-append (v ∷ own) line w = last_line-append own v.line w
 
--- one corner more
+-- one more corner
 pub taken-more : (line : ℕ) (old : List Numeral) (ids : List ℕ) (last : ℕ) (v at : ℕ) (new : List Numeral)
     → AreTaken line old ids last (record { number = Some v; line = at } ∷ new) → AreTaken line old (ids ++ v ∷ []) at new
 taken-more line old ids last v at new t =
@@ -36,7 +36,7 @@ pub faces-next : (layout : Layout) (n k : ℕ) (ws : List Numeral) → k < n
 faces-next layout n k ws l =
     let more : n - k ≡ suc (n - (k + 1)) = omega (arith, l) in ap (λ (m : ℕ). faces_fault layout m ws) more
 
--- no word is left on the line
+-- no word remains on the line
 here : (b : Bool) (line at : ℕ) → (at == line) ≡ b → at ≢ line → b ≡ false
 here true line at e h = absurd (grind (arith, nat_tests))
 here false line at e h = refl

@@ -1,4 +1,4 @@
--- What else the contracts of public functions cite.
+-- Further definitions that the contracts of public functions cite.
 pub mod Answers
 pub mod FaceFaults
 pub mod FaceFiles

@@ -1,4 +1,4 @@
-//! Batches of bytes, whose segments are parsed side by side.
+//! Batches of bytes, whose segments are parsed in parallel.
 ghost use Rattle.std.specs.Prelude.{◌≤◌, ◌<◌, vec_len};
 
 use crate::fault::FeedFault;
@@ -15,7 +15,7 @@ use std::thread::Threads;
 #[derive(Drop)]
 pub struct Batch {
     bytes: Vec<u8>,
-    /// The number of bytes of the batch; the rest of `bytes` is room.
+    /// The number of bytes of the batch; the rest of `bytes` is unused room.
     count: usize,
     segments: Vec<Segment>,
     ghost within: { count ≤ vec_len bytes },
@@ -53,8 +53,8 @@ impl Batch {
         self.count
     }
 
-    /// Replaces the bytes by the next ones of the source, which gave `before` bytes earlier. Returns true if the
-    /// source ended.
+    /// Replaces the bytes by the next ones of the source, from which `before` bytes were read earlier. Returns true if
+    /// the source ended.
     pub fn fill<S: Source>(&mut self, source: &mut S, before: u32) -> Result<bool, ReadFault>
         requires failures { S.failure_count source.old < 2 ^ 64 - 1 }
         requires before { before ≤ BYTE_LIMIT }
@@ -72,7 +72,7 @@ impl Batch {
         Ok(at_end)
     }
 
-    /// Parses the segments, each in a thread of its own.
+    /// Parses the segments, each in its own thread.
     pub fn go_over<R: Threads + Sync>(&mut self, rt: &R)
         requires { length (batch_text self.old) ≤ BYTE_LIMIT }
         ensures gone_over { IsGoneOver self.new }
@@ -81,7 +81,7 @@ impl Batch {
         go_over_all(rt, self.segments.as_mut_slice(), &self.bytes[..self.count]);
     }
 
-    /// Feeds the bytes to a reader, the points of the segments together.
+    /// Feeds the bytes to a reader, with the points of the segments.
     pub fn feed(&self, reader: &mut Reader) -> Result<(), FeedFault>
         requires { IsGoneOver self.now }
         ensures fed { OnOk result ((form : Form) (before : List ℕ) → Fed form reader.old before

@@ -1,4 +1,4 @@
-//! The points that the words so far make up.
+//! Builds points from the words read so far.
 ghost use Rattle.std.specs.Prelude.{◌≡◌, ◌≤◌, ◌+◌, ◌*◌, [], true, false, vec_len};
 ghost use Rattle.qh_read.specs.contract.Progress as progress;
 ghost use Rattle.qh_read.specs.contract.Tokens.{is_keyword};
@@ -10,23 +10,23 @@ use crate::token::Token;
 use qh_model::{COORDINATE_LIMIT, Form, POINT_LIMIT, Point, ReadFault};
 use std::alloc::{AllocError, Global};
 
-/// What becomes of the words after the last coordinate.
+/// How words after the last coordinate are treated.
 #[derive(Clone, Copy, Debug, PartialEq, Eq)]
 pub enum Trailing {
-    /// They are a fault, in a point file.
+    /// A fault, in a point file.
     Refused,
-    /// They are passed over, in an OFF file, where the faces follow.
+    /// Ignored, in an OFF file, where the faces follow.
     Ignored,
 }
 
-/// What the next word is expected to be.
+/// The kind of the next word.
 #[derive(Clone, Copy, Debug, PartialEq, Eq)]
 pub enum Stage {
     /// The first number of the header.
     First,
     /// The second number of the header, after this one.
     Second(i32),
-    /// A coordinate of a point, with this number of coordinates to come; a trailing word if the number is 0.
+    /// A coordinate of a point, with the number of coordinates still to come; a trailing word if that number is 0.
     Coordinates(u32, Trailing),
     /// The keyword of an OFF file.
     Keyword,
@@ -36,7 +36,7 @@ pub enum Stage {
     FaceCount(i32),
     /// The number of edges, after this number of vertices.
     EdgeCount(i32),
-    /// Any word: the text has this fault.
+    /// Any word: the text already has this fault.
     Failed(ReadFault),
 }
 
@@ -48,7 +48,7 @@ pub enum Pending {
     Two(Coordinate, Coordinate),
 }
 
-/// The points so far, and what comes next.
+/// The points so far, and the kind of the next word.
 #[derive(Drop)]
 pub struct Builder {
     pub stage: Stage,
@@ -58,7 +58,7 @@ pub struct Builder {
     ghost text_fault: { HasTextFault stage },
 }
 
-/// Returns the stage after a header that gives this count.
+/// Returns the stage after a header with this count.
 fn counted(count: i32, trailing: Trailing) -> Stage
     ensures shown { stage_shown result [] ≡ progress.counted trailing count }
     ensures text_fault { HasTextFault result }
@@ -122,7 +122,7 @@ impl Builder {
         }
     }
 
-    /// Makes room for `more` more points. Nothing else changes.
+    /// Reserves room for more points. Nothing else changes.
     pub fn reserve(&mut self, points: usize) -> Result<(), AllocError>
         ensures shown { shown self.new ≡ shown self.old }
         ensures count { taken_count self.new ≡ taken_count self.old }
@@ -133,7 +133,7 @@ impl Builder {
         self.points.reserve(points)
     }
 
-    /// Takes one more coordinate. If it completes a point, there is room for that.
+    /// Adds a coordinate. If it completes a point, there is room for that point.
     fn push(&mut self, coordinate: Coordinate)
         requires room { taken_count self.old < 3 * vec_capacity self.old.points + 2 }
         requires after_header { is_header self.old.stage ≡ false }
@@ -153,7 +153,7 @@ impl Builder {
         }
     }
 
-    /// Takes one coordinate more, if it is in range, after which this stage comes.
+    /// Adds a coordinate if it is in range, and enters the given stage.
     fn coordinate(&mut self, next: Stage, value: i32, line: u32)
         requires room { taken_count self.old < 3 * vec_capacity self.old.points + 2 }
         requires after_header { is_header self.old.stage ≡ false }
@@ -172,8 +172,7 @@ impl Builder {
         }
     }
 
-    /// Takes the points that come next, as far as they are expected and there is room. Returns the place after
-    /// them.
+    /// Parses the next points, as far as they are expected and there is room. Returns the position after them.
     pub fn take_points<'a>(&mut self, from: Cursor<'a>) -> Cursor<'a>
         ensures held { (form : Form) (base : ℕ) → held_from form (shown self.old) base from.entry
             ≡ held_from form (shown self.new) base result }
@@ -192,7 +191,7 @@ impl Builder {
         cursor
     }
 
-    /// Returns the stage after `count` more points, if a point begins here and all their coordinates are to come.
+    /// Returns the stage after `count` more points, if a point begins here and all their coordinates are expected.
     pub fn after_points(&self, count: usize) -> Option<Stage>
         ensures { IfSome result (AwaitsPoints self.now count) }
     {
@@ -204,7 +203,7 @@ impl Builder {
         }
     }
 
-    /// Appends these points, for which there is room, and enters the next stage.
+    /// Appends these points, for which there is room, and enters the given stage.
     pub fn append(&mut self, next: Stage, points: &[Point])
         requires room { vec_len self.old.points + length points.now ≤ vec_capacity self.old.points }
         requires awaits { AwaitsPoints self.old (length points.now) next }
@@ -217,9 +216,9 @@ impl Builder {
         self.stage = next;
     }
 
-    /// Takes the next word, by its token and its line.
+    /// Processes the next word, given its token and its line.
     ///
-    /// If it completes a point, there is room for that.
+    /// If it completes a point, there is room for that point.
     pub fn take(&mut self, token: Token, line: u32)
         requires small { IsSmall token }
         requires room { taken_count self.old < 3 * vec_capacity self.old.points + 2 }
@@ -248,7 +247,7 @@ impl Builder {
         }
     }
 
-    /// Returns the points, if the text ends here, or what it lacks.
+    /// Returns the points if the text is complete, or the fault that something is missing.
     pub fn finish(self) -> Result<Vec<Point>, ReadFault>
         ensures all { IfOk result (λ points. AreAll (shown self) points.items) }
         ensures lack { IfErr result (λ e. lack (shown self) ≡ Some e) }

@@ -1,7 +1,7 @@
-//! A place in a text, and the points that are parsed at once from there on.
+//! A position in a text, and a fast parser for the points that follow it.
 //!
-//! This is the fast path of most bytes of a point file. Anything but plain numbers between blanks is left to the
-//! scanner, which goes byte by byte.
+//! This is the fast path for most bytes of a point file. It handles plain numbers between blanks only; everything else
+//! is processed by the scanner, byte by byte.
 ghost use Rattle.std.specs.Prelude.{◌≤◌, ◌<◌, ◌+◌, ◌^◌, length};
 
 use crate::coordinate::Coordinate;
@@ -9,9 +9,9 @@ use crate::numbers::{LONGEST, few_digits, first_digit, line_after, signed_coordi
 use crate::token::blank;
 use qh_model::Point;
 
-/// A place in a text between words.
+/// A position in a text, between words.
 ///
-/// The lines up to the end of the text can be counted in 31 bits.
+/// The line numbers up to the end of the text fit 31 bits.
 #[derive(Clone, Copy)]
 pub struct Cursor<'a> {
     /// The whole text.
@@ -28,7 +28,7 @@ impl<'a> Cursor<'a> {
     ghost use Rattle.std.specs.Prelude.{◌≡◌, ◌≤◌, ◌<◌, ◌+◌, ◌*◌, drop, length, vec_len, vec_capacity, IfSome};
     ghost use Rattle.qh_read.specs.steps.Cursors.{IsParted, IsNumber, ArePoint, ArePushed};
 
-    /// Returns the bytes from here on.
+    /// Returns the bytes from this position on.
     #[inline(always)]
     pub fn rest(self) -> &'a [u8]
         ensures { result.now ≡ drop self.entry.at self.entry.bytes.now }
@@ -36,7 +36,7 @@ impl<'a> Cursor<'a> {
         &self.bytes[self.at..]
     }
 
-    /// Skips the separators that come next.
+    /// Skips the separators that follow.
     fn after_blanks(self) -> Cursor<'a>
         ensures { IsParted self.entry result }
     {
@@ -59,7 +59,7 @@ impl<'a> Cursor<'a> {
         }
     }
 
-    /// Skips the separators that come next, of which there are mostly none.
+    /// Skips the separators that follow. In most cases there is no separator.
     #[inline(always)]
     fn skip_blanks(self) -> Cursor<'a>
         ensures { IsParted self.entry result }
@@ -71,7 +71,7 @@ impl<'a> Cursor<'a> {
         }
     }
 
-    /// Takes a number of at most nine digits and the byte that ends it, if they come next.
+    /// Parses a number of at most nine digits and the byte that ends it, if they come next.
     #[inline(always)]
     fn next_number(self) -> Option<(Coordinate, Cursor<'a>)>
         requires { self.at + LONGEST ≤ length self.bytes.now }
@@ -88,7 +88,7 @@ impl<'a> Cursor<'a> {
         Some((signed_coordinate(sign, magnitude), after))
     }
 
-    /// Skips the separators that come next. Returns nothing if fewer than `count` bytes are left after them.
+    /// Skips the separators that follow. Returns `None` if fewer than `count` bytes are left after them.
     #[inline(always)]
     fn before_word(self, count: usize) -> Option<Cursor<'a>>
         requires some { 0 < count }
@@ -106,7 +106,7 @@ impl<'a> Cursor<'a> {
         Some(word)
     }
 
-    /// Takes three numbers. Returns nothing if numbers of the greatest length could pass the end of the text.
+    /// Parses three numbers. Returns `None` if numbers of the greatest length could pass the end of the text.
     #[inline(always)]
     fn next_point(self) -> Option<(Coordinate, Coordinate, Coordinate, Cursor<'a>)>
         ensures { IfSome result (λ r. ArePoint self.entry r.0.value r.1.value r.2.value r.3) }
@@ -122,7 +122,7 @@ impl<'a> Cursor<'a> {
         Some((x, y, z, after_z))
     }
 
-    /// Pushes the points that come next, until the vector has `limit` points. Returns the place after them.
+    /// Pushes the points that follow, until the vector has `limit` points. Returns the position after them.
     pub fn push_points(self, points: &mut Vec<Point>, limit: usize) -> Cursor<'a>
         requires fewer { vec_len points.old ≤ limit }
         requires room { limit ≤ vec_capacity points.old }
@@ -132,7 +132,7 @@ impl<'a> Cursor<'a> {
     {
         let mut cursor = self;
         while points.len() < limit {
-            // What parts words is taken even where no point follows, so that it is gone over once.
+            // The separators are skipped even if no point follows, so that they are scanned only once.
             cursor = cursor.skip_blanks();
             let Some((x, y, z, after)) = cursor.next_point() else {
                 return cursor;

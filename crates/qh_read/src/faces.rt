@@ -1,8 +1,8 @@
-//! Reads the faces that a file has, which any program may have written.
+//! Reads faces from a file that any program may have written.
 //!
-//! [`read_faces`] answers the vertices and the faces of a byte string, or the first fault that it has.
-//! `corners` takes the corners of faces from the words of [`Numerals`](crate::Numerals), `face` takes a face, `list` all faces,
-//! and `files` begins where these stand.
+//! [`read_faces`] returns the vertices and the faces in a byte string, or its first fault. `corners` parses the corners
+//! of faces from the words of [`Numerals`](crate::Numerals), `face` parses a face, `list` all faces, and `files` a
+//! whole file.
 
 mod corners;
 mod face;

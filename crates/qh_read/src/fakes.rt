@@ -3,22 +3,22 @@ ghost use Rattle.std.specs.Prelude.{◌≡◌, ◌<◌, ◌↔◌, Option, Some,
 
 use crate::source::{DeviceFault, Source};
 
-/// The bytes of a slice in pieces of at most a chosen length, with one read that fails.
+/// The bytes of a slice, in pieces of a limited length, with one read that fails.
 #[derive(Drop)]
 pub struct FailSource<'a> {
     rest: &'a [u8],
-    /// The greatest number of bytes that a read gives.
+    /// The greatest number of bytes that a read returns.
     pub greatest_piece: usize,
-    /// The number of the read that fails, of those still to come, from 1.
+    /// The number of the read that fails, counted from 1 at the next read.
     pub fails_at: Option<u64>,
     failures: u64,
     ghost some_piece: { 0 < greatest_piece },
 }
 
 impl<'a> FailSource<'a> {
-    /// Creates a source of these bytes, of which each read gives at most `greatest_piece`.
+    /// Creates a source of these bytes, each of whose reads returns at most `greatest_piece` bytes.
     ///
-    /// The read with the number `fails_at`, from 1, fails; with `None` or 0 none does.
+    /// The read with the number `fails_at`, from 1, fails. If it is `None` or 0, no read fails.
     pub fn new(bytes: &'a [u8], greatest_piece: usize, fails_at: Option<u64>) -> FailSource<'a>
         requires { 0 < greatest_piece }
         ensures bytes { ⟦<FailSource<'a> as Source>⟧.remaining result ≡ Some bytes.now }
@@ -34,7 +34,7 @@ impl<'a> FailSource<'a> {
         }
     }
 
-    /// Counts one more read. Returns true if it fails.
+    /// Counts a read. Returns true if it fails.
     fn is_failing(&mut self) -> bool
         ensures failing { IsTrue result ↔ (self.old.fails_at ≡ Some 1) }
         ensures rest { self.new.rest ≡ self.old.rest }
@@ -76,7 +76,7 @@ impl<'a> Source for FailSource<'a> {
     }
 }
 
-/// Bytes 32 without end. Its bytes are not known to a contract, and it never fails.
+/// An endless source of bytes 32. Its bytes are unknown to contracts, and it never fails.
 #[derive(Clone, Copy, Debug)]
 pub struct Spaces;
 

@@ -1,4 +1,4 @@
-//! Why a piece was not taken, and what that is as a fault of reading.
+//! The reasons why a piece is refused, and their conversion to faults of reading.
 ghost use Rattle.std.specs.Prelude.{◌≡◌};
 ghost use Rattle.qh_model.specs.declared.read_fault.ReadFault.TheVariants as faults;
 ghost use Rattle.qh_read.specs.declared.fault.FeedFault.TheVariants.{Memory};
@@ -8,7 +8,7 @@ use crate::source::DeviceFault;
 use qh_model::ReadFault;
 use std::alloc::AllocError;
 
-/// Why a piece could not be taken.
+/// Why a piece is refused.
 #[derive(Clone, Copy, Debug, PartialEq, Eq)]
 pub enum FeedFault {
     /// There would be more than `BYTE_LIMIT` bytes.

@@ -1,4 +1,4 @@
-//! Filling a buffer from a source.
+//! Fills a buffer from a source.
 ghost use Rattle.std.specs.Prelude.{◌≡◌, ◌≤◌, ◌<◌, ◌+◌, ◌-◌, ◌^◌, true, false, take, drop, length, IfOk, IfErr, OnOk, OnErr, Ok};
 ghost use Rattle.std.specs.Io.KnownBytes.{Consumes, IsAtEnd};
 ghost use Rattle.qh_read.specs.steps.Sources.{Stops};
@@ -7,7 +7,7 @@ use crate::source::{DeviceFault, Source};
 use crate::whole::PIECE_LENGTH;
 use qh_model::{BYTE_LIMIT, ReadFault};
 
-/// Reads at most a piece of the source into the buffer, from offset `at` on. Returns the number of bytes read.
+/// Reads at most one piece of the source into the buffer, at offset `at`. Returns the number of bytes read.
 fn read_at<S: Source>(source: &mut S, bytes: &mut [u8], at: usize) -> Result<usize, DeviceFault>
     requires failures { S.failure_count source.old < 2 ^ 64 - 1 }
     requires room { at < length bytes.old }
@@ -25,8 +25,8 @@ fn read_at<S: Source>(source: &mut S, bytes: &mut [u8], at: usize) -> Result<usi
     source.read(&mut bytes[at..end])
 }
 
-/// Reads the source until the buffer is full or the source ends; the source gave `before` bytes earlier. Returns
-/// the number of bytes read, and true if the source ended.
+/// Reads the source until the buffer is full or the source ends; `before` bytes of the source were read earlier.
+/// Returns the number of bytes read, and true if the source ended.
 pub fn fill<S: Source>(
     source: &mut S,
     bytes: &mut [u8],

@@ -4,13 +4,13 @@ ghost use Rattle.qh_read.specs.steps.Numbers.{ArePoints};
 
 use qh_model::Point;
 
-/// A piece, and the points that it begins with if a point begins where the piece does.
+/// A piece, and its first points, which are valid if a point begins at the start of the piece.
 #[derive(Clone, Copy)]
 pub struct KnownPoints<'a> {
     pub piece: &'a [u8],
     /// The first points of the piece.
     pub points: &'a [Point],
-    /// The number of line ends among them.
+    /// The number of line ends among these points.
     pub lines: u32,
     /// The bytes after the points.
     pub rest: &'a [u8],
@@ -20,7 +20,7 @@ pub struct KnownPoints<'a> {
 }
 
 impl<'a> KnownPoints<'a> {
-    /// Returns a piece of which no point is parsed.
+    /// Returns a piece without parsed points.
     pub fn none(piece: &'a [u8]) -> KnownPoints<'a>
         ensures { result.piece.now ≡ piece.now }
     {

@@ -1,10 +1,10 @@
-//! Reads point files, which are the text of a dimension, a number of points and their coordinates, and the
-//! vertices of OFF files.
+//! Reads point files, which are the text of a dimension, a number of points and their coordinates, and the vertices of
+//! OFF files.
 //!
-//! [`read_points`] and [`read_off`] answer the points of a byte string, or the first fault that it has,
-//! [`read_from`] and [`read_off_from`] those of the bytes that a [`Source`] gives, and [`read_form_threads`] does
-//! that by several threads. All stand on [`Reader`], which takes the bytes in pieces and keeps none of them.
-//! [`Numerals`] gives the words of a text one by one as numbers, of which [`faces`] makes the faces that a file has.
+//! [`read_points`] and [`read_off`] return the points in a byte string, or its first fault. [`read_from`] and
+//! [`read_off_from`] do so for the bytes of a [`Source`], and [`read_form_threads`] with several threads. All of them
+//! use [`Reader`], which takes the bytes in pieces and keeps none of them. [`Numerals`] iterates over the words of a
+//! text as numbers, from which [`faces`] builds the faces in a file.
 #![tactic(auto)]
 
 mod batch;

@@ -1,4 +1,4 @@
-//! The parts of a number that is parsed at once: a sign, digits, and the byte that ends it.
+//! The parts of a number that is parsed as a whole: a sign, digits, and the byte that ends it.
 ghost use Rattle.std.specs.Prelude.{◌≡◌, ◌≤◌, ◌<◌, ◌+◌, ◌-◌, ◌^◌, true, drop, length, IfSome};
 ghost use Rattle.std.specs.Char.{is_ascii_digit};
 ghost use Rattle.qh_read.specs.contract.Tokens.{signed};
@@ -9,7 +9,7 @@ use crate::coordinate::Coordinate;
 use crate::token::blank;
 use qh_model::COORDINATE_LIMIT;
 
-/// The greatest length of a number that is taken at once: a sign, nine digits and the byte after them.
+/// The greatest length of a number that is parsed as a whole: a sign, nine digits and the byte after them.
 pub const LONGEST: usize = 11;
 
 /// The sign of a number. A number without a sign has `Plus`.
@@ -19,7 +19,7 @@ pub enum Sign {
     Minus,
 }
 
-/// Returns the digit that this byte is, or more than 9 if it is not a digit.
+/// Returns the digit that this byte denotes, or more than 9 if it is not a digit.
 #[inline(always)]
 fn digit_of(byte: u8) -> u32
     ensures digit { result ≤ 9 → is_ascii_digit byte ≡ true }
@@ -28,7 +28,7 @@ fn digit_of(byte: u8) -> u32
     (byte as u32).wrapping_sub(48)
 }
 
-/// Takes a sign, if there is one, and a digit. Returns the sign, the digit, and the offset of the next byte.
+/// Parses an optional sign and a digit. Returns the sign, the digit, and the offset of the next byte.
 #[inline(always)]
 pub fn first_digit(bytes: &[u8], at: usize) -> Option<(Sign, u32, usize)>
     requires { at + 2 ≤ length bytes.now }
@@ -51,9 +51,9 @@ pub fn first_digit(bytes: &[u8], at: usize) -> Option<(Sign, u32, usize)>
     Some((sign, digit, start + 1))
 }
 
-/// Takes up to eight digits after this one. Returns their magnitude, and the offset of the next byte.
+/// Parses up to eight more digits. Returns the magnitude, and the offset of the next byte.
 ///
-/// With eight digits at most the code has no loop, and the magnitude stays in the range of coordinates.
+/// The limit of eight digits avoids a loop and keeps the magnitude in the range of coordinates.
 #[inline(always)]
 pub fn few_digits(first: u32, bytes: &[u8], at: usize) -> (u32, usize)
     requires small { first ≤ 9 }
@@ -74,7 +74,7 @@ pub fn few_digits(first: u32, bytes: &[u8], at: usize) -> (u32, usize)
     (magnitude, at + 8)
 }
 
-/// Returns the coordinate of this magnitude and sign.
+/// Returns the coordinate with this magnitude and sign.
 #[inline(always)]
 pub fn signed_coordinate(sign: Sign, magnitude: u32) -> Coordinate
     requires { magnitude ≤ COORDINATE_LIMIT }
@@ -96,7 +96,7 @@ pub fn line_after(line: u32, end: u8) -> Option<u32>
     ensures held { IfSome result (λ r. IsEnd line end r) }
     ensures lines { IfSome result (λ r. r ≤ line + 1) }
 {
-    // Mostly it is a space.
+    // In most cases it is a space.
     if end == b' ' {
         Some(line)
     } else if end == b'\n' {

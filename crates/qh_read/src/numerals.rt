@@ -1,6 +1,6 @@
-//! The words of a text one by one, each as the number that it is.
+//! The words of a text, one by one, as numbers.
 //!
-//! Words and comments are those of an OFF file, whose faces are such numbers.
+//! Words and comments have the syntax of OFF files, whose faces consist of such numbers.
 ghost use Rattle.std.specs.Prelude.{◌≡◌, ◌≤◌, ◌<◌, ◌+◌, [], ◌∷◌, ℕ, List, true, false, None, Some, length, MatchOption};
 ghost use Rattle.qh_model.specs.declared.limits.TheConstants.{BYTE_LIMIT};
 ghost use Rattle.qh_read.specs.contract.Numerals.{IsElsewhere, numerals_in};
@@ -15,13 +15,13 @@ use std::marker::Model;
 /// A word of a text.
 #[derive(Clone, Copy, Debug, PartialEq, Eq)]
 pub struct Numeral {
-    /// The number that it is, if it is one from 0 to `COORDINATE_LIMIT`.
+    /// The number that the word denotes, if it is from 0 to `COORDINATE_LIMIT`.
     pub number: Option<u32>,
-    /// Its line, counted from 1.
+    /// The line of the word, counted from 1.
     pub line: u32,
 }
 
-/// The words of a text that are to come.
+/// The remaining words of a text.
 ///
 /// A contract sees them as a list.
 #[derive(Drop)]
@@ -44,7 +44,7 @@ impl<'a> Model for Numerals<'a> {
     ghost invariant = { IsAhead };
 }
 
-/// Passes over blanks, ends of lines and comments. Returns the line after these, and the bytes that are left.
+/// Skips blanks, line ends and comments. Returns the line after them, and the remaining bytes.
 fn after_gap(line: u32, bytes: &[u8]) -> (u32, &[u8])
     requires { line + length bytes.now ≤ BYTE_LIMIT + 1 }
     ensures told { arriving None false line bytes.now ≡ arriving None false result.0 result.1.now }
@@ -74,7 +74,7 @@ fn ends_word(byte: u8) -> bool
     byte == b'\n' || byte == b'#' || blank(byte)
 }
 
-/// Returns the word with one byte more.
+/// Returns the word extended by a byte.
 #[inline]
 fn grow(token: Token, byte: u8) -> Token
     requires { IsSmall token }
@@ -88,7 +88,7 @@ fn grow(token: Token, byte: u8) -> Token
     }
 }
 
-/// Takes the rest of a word. Returns the whole word, and the bytes that are left.
+/// Parses the rest of a word. Returns the whole word, and the remaining bytes.
 fn after_word(begun: Token, bytes: &[u8]) -> (Token, &[u8])
     requires { IsSmall begun }
     ensures told { (line : ℕ) → arriving (Some begun) false line bytes.now
@@ -120,7 +120,7 @@ fn numeral_of(token: Token, line: u32) -> Numeral
 }
 
 impl<'a> Numerals<'a> {
-    /// Returns the words of a text, of which there are at most `BYTE_LIMIT` bytes.
+    /// Returns the words of a text, which has at most `BYTE_LIMIT` bytes.
     pub fn of(bytes: &'a [u8]) -> Numerals<'a>
         requires { length bytes.now ≤ BYTE_LIMIT }
         ensures { result ≡ numerals_in bytes.now }
@@ -128,7 +128,7 @@ impl<'a> Numerals<'a> {
         Numerals::from_line(1, bytes)
     }
 
-    /// Returns the words of these bytes, the first of which stands on this line.
+    /// Returns the words of these bytes, which begin on this line.
     fn from_line(line: u32, bytes: &'a [u8]) -> Numerals<'a>
         requires { line + length bytes.now ≤ BYTE_LIMIT + 1 }
         ensures { result ≡ arriving None false line bytes.now }
@@ -160,7 +160,7 @@ impl<'a> Numerals<'a> {
         head
     }
 
-    /// Takes the next word if it stands on this line.
+    /// Takes the next word if it is on this line.
     pub fn take_on(&mut self, line: u32) -> Option<Numeral>
         ensures { MatchOption result ((self.new ≡ self.old) × IsElsewhere line self.old)
             (λ w. (self.old ≡ w ∷ self.new) × (w.line ≡ line)) }

@@ -1,4 +1,4 @@
-//! Reading in pieces.
+//! Reads a file in pieces.
 ghost use Rattle.std.specs.Prelude.{◌≡◌, ◌≤◌, ◌<◌, ◌+◌, ◌++◌, ◌↔◌, List, ℕ, [], length, IfOk, IfErr, OnOk, OnErr, Err};
 ghost use Rattle.qh_model.specs.declared.form.Form.{Form};
 ghost use Rattle.qh_model.specs.declared.form.Form.TheVariants as forms;
@@ -16,11 +16,11 @@ use qh_model::{BYTE_LIMIT, Form, Point, ReadFault};
 use std::alloc::Global;
 use std::marker::Model;
 
-/// Reads a point file, or an OFF file, that comes in pieces, cut anywhere.
+/// Reads a point file, or an OFF file, in pieces that may be cut anywhere.
 ///
-/// It keeps the points so far, and of the word under way only its value so far: no bytes. After a fault of the
-/// text it takes the bytes that follow, and `finish` returns the fault. A contract sees the state and the number of
-/// bytes, and speaks of the bytes fed by `Fed`.
+/// It keeps the points so far and the value of the unfinished word, but no bytes. After a fault of the text it accepts
+/// the remaining bytes, and `finish` returns the fault. A contract sees the state and the number of bytes, and
+/// describes the bytes fed by `Fed`.
 #[derive(Drop)]
 pub struct Reader {
     scanner: Scanner,
@@ -41,23 +41,21 @@ impl Model for Reader {
 }
 
 impl Reader {
-    /// Creates a reader of a point file, before its first byte. It allocates nothing yet, and grows by
-    /// `alloc`.
+    /// Creates a reader of a point file, before its first byte. It allocates nothing yet, and grows with `alloc`.
     pub fn new(alloc: Global) -> Reader
         ensures { Fed forms.Qhull result [] }
     {
         Reader::of_form(alloc, Form::Qhull)
     }
 
-    /// Creates a reader of an OFF file, before its first byte. It allocates nothing yet, and grows by
-    /// `alloc`.
+    /// Creates a reader of an OFF file, before its first byte. It allocates nothing yet, and grows with `alloc`.
     pub fn new_off(alloc: Global) -> Reader
         ensures { Fed forms.Off result [] }
     {
         Reader::of_form(alloc, Form::Off)
     }
 
-    /// Returns a reader of a file of this form.
+    /// Returns a reader for files of this form.
     pub(crate) fn of_form(alloc: Global, form: Form) -> Reader
         ensures { Fed form result [] }
     {
@@ -76,12 +74,12 @@ impl Reader {
         self.count
     }
 
-    /// Takes the next bytes of the file.
+    /// Reads the next bytes of the file.
     ///
     /// # Errors
     ///
-    /// `Big` exactly where more than `BYTE_LIMIT` bytes would have been fed, before any growth; `Memory` where an
-    /// allocation failed. All growths come before the first change, so either leaves the reader as it was.
+    /// `Big` exactly if more than `BYTE_LIMIT` bytes would have been fed, before any allocation; `Memory` if an
+    /// allocation failed. All allocations come before the first change, so the reader is unchanged after either error.
     pub fn feed(&mut self, piece: &[u8]) -> Result<(), FeedFault>
         ensures fed { OnOk result
             ((form : Form) (before : List ℕ)
@@ -94,7 +92,7 @@ impl Reader {
         self.feed_known(&KnownPoints::none(piece))
     }
 
-    /// Takes the next bytes of the file, whose first points may be parsed already. The errors are those of `feed`.
+    /// Reads the next bytes of the file, whose first points may be parsed already. The errors are those of `feed`.
     fn feed_known(&mut self, known: &KnownPoints<'_>) -> Result<(), FeedFault>
         ensures fed { OnOk result
             ((form : Form) (before : List ℕ)
@@ -115,9 +113,9 @@ impl Reader {
         Ok(())
     }
 
-    /// Takes the next bytes of the file, which are the text of this segment.
+    /// Reads the next bytes of the file, which are the text of this segment.
     ///
-    /// The first line is fed as it is, since a word, a point or a comment may be under way.
+    /// The first line is fed byte by byte, since a word, a point or a comment may be unfinished.
     pub(crate) fn feed_segment(&mut self, segment: &Segment, text: &[u8]) -> Result<(), FeedFault>
         requires { IsSegment segment.now text.now }
         ensures fed { OnOk result
@@ -138,8 +136,7 @@ impl Reader {
         })
     }
 
-    /// Returns the points of the bytes fed, or their first fault, from `NoHeader` to `Short` or
-    /// `NotOff`.
+    /// Returns the points of the bytes fed, or their first fault, from `NoHeader` to `Short` or `NotOff`.
     ///
     /// It allocates nothing.
     pub fn finish(self) -> Result<Vec<Point>, ReadFault>

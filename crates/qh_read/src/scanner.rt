@@ -1,4 +1,4 @@
-//! The step from bytes to words, in any pieces.
+//! Splits bytes into words, for pieces that may be cut anywhere.
 ghost use Rattle.std.specs.Prelude.{ℕ, ◌≡◌, ◌≤◌, ◌<◌, ◌+◌, ◌^◌, false, length, OnOk};
 ghost use Rattle.std.specs.Char.{is_ascii_digit};
 ghost use Rattle.qh_read.specs.steps.SmallTokens.{IsSmall};
@@ -12,11 +12,11 @@ use crate::token::{Token, begins_data, blank, with_digit};
 use qh_model::Form;
 use std::alloc::{AllocError, Global};
 
-/// The state after the bytes so far, except for the word under way, whose token is kept beside it.
+/// The state after the bytes so far, except for the unfinished word, whose token is kept separately.
 #[derive(Drop)]
 pub struct Scanner {
     pub builder: Builder,
-    /// Makes points of the words.
+    /// Builds points from the words.
     pub form: Form,
     /// True inside a comment, which ends with the line.
     pub comment: bool,
@@ -39,9 +39,9 @@ impl Scanner {
         }
     }
 
-    /// Makes room for all points that `bytes` more bytes can complete.
+    /// Reserves room for all points that `bytes` more bytes can complete.
     ///
-    /// A coordinate takes two bytes at least, one of them a blank.
+    /// A coordinate takes at least two bytes, one of them a blank.
     pub fn reserve(&mut self, bytes: usize) -> Result<(), AllocError>
         ensures held { (t : Token) → held self.new t ≡ held self.old t }
         ensures room { OnOk result ((t : Token) → HasRoom self.new t bytes) }
@@ -50,7 +50,7 @@ impl Scanner {
         self.builder.reserve(bytes / 6 + 1)
     }
 
-    /// Ends the word under way, if there is one.
+    /// Ends the unfinished word, if there is one.
     #[inline(always)]
     pub fn end_word(&mut self, token: Token)
         requires small { IsSmall token }
@@ -65,8 +65,7 @@ impl Scanner {
         }
     }
 
-    /// Takes a byte outside comments that is neither a digit nor a separator. Returns the word under way
-    /// after it.
+    /// Processes a byte outside comments that is neither a digit nor a separator. Returns the unfinished word after it.
     #[inline]
     fn mark(&mut self, token: Token, byte: u8) -> Token
         requires small { IsSmall token }
@@ -99,7 +98,7 @@ impl Scanner {
         }
     }
 
-    /// Takes one byte. Returns the word under way after it.
+    /// Processes one byte. Returns the unfinished word after it.
     #[inline]
     fn step(&mut self, token: Token, byte: u8) -> Token
         requires small { IsSmall token }
@@ -127,8 +126,8 @@ impl Scanner {
         }
     }
 
-    /// Takes the digits that the bytes begin with, while a number is under way. Returns the word under way
-    /// after them, and the bytes that are left.
+    /// Parses the leading digits while a number is unfinished. Returns the unfinished word after them, and the
+    /// remaining bytes.
     #[inline]
     fn digits<'a>(&self, token: Token, bytes: &'a [u8]) -> (Token, &'a [u8])
         requires { IsSmall token }
@@ -153,8 +152,8 @@ impl Scanner {
         (Token::Digits(minus, magnitude), &[])
     }
 
-    /// Takes the points that the bytes begin with, and the separators behind them. No word and no comment is
-    /// under way, and coordinates are expected. Returns the bytes that are left.
+    /// Parses the leading points and the separators after them. There is no unfinished word or comment, and coordinates
+    /// are expected. Returns the remaining bytes.
     #[inline]
     fn points<'a>(&mut self, token: Token, bytes: &'a [u8]) -> &'a [u8]
         requires room { HasRoom self.old token (length bytes.now) }
@@ -178,8 +177,8 @@ impl Scanner {
         cursor.rest()
     }
 
-    /// Takes the points of a piece if neither a word nor a comment is under way and the builder expects all of
-    /// them. Returns the bytes that are left: the whole piece if no point was taken.
+    /// Appends the points of a piece if there is no unfinished word or comment and the builder expects all of them.
+    /// Returns the remaining bytes: the whole piece if no point was appended.
     pub fn take_known<'a>(&mut self, token: Token, known: &KnownPoints<'a>) -> &'a [u8]
         requires room { HasRoom self.old token (length known.now.piece.now) }
         requires line { self.old.line + length known.now.piece.now < 2 ^ 31 }
@@ -200,7 +199,7 @@ impl Scanner {
         known.rest
     }
 
-    /// Takes the next bytes. Returns the word under way after them.
+    /// Processes the next bytes. Returns the unfinished word after them.
     pub fn scan(&mut self, token: Token, piece: &[u8]) -> Token
         requires small { IsSmall token }
         requires room { HasRoom self.old token (length piece.now) }

@@ -1,4 +1,4 @@
-//! Segments of a file, parsed before it is known what stands before them.
+//! Segments of a file, parsed before the content in front of them is known.
 ghost use Rattle.std.specs.Prelude.{◌≤◌, ◌<◌, ◌^◌, [], length};
 ghost use Rattle.qh_read.specs.steps.Segments.{IsSegment};
 
@@ -7,15 +7,15 @@ use qh_model::Point;
 use std::alloc::Global;
 use std::mem;
 
-/// A segment of a file, and the points that follow its first line if a point begins there.
+/// A segment of a file, and the points after its first line, which are valid if a point begins there.
 ///
-/// A file is cut into segments anywhere. Only the reader knows whether a point begins after the first line: a comment
-/// may run, or a point may have begun on that line.
+/// A file may be cut into segments anywhere. Only the reader knows whether a point begins after the first line: that
+/// line may end in a comment, or a point may have begun on it.
 #[derive(Drop)]
 pub struct Segment {
     /// The points after the first line.
     pub points: Vec<Point>,
-    /// The length of the first line with its end, or 0 where no line ends.
+    /// The length of the first line with its end, or 0 if no line ends.
     pub head: usize,
     /// The number of line ends among the points.
     pub lines: u32,
@@ -40,7 +40,7 @@ impl Segment {
     pub fn new(alloc: Global, bytes: usize) -> Segment
         ensures { IsSegment result [] }
     {
-        // A point takes six bytes at least.
+        // A point takes at least six bytes.
         let points = match Vec::with_capacity(alloc, bytes / 6 + 1) {
             Ok(points) => points,
             Err(_) => Vec::new(alloc),
@@ -53,13 +53,13 @@ impl Segment {
         }
     }
 
-    /// Finds the points of this text, up to the room there is, in place of the earlier ones.
+    /// Parses the points of this text, as far as there is room, and replaces the earlier ones.
     pub fn go_over(&mut self, text: &[u8])
         requires { length text.now < 2 ^ 31 }
         ensures { IsSegment self.new text.now }
     {
-        // Each point changes the length of the vector. In the segment it would share a cache line with lengths
-        // that other threads change.
+        // Each point changes the length of the vector. In the segment, this length would share a cache line with
+        // lengths that other threads change.
         let alloc = *self.points.allocator();
         let mut points = mem::replace(&mut self.points, Vec::new(alloc));
         points.clear();

@@ -1,4 +1,4 @@
-//! The segments of one text: parsed side by side, fed in order.
+//! The segments of one text: parsed in parallel, fed in order.
 ghost use Rattle.std.specs.Prelude.{◌≡◌, ◌≤◌, ◌<◌, ◌+◌, ◌^◌, ◌++◌, [], ℕ, List, length, vec_len, All, IfOk, OnOk, Err};
 ghost use Rattle.qh_model.specs.declared.form.Form.{Form};
 ghost use Rattle.qh_read.specs.contract.Holding.{Fed};
@@ -12,7 +12,7 @@ use std::alloc::{AllocError, Global};
 use std::thread;
 use std::thread::Threads;
 
-/// Fewer bytes are parsed by the calling thread, which takes less time than the start of others.
+/// A shorter text is parsed by the calling thread, which takes less time than starting other threads.
 const SHARED_FROM: usize = 196_608;
 
 /// Creates `count` empty segments, each with room for the points of `bytes` bytes.
@@ -36,7 +36,7 @@ fn segment_at(text: &[u8], size: usize, i: usize) -> &[u8]
     &rest[..size.min(rest.len())]
 }
 
-/// Returns how many threads parse the segments of a text of this length.
+/// Returns the number of threads that parse the segments of a text of this length.
 fn threads_for(segments: usize, length: usize) -> usize
     requires { 0 < segments }
     ensures { 0 < result }
@@ -44,7 +44,7 @@ fn threads_for(segments: usize, length: usize) -> usize
     if length < SHARED_FROM { 1 } else { segments }
 }
 
-/// Parses the segments of this text, each in a thread of its own where the text is long.
+/// Parses the segments of this text, each in its own thread if the text is long.
 pub fn go_over_all<R: Threads + Sync>(rt: &R, segments: &mut [Segment], text: &[u8])
     requires some { 0 < length segments.old }
     requires small { length text.now < 2 ^ 31 }

@@ -1,4 +1,4 @@
-//! Where bytes come from.
+//! Sources of bytes.
 ghost use Rattle.std.specs.Prelude.{◌≡◌, ◌≤◌, ◌<◌, ◌+◌, ◌-◌, ◌^◌, ℕ, List, length, Option, Some, IfOk, OnOk, OnErr};
 ghost use Rattle.std.specs.Io.KnownBytes.{ReadConsumes};
 
@@ -9,7 +9,7 @@ use std::marker::Model;
 #[derive(Clone, Copy, Debug, PartialEq, Eq)]
 pub struct DeviceFault;
 
-/// A source of bytes, which come in pieces of any length. It counts its failures.
+/// A source of bytes, which returns them in pieces of any length. It counts its failures.
 pub trait Source {
     /// The bytes that are still to be read, for a source whose bytes are known.
     ghost remaining: { Self → Option (List ℕ) };
@@ -19,8 +19,8 @@ pub trait Source {
 
     /// Reads the next bytes into the beginning of `buf`, and returns their number.
     ///
-    /// For a buffer that is not empty, 0 means the end. A read that fails takes no byte and adds one to the
-    /// count of failures, which has room for it.
+    /// If the buffer is not empty, 0 means the end. A read that fails consumes no byte and adds one to the count of
+    /// failures, which has room for it.
     fn read(&mut self, buf: &mut [u8]) -> Result<usize, DeviceFault>
         requires { failure_count self.old < 2 ^ 64 - 1 }
         ensures bound { IfOk result (λ n. n ≤ length buf.new) }
@@ -35,7 +35,7 @@ pub trait Source {
 
 /// The bytes of a slice. It never fails.
 ///
-/// A contract sees the bytes still to come.
+/// A contract sees the remaining bytes.
 #[derive(Drop)]
 pub struct MemSource<'a> {
     rest: &'a [u8],
@@ -74,9 +74,9 @@ impl<'a> Source for MemSource<'a> {
     }
 }
 
-/// The bytes of a reader of the standard library. They are known if that reader's bytes are.
+/// The bytes of a reader of the standard library. They are known to contracts if that reader's bytes are.
 ///
-/// Each error of the reader counts as a failure, also an interrupted read.
+/// Each error of the reader counts as a failure, even an interrupted read.
 #[derive(Drop)]
 pub struct StdSource<R> {
     reader: R,
@@ -84,7 +84,7 @@ pub struct StdSource<R> {
 }
 
 impl<R: Read> StdSource<R> {
-    /// Creates a source of the bytes that this reader has still to give, with no failure yet.
+    /// Creates a source of the remaining bytes of this reader, with no failure yet.
     pub fn new(reader: R) -> StdSource<R>
         ensures bytes { ⟦<StdSource<R> as Source>⟧.remaining result ≡ R.remaining reader }
         ensures failures { ⟦<StdSource<R> as Source>⟧.failure_count result ≡ 0 }

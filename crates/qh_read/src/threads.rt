@@ -1,7 +1,7 @@
-//! Reading by several threads.
+//! Reads with several threads.
 //!
 //! A file is read in batches, and a batch is cut into segments. While threads parse the segments of one batch, the
-//! calling thread feeds the batch before it to the reader, and reads the next one.
+//! calling thread feeds the previous batch to the reader, and reads the next one.
 ghost use Rattle.std.specs.Prelude.{◌≡◌, ◌≤◌, ◌<◌, ◌+◌, ◌-◌, ◌^◌, true, false, length, IfErr, OnOk, Ok};
 ghost use Rattle.std.specs.Thread.{IsSync};
 ghost use Rattle.std.specs.Io.KnownBytes.{IsAtEnd};
@@ -18,27 +18,27 @@ use std::alloc::Global;
 use std::mem;
 use std::thread::{Threads, join_mut};
 
-/// How many bytes are read serially before the first batch. A file of no more bytes starts no thread.
+/// The number of bytes that are read serially before the first batch. A file of at most this length starts no thread.
 const START_LENGTH: u32 = 655_360;
 
-/// The number of bytes of a batch: enough to pay for the threads that start, and few enough that its memory is used again.
+/// The number of bytes of a batch: large enough to pay for starting threads, small enough that its memory is reused.
 const BATCH_LENGTH: usize = 2_097_152;
 
-/// The most segments of a batch. More do not pay, since the calling thread takes as long for its own part.
+/// The greatest number of segments of a batch. More do not pay, since the calling thread's own share takes as long.
 const SEGMENT_LIMIT: usize = 3;
 
 /// How a file is cut for several threads.
 #[derive(Clone, Copy, Debug)]
 pub struct Sizes {
-    /// How many bytes are read serially before the first batch.
+    /// The number of bytes that are read serially before the first batch.
     pub start: u32,
-    /// The number of bytes of a batch. 0 counts as 1, and more than `BYTE_LIMIT` as that.
+    /// The number of bytes of a batch. 0 counts as 1, and more than `BYTE_LIMIT` as `BYTE_LIMIT`.
     pub batch: usize,
-    /// The number of segments of a batch, each with a thread of its own. 0 counts as 1.
+    /// The number of segments of a batch, each with its own thread. 0 counts as 1.
     pub segments: usize,
 }
 
-/// Feeds a batch to the reader, then fills it from the source. `ahead` bytes of the source lie between the two.
+/// Feeds a batch to the reader, then fills it from the source. There are `ahead` bytes of the source between the two.
 fn feed_and_fill<S: Source>(
     reader: &mut Reader,
     source: &mut S,
@@ -61,7 +61,7 @@ fn feed_and_fill<S: Source>(
     batch.fill(source, reader.fed() + ahead as u32)
 }
 
-/// Parses the segments of the raw batch, and meanwhile feeds the other batch to the reader and fills it again.
+/// Parses the segments of the raw batch, while the other batch is fed to the reader and filled again.
 fn turn<R: Threads + Sync, S: Source>(
     rt: &R,
     reader: &mut Reader,
@@ -138,11 +138,10 @@ fn feed_batches<R: Threads + Sync, S: Source>(
     Ok(())
 }
 
-/// Returns the points of the file of this form that a source gives, with the answers of [`read_form_from`], cut in
-/// these sizes.
+/// Returns the points of the file of this form in a source, with the results of [`read_form_from`], cut in these sizes.
 ///
-/// The sizes change the time and the memory that it takes, never the answer. [`read_form_threads`] has sizes
-/// that pay; tests have sizes of a few bytes.
+/// The sizes change the time and the memory, never the result. [`read_form_threads`] uses sizes that pay; tests use
+/// sizes of a few bytes.
 pub fn read_form_sizes<R: Threads + Sync, S: Source>(
     rt: &R,
     alloc: Global,
@@ -160,12 +159,12 @@ pub fn read_form_sizes<R: Threads + Sync, S: Source>(
     reader.finish()
 }
 
-/// Returns the points of the file of this form that a source gives, with the answers of [`read_form_from`], by at
-/// most this number of threads, the calling thread among them.
+/// Returns the points of the file of this form in a source, with the results of [`read_form_from`]. It uses at most
+/// this number of threads, including the calling thread.
 ///
-/// A file of at most 655,360 bytes is read by the calling thread alone, and so is any file if `threads` is 0 or 1.
-/// The answer does not depend on the number of threads, nor on which of them can be started. Out of memory for the
-/// points of a segment costs time and no more.
+/// A file of at most 655,360 bytes is read by the calling thread alone, and so is any file if `threads` is 0 or 1. The
+/// result does not depend on the number of threads, nor on which of them can be started. Out of memory for the points
+/// of a segment only costs time.
 pub fn read_form_threads<R: Threads + Sync, S: Source>(
     rt: &R,
     alloc: Global,

@@ -1,4 +1,4 @@
-//! The word under way, of which only its value so far is kept.
+//! The token of an unfinished word, which keeps only its value so far.
 ghost use Rattle.std.specs.Prelude.{◌≡◌, ◌≤◌, ◌<◌, ◌+◌, ◌*◌, ◌↔◌, [], ◌∷◌, true, false, IsTrue};
 ghost use Rattle.std.specs.Char.{is_ascii_digit};
 ghost use Rattle.qh_read.specs.contract.Tokens.{cap, grown, value_of, is_keyword};
@@ -7,21 +7,21 @@ ghost use Rattle.qh_model.specs.headline.Words.{is_blank, is_data};
 
 use qh_model::COORDINATE_LIMIT;
 
-/// The cap of magnitudes. All from here on count as this one: each is past the range of every number of a file.
+/// The cap of magnitudes. Greater magnitudes count as this one, which is out of range for every number of a file.
 pub const MAGNITUDE_CAP: u32 = COORDINATE_LIMIT + 1;
 
-/// The state of the word under way.
+/// The state of an unfinished word.
 #[derive(Clone, Copy, Debug)]
 pub enum Token {
-    /// No byte of it yet.
+    /// No byte yet.
     Empty,
     /// A sign; true if it is a minus.
     Sign(bool),
-    /// Digits, perhaps after a sign: true if it is a minus, and their value up to the cap.
+    /// Digits, perhaps after a sign: true if there is a minus, and their value up to the cap.
     Digits(bool, u32),
-    /// The first letters of the keyword `OFF`, by their number, from 1 to 3, and nothing else.
+    /// A prefix of the keyword `OFF`, by its length from 1 to 3, and nothing else.
     Keyword(u8),
-    /// A word that is no number and not the keyword.
+    /// A word that is neither a number nor the keyword.
     Other,
 }
 
@@ -46,7 +46,7 @@ pub fn with_digit(magnitude: u32, digit: u8) -> u32
     requires digit { digit < 10 }
     ensures { result ≡ cap (10 * magnitude + digit) }
 {
-    // Ten times the cap is past 32 bits.
+    // Ten times the cap exceeds 32 bits.
     if magnitude < MAGNITUDE_CAP / 10 {
         10 * magnitude + digit as u32
     } else if magnitude == MAGNITUDE_CAP / 10 && digit < (MAGNITUDE_CAP % 10) as u8 {
@@ -57,14 +57,14 @@ pub fn with_digit(magnitude: u32, digit: u8) -> u32
 }
 
 impl Token {
-    /// Returns true if no word is under way.
+    /// Returns true if there is no unfinished word.
     pub fn is_empty(self) -> bool
         ensures { IsTrue result ↔ (self ≡ Token.Empty) }
     {
         matches!(self, Token::Empty)
     }
 
-    /// Returns the word with one digit more.
+    /// Returns the word extended by a digit.
     #[inline]
     pub fn grow_digit(self, byte: u8) -> Token
         requires small { IsSmall self }
@@ -81,7 +81,7 @@ impl Token {
         }
     }
 
-    /// Returns the word with one byte more that is no digit.
+    /// Returns the word extended by a byte that is not a digit.
     pub fn grow_other(self, byte: u8) -> Token
         requires { is_ascii_digit byte ≡ false }
         ensures grown { result ≡ grown self byte }
@@ -104,7 +104,7 @@ impl Token {
         matches!(self, Token::Keyword(3))
     }
 
-    /// Returns the number of the word, up to the cap, if it is one.
+    /// Returns the number that the word denotes, up to the cap, if it is a number.
     pub fn value(self) -> Option<i32>
         requires { IsSmall self }
         ensures { result ≡ value_of self }

@@ -1,4 +1,4 @@
-//! Reading of a whole input.
+//! Reads a whole input.
 ghost use Rattle.std.specs.Prelude.{◌≡◌, ◌≤◌, ◌<◌, ◌-◌, ◌^◌, true, false, vec_len, IfOk, IfErr, OnOk, Ok};
 ghost use Rattle.std.specs.Io.KnownBytes.{IsAtEnd};
 ghost use Rattle.qh_model.specs.declared.form.Form.TheVariants as forms;
@@ -10,15 +10,15 @@ use crate::source::Source;
 use qh_model::{BYTE_LIMIT, Form, Point, ReadFault};
 use std::alloc::{AllocError, Global};
 
-/// The number of bytes that are taken at once, so that the room made for their points stays small.
+/// The number of bytes that are processed at once, so that the room reserved for their points stays small.
 pub const PIECE_LENGTH: usize = 65536;
 
 /// Returns the points of a file of this form, in its order, or its first fault.
 ///
 /// # Errors
 ///
-/// `Big` comes before all other faults, and is found before any growth; `Memory` where an allocation failed; never
-/// `Device`.
+/// `Big` takes precedence over all other faults, and is found before any allocation; `Memory` if an allocation failed;
+/// never `Device`.
 pub fn read_form(alloc: Global, form: Form, bytes: &[u8]) -> Result<Vec<Point>, ReadFault>
     ensures { AnswersBytes form bytes.now result }
 {
@@ -48,14 +48,14 @@ pub fn read_off(alloc: Global, bytes: &[u8]) -> Result<Vec<Point>, ReadFault>
     read_form(alloc, Form::Off, bytes)
 }
 
-/// Returns room for a piece, on the heap.
+/// Returns a buffer for a piece, on the heap.
 fn new_buffer(alloc: Global) -> Result<Vec<u8>, AllocError>
     ensures { IfOk result (λ buffer. vec_len buffer ≡ PIECE_LENGTH) }
 {
     vec![in alloc; 0; PIECE_LENGTH]
 }
 
-/// Feeds a source to a reader in pieces, until the reader was fed at least `enough` bytes or the source ends.
+/// Feeds a source to a reader in pieces, until the reader has been fed at least `enough` bytes or the source ends.
 /// Returns true if the source ended.
 pub(crate) fn feed_from<S: Source>(
     alloc: Global,
@@ -85,17 +85,16 @@ pub(crate) fn feed_from<S: Source>(
     Ok(false)
 }
 
-/// Returns the points of the file of this form that a source gives, in its order, or its first
-/// fault.
+/// Returns the points of the file of this form in a source, in its order, or its first fault.
 ///
-/// Points and faults of the text are returned only after the end was read, and are those of all bytes. The source's
-/// count of failures has room for one more.
+/// Points and faults of the text are returned only after the end was read, and describe all bytes. The source's count
+/// of failures has room for one more.
 ///
 /// # Errors
 ///
-/// `Device` where a read failed, after which the source is not called again; `Big` where more than `BYTE_LIMIT`
-/// bytes came, of which at most `PIECE_LENGTH` are too many; `Memory` where an allocation failed before more came
-/// than that; and the faults of the text.
+/// `Device` if a read failed, after which the source is not called again; `Big` if more than `BYTE_LIMIT` bytes were
+/// read, at most `PIECE_LENGTH` of them in excess; `Memory` if an allocation failed before that; and the faults of the
+/// text.
 pub fn read_form_from<S: Source>(
     alloc: Global,
     form: Form,
@@ -109,8 +108,8 @@ pub fn read_form_from<S: Source>(
     reader.finish()
 }
 
-/// Returns the points of the point file that a source gives, in its order, or its first fault, with the
-/// errors of [`read_form_from`].
+/// Returns the points of the point file in a source, in its order, or its first fault, with the errors of
+/// [`read_form_from`].
 pub fn read_from<S: Source>(alloc: Global, source: &mut S) -> Result<Vec<Point>, ReadFault>
     requires { S.failure_count source.old < 2 ^ 64 - 1 }
     ensures { AnswersSource forms.Qhull S.remaining S.failure_count source.old source.new result }
@@ -118,8 +117,8 @@ pub fn read_from<S: Source>(alloc: Global, source: &mut S) -> Result<Vec<Point>,
     read_form_from(alloc, Form::Qhull, source)
 }
 
-/// Returns the points that are the vertices of the OFF file that a source gives, in its order, or its
-/// first fault, with the errors of [`read_form_from`].
+/// Returns the points that are the vertices of the OFF file in a source, in its order, or its first fault, with the
+/// errors of [`read_form_from`].
 pub fn read_off_from<S: Source>(alloc: Global, source: &mut S) -> Result<Vec<Point>, ReadFault>
     requires { S.failure_count source.old < 2 ^ 64 - 1 }
     ensures { AnswersSource forms.Off S.remaining S.failure_count source.old source.new result }

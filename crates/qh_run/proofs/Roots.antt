@@ -1,4 +1,4 @@
--- What is right for all blocks of a cut stands for all ids.
+-- A value that is right for all blocks of a cut has the hull of all ids.
 use Rattle.std.proofs.Common.{ℕ, ◌≡◌, List, length}
 use Rattle.qh_model.specs.headline.Vector.{Vector}
 use Rattle.qh_model.specs.headline.Predicates.{place}
@@ -18,7 +18,7 @@ root_stands pts ids bounds found distinct cut whole right = record {
   hull = λ b h. hull_of_root pts ids bounds found b distinct cut whole right h;
 }
 
--- what stands for a part that stands for the ids stands for these
+-- if a part has the hull of the ids, ids with the hull of the part have that of all ids
 pub part_stands : (pts : List Vector) (ids part found : List ℕ) → StandsFor pts ids part → StandsFor pts part found → StandsFor pts ids found
 part_stands pts ids part found one two = record {
   rising = two.rising;

@@ -6,7 +6,7 @@ use Rattle.qh_board.specs.contract.Tokens.{BoardValue, Token}
 use Rattle.qh_run.specs.steps.Turns.{IsWorked}
 
 module _ {S : Type 0} where
-  -- where there is a pass and all have left, the board has no fewer claims than blocks
+  -- if there is a pass and all have left, the board has no fewer claims than blocks
   pub all_claimed : (b : BoardValue S) (ts : List (Token S)) (n : ℕ) → 0 < length ts → All (IsWorked b) ts → All (λ t. t.pass.claims ≤ n) ts
       → All (λ t. t.pass.mark ≡ Some marks.Left) ts → b.setup.blocks ≤ n
   all_claimed b [] n some worked seen left = absurd (omega arith)

@@ -1,3 +1,3 @@
 pub mod Parts
--- What private functions speak of: nothing to believe.
+-- Definitions that private functions cite: nothing to believe.
 pub mod Turns

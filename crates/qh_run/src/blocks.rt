@@ -29,12 +29,12 @@ pub(crate) struct Blocks<'a> {
     ghost whole: { positions cut.now ≡ length ids.now },
 }
 
-/// What is found for some blocks.
+/// The result for some blocks.
 #[derive(Drop)]
 pub struct Extremes {
     /// The extreme ids of the blocks' ids, rising.
     pub ids: Vec<Id>,
-    /// The number of ids that these blocks have.
+    /// The number of ids in these blocks.
     pub among: usize,
     ghost some: { 0 < length ids.items },
 }
@@ -46,7 +46,7 @@ impl<'a> Spans for Blocks<'a> {
 }
 
 impl<'a> Blocks<'a> {
-    /// Asks the first ids of a large block whether the tree pays, before a pass works at its first block.
+    /// Tests with the first ids of a large block whether the tree pays, before a pass works on its first block.
     fn ask_sample(&self, alloc: Global, block: &[Id]) -> Result<(), GivesUp>
         requires { AreIndices self.now.pts.now block.now }
     {
@@ -60,8 +60,8 @@ impl<'a> Blocks<'a> {
         Ok(())
     }
 
-    /// Returns the extreme ids of a part of the ids, which has all that are extreme among `among` ids. Gives up if
-    /// their number shows that a tree does not pay.
+    /// Returns the extreme ids of a part of the ids; the part contains every id that is extreme among `among` ids.
+    /// Gives up if the number of extreme ids shows that a tree does not pay.
     fn extremes_among(&self, alloc: Global, part: &[Id], among: usize) -> Result<Extremes, GivesUp>
         requires some { 0 < length part.now }
         requires indices { AreIndices self.now.pts.now part.now }
@@ -75,7 +75,7 @@ impl<'a> Blocks<'a> {
         Ok(Extremes { ids, among })
     }
 
-    /// Returns the extreme ids of a block. Gives up if their number shows that a tree does not pay.
+    /// Returns the extreme ids of a block. Gives up if the number of extreme ids shows that a tree does not pay.
     fn reduced(&self, alloc: Global, block: u32) -> Result<Extremes, GivesUp>
         requires { block < block_count self.now.cut.now }
         ensures { IfOk result (λ found. RightValue self.now.pts.now self.now.ids.now self.now.cut.now

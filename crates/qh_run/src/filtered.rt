@@ -1,4 +1,4 @@
-//! The blocks of a job without the points that the interior filter finds inside.
+//! Blocks without the points that the interior filter removes.
 ghost use Rattle.std.specs.Prelude.{◌≡◌, ◌≤◌, ◌<◌, IfOk, IfSome, length};
 ghost use Rattle.qh_model.specs.contract.Cut.{positions};
 ghost use Rattle.qh_run.specs.steps.Parts.{StandsFor};
@@ -9,18 +9,18 @@ use qh_model::{Cut, Id, Memory};
 use std::alloc::{AllocError, Global};
 use std::thread::Threads;
 
-/// What the interior filter leaves of a set.
+/// The result of the interior filter for a set in blocks.
 #[derive(Drop)]
 pub(crate) struct Filtered {
-    /// The ids that are left, rising.
+    /// The remaining ids, rising.
     pub ids: Vec<Id>,
-    /// The set's blocks without the ids that were removed. A block with few ids left is joined to those after it.
+    /// The set's blocks without the removed ids. A block with few remaining ids is joined to those after it.
     pub cut: Cut,
     ghost whole: { positions cut ≡ length ids.items },
 }
 
-/// Returns where the blocks of a set begin among the ids that are left of it, and the end of the last. A block with
-/// fewer than `LEAST_LEFT` ids is joined to those after it.
+/// Returns the positions among the remaining ids at which the blocks of a set begin, and the end of the last block. A
+/// block with fewer than `LEAST_LEFT` ids is joined to those after it.
 fn bounds_among(alloc: Global, set: &Blocks, left: &[Id]) -> Result<Vec<u32>, AllocError>
     requires some { 0 < length left.now }
     requires few { length left.now ≤ positions set.now.cut.now }
@@ -42,8 +42,7 @@ fn bounds_among(alloc: Global, set: &Blocks, left: &[Id]) -> Result<Vec<u32>, Al
     Ok(bounds)
 }
 
-/// Filters a set by at most `threads` threads: returns what is left of its ids and blocks, or `None` where
-/// no filter pays.
+/// Filters a set with at most `threads` threads. Returns its remaining ids and blocks, or `None` if no filter pays.
 ///
 /// # Errors
 ///

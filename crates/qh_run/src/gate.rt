@@ -1,4 +1,4 @@
-//! The gate, which learns of the blocks of a run and takes its last hull.
+//! The gate, which is notified of the blocks of a run and takes its last hull.
 ghost use Rattle.std.specs.Prelude.{◌<◌, IfOk, length};
 ghost use Rattle.qh_model.specs.contract.IdSets.{IsIdSet};
 ghost use Rattle.qh_model.specs.headline.Hull.{IsBody};
@@ -10,32 +10,32 @@ use qh_block::hull;
 use qh_model::{Body, Id, Memory, Point};
 use std::alloc::Global;
 
-/// Learns of the blocks of a run, from the workers' threads, and takes the hull at its end.
+/// Is notified of the blocks of a run, from the workers' threads, and takes the hull at its end.
 ///
 /// The blocks are those of the cut after the interior filter: blocks with few ids left are put together. A pass that gives
 /// up claims no more of them.
 ///
-/// A gate may hold back the thread that calls it. No other worker waits for that thread.
+/// A gate may block the thread that calls it. No other worker waits for that thread.
 pub trait Gate: Sync {
-    /// Learns that a pass has claimed a block, before the pass works at it.
+    /// Called after a pass has claimed a block, before the pass works on it.
     fn claimed(&self, pass: u32, block: u32);
 
-    /// Learns that a pass has delivered the extreme ids of a block, once the board has answered.
+    /// Called after a pass has delivered the extreme ids of a block, once the board has answered.
     fn delivered(&self, pass: u32, block: u32);
 
-    /// Returns the hull of a set, under the condition of `qh_block::hull`, which is also the
-    /// caller's.
+    /// Returns the hull of a set. The precondition is that of `qh_block::hull`, which the caller of the run also
+    /// ensures.
     ///
     /// # Errors
     ///
-    /// `Memory` if an allocation failed; a gate may say that it was.
+    /// `Memory` if an allocation failed; a gate may also return it if none failed.
     fn finish(&self, alloc: Global, pts: &[Point], ids: &[Id]) -> Result<Body, Memory>
         requires some { 0 < length ids.now }
         requires indices { AreIndices pts.now ids.now }
         ensures { IfOk result (λ b. IsIdSet pts.now ids.now → IsBody (place pts.now) (Members ids.now) b) };
 }
 
-/// A gate that lets all blocks pass, and takes the hull by `qh_block::hull`.
+/// A gate that does nothing at blocks, and takes the hull by `qh_block::hull`.
 #[derive(Clone, Copy, Debug, Drop)]
 pub struct NoGate;
 

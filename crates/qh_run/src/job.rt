@@ -1,4 +1,4 @@
-//! What the workers' board keeps: the points, their distinct ids, and how these are cut into blocks.
+//! The spans of the workers' board: the points, their distinct ids, and a cut of these into blocks.
 ghost use Rattle.std.specs.Prelude.{◌≡◌, length};
 ghost use Rattle.qh_model.specs.contract.Cut.{block_count, positions};
 ghost use Rattle.qh_model.specs.contract.RightValue.{RightValue};

@@ -1,4 +1,4 @@
-//! Passes side by side.
+//! Passes in parallel.
 ghost use Rattle.std.specs.Prelude.{◌≡◌, length, IfOk, All};
 ghost use Rattle.qh_board.specs.contract.Tokens.{IsOf};
 ghost use Rattle.qh_run.specs.steps.Turns.{IsWorked};
@@ -10,8 +10,8 @@ use qh_board::{Board, Left, Pass};
 use std::alloc::{AllocError, Global};
 use std::thread::{Threads, join};
 
-/// Works each pass of a list to its end: the two halves of the list side by side, in threads of `rt`, and
-/// so again the halves of each, down to one pass.
+/// Runs each pass of a list to its end: the two halves of the list in parallel, in threads of `rt`, and recursively the
+/// halves of each, down to one pass.
 pub(crate) fn run_passes<S: Reduction, R: Threads + Sync, G: Gate>(
     rt: &R,
     alloc: Global,

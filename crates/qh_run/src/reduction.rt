@@ -1,4 +1,4 @@
-//! What a pass finds for the nodes of a tree over blocks.
+//! The values of the nodes of a tree over blocks.
 ghost use Rattle.std.specs.Prelude.{◌≡◌, ◌+◌, ◌*◌, ◌<◌, ℕ, IfOk};
 ghost use Rattle.qh_model.specs.contract.BoardMachine.{InSpan};
 
@@ -19,14 +19,14 @@ impl From<Memory> for GivesUp {
 /// When a pass claimed a block.
 #[derive(Clone, Copy, Debug, PartialEq, Eq, Drop)]
 pub(crate) enum Claimed {
-    /// At its first claim, when it knows nothing of the blocks.
+    /// At its first claim, when the pass knows nothing about the blocks.
     First,
-    /// At a later claim, after it worked at other blocks and did not give up.
+    /// At a later claim, after the pass worked on other blocks and did not give up.
     Later,
 }
 
-/// A reduction over blocks: what is found for a block, and for an inner node from what was found for
-/// its children. A value is right for a node where it is right for the blocks of its span.
+/// A reduction over blocks: the value of a block, and the value of an inner node, combined from those of its children.
+/// A value is right for a node if it is right for the blocks of its span.
 pub(crate) trait Reduction: Spans {
     // The number of blocks.
     ghost count: { Self → ℕ };
@@ -35,14 +35,12 @@ pub(crate) trait Reduction: Spans {
     fn blocks(&self) -> u32
         ensures { result ≡ Self.count self.now };
 
-    /// Returns what is found for a block. Of the first block of a pass a sample may tell that the pass
-    /// gives up.
+    /// Returns the value of a block. For the first block of a pass, a sample may decide that the pass gives up.
     fn reduce(&self, alloc: Global, block: u32, claimed: Claimed) -> Result<Self::Value, GivesUp>
         requires { block < Self.count self.now }
         ensures { IfOk result (Self.right self.now (InSpan (Self.count self.now) (Self.count self.now + block))) };
 
-    /// Returns what is found for an inner node, from the values of its even child and of its odd
-    /// child.
+    /// Returns the value of an inner node, from the values of its even child and of its odd child.
     fn combine(
         &self,
         alloc: Global,

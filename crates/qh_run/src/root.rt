@@ -17,9 +17,9 @@ use qh_model::{Id, Point};
 use std::alloc::Global;
 use std::thread::Threads;
 
-/// Closes a board whose passes have all been worked to their ends, and returns the value of its root.
+/// Closes a board whose passes have all ended, and returns the value of its root.
 ///
-/// There is one exactly if no pass gave up: a pass that left was told that all blocks are claimed.
+/// There is a value exactly if no pass gave up: a pass leaves only after all blocks are claimed.
 fn root_of<S: Spans>(board: Board<S>, lefts: Vec<Left<S>>) -> Option<S::Value>
     requires some { 0 < length lefts.items }
     requires all { length lefts.items ≡ board.setup.passes }
@@ -30,8 +30,8 @@ fn root_of<S: Spans>(board: Board<S>, lefts: Vec<Left<S>>) -> Option<S::Value>
     board.close(lefts).into_root()
 }
 
-/// Makes a board of the spans' blocks, works its passes side by side, and returns what is right for
-/// all blocks, or `None` where a pass gave up.
+/// Makes a board for the blocks of the spans and runs its passes in parallel. Returns the value that is right for all
+/// blocks, or `None` if a pass gave up.
 fn reduced<S: Reduction, R: Threads + Sync, G: Gate>(
     rt: &R,
     alloc: Global,
@@ -48,8 +48,8 @@ fn reduced<S: Reduction, R: Threads + Sync, G: Gate>(
     Ok(root_of(board, lefts))
 }
 
-/// Returns the extreme ids of a set, as the workers find them in its blocks, or `None` where one gave up. No more
-/// workers than blocks work.
+/// Returns the extreme ids of a set, as the workers find them in its blocks, or `None` if a worker gave up. There are
+/// no more workers than blocks.
 fn root_ids<R: Threads + Sync, G: Gate>(
     rt: &R,
     alloc: Global,
@@ -68,8 +68,9 @@ fn root_ids<R: Threads + Sync, G: Gate>(
     }
 }
 
-/// Returns ids that stand for those that the interior filter left: the extreme ones, as the workers find them in the
-/// blocks, or all of them where a worker gave up. `None` says that an allocation for the board or a thread failed.
+/// Returns ids whose hull is that of the ids that remain after the interior filter: the extreme ones, as the workers
+/// find them in the blocks, or all remaining ids if a worker gave up. Returns `None` if an allocation for the board or
+/// a thread failed.
 fn ids_of_left<R: Threads + Sync, G: Gate>(
     rt: &R,
     alloc: Global,
@@ -97,11 +98,12 @@ fn ids_of_left<R: Threads + Sync, G: Gate>(
     }
 }
 
-/// Returns ids that stand for those of a set: the extreme ones, as the workers find them in its blocks, each without the
-/// points that the interior filter removes; where a worker gave up, all that the filter leaves.
+/// Returns ids whose hull is that of a set's ids: the extreme ones, as the workers find them in its blocks, each
+/// without the points that the interior filter removes. If a worker gave up, returns all ids that remain after the
+/// filter.
 ///
-/// `None` says that a worker gave up and the filter removes nothing, or that an allocation for the filter, the board or a
-/// thread failed.
+/// Returns `None` if a worker gave up and the filter removes nothing, or if an allocation for the filter, the board or
+/// a thread failed.
 pub(crate) fn ids_by_tree<R: Threads + Sync, G: Gate>(
     rt: &R,
     alloc: Global,

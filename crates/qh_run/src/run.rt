@@ -37,8 +37,7 @@ impl From<Memory> for RunError {
     }
 }
 
-/// Takes the hull of a job's ids, by the gate's `finish`: of ids that stand for them, or of all ids where there are
-/// no others.
+/// Takes the hull of a job's ids by the gate's `finish`: of ids with the same hull, if there are any, else of all ids.
 fn finished<G: Gate>(
     alloc: Global,
     pts: &[Point],
@@ -62,22 +61,20 @@ fn finished<G: Gate>(
 /// Returns the hull of a list of points. Blocks with few ids left after the interior filter are put together, and a pass
 /// gives up where the tree does not pay.
 ///
-/// `ids` are its distinct ids, rising, as `qh_plane::distinct` gives them, and `cut` a cut of their
-/// positions, whose number is that of the ids; the list has at most `POINT_LIMIT` points. These are the caller's
-/// conditions.
+/// `ids` are its distinct ids, rising, as `qh_plane::distinct` returns them, and `cut` is a cut of their positions,
+/// whose number is that of the ids. The list has at most `POINT_LIMIT` points. The caller ensures these conditions.
 ///
-/// The calling thread filters a large set first: it removes points that it finds inside from the
-/// blocks (`qh_block::cull_interior`), and joins a block with few ids left to those after it. The workers share the
-/// blocks, no more workers than blocks, and the gate learns of each. Then the calling thread calls the
-/// gate's `finish` once: with the extreme ids that came out of all blocks; where a worker gave up, with
-/// the ids that the filter left; where an allocation for the filter, the board or a thread failed, with all
-/// ids. The answer does not depend on the cut, nor on the number of workers or the order of their steps.
+/// The calling thread filters a large set first: it removes interior points from the blocks
+/// (`qh_block::cull_interior`), and joins a block with few remaining ids to those after it. The workers share the
+/// blocks, at most one worker for each block, and the gate is notified of each block. Then the calling thread calls the
+/// gate's `finish` once: with the extreme ids of all blocks; if a worker gave up, with the ids that remain after the
+/// filter; if an allocation for the filter, the board or a thread failed, with all ids. The result does not depend on
+/// the cut, nor on the number of workers or the order of their steps.
 ///
 /// # Errors
 ///
-/// `BadWorkers` for a number of workers that is not from 1 to `WORKER_LIMIT`, before all else;
-/// `Memory` exactly where the gate's `finish` says so: another allocation that fails costs the help of
-/// the workers and no more.
+/// `BadWorkers` for a number of workers that is not from 1 to `WORKER_LIMIT`, before all other errors; `Memory` exactly
+/// if the gate's `finish` returns it. Any other allocation that fails only costs the help of the workers.
 pub fn run_hull<R: Threads + Sync, G: Gate>(
     rt: &R,
     alloc: Global,

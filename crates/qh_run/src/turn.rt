@@ -1,8 +1,8 @@
-//! How a pass's turn at a block ends.
+//! The end of a pass's turn at a block.
 
 use qh_board::{Left, Pass, Spans};
 
-/// How a pass's turn at a block ends: it may claim again, or it gave up.
+/// The end of a pass's turn at a block: the pass may claim again, or it gave up.
 #[derive(Drop)]
 pub(crate) enum Turn<S: Spans> {
     Ended(Pass<S>),

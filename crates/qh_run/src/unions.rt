@@ -1,4 +1,4 @@
-//! Two lists of ids as one.
+//! The union of two lists of ids.
 ghost use Rattle.std.specs.Prelude.{◌↔◌, ◌⊎◌, ℕ, IfOk};
 ghost use Rattle.std.specs.List.Sorted.{IsStrictlyIncreasing};
 ghost use Rattle.qh_model.specs.headline.Sets.{In};

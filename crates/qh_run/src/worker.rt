@@ -1,4 +1,4 @@
-//! What one pass does.
+//! The work of one pass.
 ghost use Rattle.std.specs.Prelude.{◌≡◌, ◌+◌, ◌<◌, ℕ, Some, true};
 ghost use Rattle.qh_model.specs.contract.Cut.{block_count};
 ghost use Rattle.qh_board.specs.declared.view.Mark.TheVariants as marks;
@@ -12,8 +12,8 @@ use crate::turn::Turn;
 use qh_board::{Board, Claim, Delivered, Left, Pass, Task};
 use std::alloc::Global;
 
-/// Climbs the tree after a delivery: wherever the pass arrived second, it combines the values of both
-/// children and delivers the parent's.
+/// Climbs the tree after a delivery: at each node where the pass arrived second, it combines the values of both
+/// children and delivers the parent's value.
 fn climb<S: Reduction>(alloc: Global, board: &Board<S>, answer: Delivered<S>) -> Turn<S>
     requires answer { IsAnswerOf S.right board.now answer }
     requires blocks { board.now.setup.blocks ≡ S.count board.now.setup.spans }
@@ -34,7 +34,7 @@ fn climb<S: Reduction>(alloc: Global, board: &Board<S>, answer: Delivered<S>) ->
     }
 }
 
-/// Works at a claimed block: reduces it, delivers its value, and climbs the tree.
+/// Processes a claimed block: reduces it, delivers its value, and climbs the tree.
 fn take_turn<S: Reduction, G: Gate>(
     alloc: Global,
     board: &Board<S>,
@@ -60,8 +60,8 @@ fn take_turn<S: Reduction, G: Gate>(
     }
 }
 
-/// Works a pass to its end, for whatever is reduced. Each claim finds more claims than the one before. A pass that
-/// is over already leaves at once.
+/// Runs a pass to its end, for any reduction. Each claim finds more claims than the one before. A pass that is over
+/// already leaves at once.
 pub(crate) fn run_pass<S: Reduction, G: Gate>(
     alloc: Global,
     board: &Board<S>,
@@ -90,15 +90,14 @@ pub(crate) fn run_pass<S: Reduction, G: Gate>(
     }
 }
 
-/// Works a pass of a board to its end: claims blocks, delivers their extreme ids, and wherever it came
-/// second takes the extreme ids of what both children have. It leaves once all blocks are claimed, and at
+/// Runs a pass of a board to its end: it claims blocks and delivers their extreme ids, and at each node where it
+/// arrived second it takes the extreme ids of what both children have. It leaves once all blocks are claimed, and at
 /// once if it knows that already.
 ///
 /// The board's blocks are those of the job's cut.
 ///
-/// The pass gives up where an allocation failed, and at a node whose blocks have at least
-/// `qh_block::TELLING` ids of which more than half are extreme; the first ids of its first block
-/// tell that of the block.
+/// The pass gives up if an allocation failed, and at a node whose blocks have at least `qh_block::TELLING` ids of which
+/// more than half are extreme. For its first block, it tests this with the first ids of the block.
 pub fn work<'a, G: Gate>(
     alloc: Global,
     board: &Board<Job<'a>>,
@@ -110,7 +109,7 @@ pub fn work<'a, G: Gate>(
     ensures board { IsOf board.now result }
     ensures number { result.pass.number ≡ pass.entry.pass.number }
 
-    // A pass that left was answered Over, here or before: its last claim found all blocks claimed.
+    // A pass that left was answered `Over`, here or before: its last claim found all blocks claimed.
     ensures over { result.pass.mark ≡ Some marks.Left → result.pass.over ≡ true }
     ensures all_claimed { result.pass.mark ≡ Some marks.Left → board.now.setup.blocks < result.pass.claims }
 {

@@ -1,4 +1,4 @@
--- What the answer needs of the hull.
+-- Properties of the hull that the answer needs.
 use Rattle.std.proofs.Common.{◌<◌, List, length, get_or, All}
 use Rattle.std.proofs.lemmas.List.Elements.{All-from_get_or}
 use Rattle.qh_model.specs.headline.Hull.{HullValue, IsHull}

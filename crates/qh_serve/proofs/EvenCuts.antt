@@ -1,4 +1,4 @@
--- How much an even cut cuts.
+-- The number of positions of an even cut.
 use Rattle.std.proofs.Common.{◌≡◌, ℕ, ◌<◌, List, arith}
 use Rattle.std.proofs.lemmas.Grind.{div_ceil_times}
 use Rattle.qh_model.specs.contract.Cut.{IsEvenCut, blocks_of, positions}

@@ -1,3 +1,3 @@
--- What else the contracts of public functions cite.
+-- Further definitions that the contracts of public functions cite.
 pub mod FaultLines
 pub mod Ranges

@@ -1,4 +1,4 @@
--- What a reader of the headline must believe.
+-- Definitions that a reader of the headline has to believe.
 pub mod Answers
 pub mod Serving
 pub mod SettingsValue

@@ -24,8 +24,8 @@ use qh_write::{Pieces, text_in_threads};
 use std::alloc::Global;
 use std::thread::Threads;
 
-/// Returns the cut of `positions` positions into blocks of the wanted size, or of a greater one where
-/// these would be too many.
+/// Returns the cut of `positions` positions into blocks of the wanted size, or of a greater one if there would be too
+/// many blocks.
 fn even_cut(alloc: Global, count: u32, wanted: u32) -> Result<Cut, Memory>
     requires some { 0 < count }
     requires few { count ≤ POINT_LIMIT }
@@ -42,7 +42,7 @@ fn even_cut(alloc: Global, count: u32, wanted: u32) -> Result<Cut, Memory>
     }
 }
 
-/// Returns the hull of the points as they are, by the number of workers in the settings, watched by the gate.
+/// Returns the hull of the points without a map, with the number of workers in the settings, observed by the gate.
 fn hull_as_given<R: Threads + Sync, G: Gate>(
     rt: &R,
     alloc: Global,
@@ -65,7 +65,7 @@ fn hull_as_given<R: Threads + Sync, G: Gate>(
     }
 }
 
-/// Returns the hull of the points, as `hull_as_given` does: that of images of the points where a map pays.
+/// Returns the hull of the points, as `hull_as_given` does, but of images of the points where a map pays.
 fn hull_of<R: Threads + Sync, G: Gate>(
     rt: &R,
     alloc: Global,
@@ -87,7 +87,7 @@ fn hull_of<R: Threads + Sync, G: Gate>(
     }
 }
 
-/// Returns the texts of the outputs that the settings ask for, by the hull of the points.
+/// Returns the texts of the outputs in the settings, from the hull of the points.
 fn hull_text_of<R: Threads + Sync, G: Gate>(
     rt: &R,
     alloc: Global,
@@ -106,10 +106,10 @@ fn hull_text_of<R: Threads + Sync, G: Gate>(
     text_in_threads(rt, alloc, &hull, pts, settings.outs(), settings.threads())
 }
 
-/// Returns the texts of the outputs that the settings ask for, of at least one point and at most
-/// `POINT_LIMIT` points. Neither the number of workers nor the size of blocks changes them.
+/// Returns the texts of the outputs in the settings, for at least one point and at most `POINT_LIMIT` points. Neither
+/// the number of workers nor the size of blocks changes them.
 ///
-/// Outputs that are all the rank need no hull, so the gate is not called. For others it is told of the
+/// If all outputs are the rank, no hull is needed, and the gate is not called. Else the gate is notified of the
 /// workers' blocks, and takes the hull at the end of their run.
 ///
 /// # Errors
@@ -134,7 +134,7 @@ pub(crate) fn text_of<R: Threads + Sync, G: Gate>(
     hull_text_of(rt, alloc, pts, &ids, settings, gate)
 }
 
-/// Returns the points in the input, or its first fault, read by the threads of the settings.
+/// Returns the points in the input, or its first fault, read by the threads in the settings.
 fn points_in<R: Threads + Sync>(
     rt: &R,
     alloc: Global,
@@ -154,14 +154,14 @@ fn points_in<R: Threads + Sync>(
     read_form_threads(rt, alloc, threads, settings.form(), &mut source)
 }
 
-/// Returns the texts that the settings ask for, of the points in the input: the one text that the points alone
-/// define.
+/// Returns the texts of the outputs in the settings, for the points in the input. The points alone define these texts.
 ///
-/// The threads of the settings read. The gate is told of the workers' blocks, and takes the hull at the end of their run. Outputs that are all the rank need no hull: the gate is not called then.
+/// The input is read by the threads in the settings. The gate is notified of the workers' blocks, and takes the hull at
+/// the end of their run. If all outputs are the rank, no hull is needed, and the gate is not called.
 ///
-/// The fault is the first of the input, or out of memory. `Big` goes before all other faults, out of
-/// memory too. `answer` never answers that a device failed, that the text could not be sent or that a
-/// command line is invalid.
+/// The fault is the first fault of the input, or out of memory. `Big` takes precedence over all other faults, including
+/// out of memory. `answer` never reports that a device failed, that the text could not be sent or that a command line
+/// is invalid.
 pub fn answer<R: Threads + Sync, G: Gate>(
     rt: &R,
     alloc: Global,

@@ -9,7 +9,7 @@ use qh_read::ReadFault;
 use qh_write::SendFault;
 use std::fmt;
 
-/// Why the program gave no answer. Its text is the line on standard error, without its end.
+/// Why the program failed. The text of a fault is its line on standard error, without the line end.
 #[derive(Clone, Copy, Debug, PartialEq, Eq)]
 pub enum Fault {
     /// 1 to 10, and 14: the input could not be read, or an allocation failed.

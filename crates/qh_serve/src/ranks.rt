@@ -1,6 +1,6 @@
 //! The text of outputs that are all the rank.
 //!
-//! It tells three numbers and needs no hull. That the points have a hull with these numbers is the law
+//! The rank consists of three numbers and needs no hull. The points have a hull with these numbers by the law
 //! `qh_laws::existence::every_list_has_a_text`.
 ghost use Rattle.std.specs.Prelude.{◌≡◌, ◌↔◌, ◌≤◌, ◌<◌, All, IfOk, IsTrue, length};
 ghost use Rattle.qh_model.specs.declared.limits.TheConstants.{POINT_LIMIT};
@@ -33,7 +33,7 @@ pub(crate) fn rank_text(
     requires ranks { All (λ out. out ≡ Rank) outs.now }
     ensures { IfOk result (λ t. IsText pts.now outs.now t.items) }
 {
-    // The three numbers of the hull; no output asks for its lists.
+    // The three numbers of the hull; its lists do not matter for the rank.
     let numbers = Hull {
         given: pts.len() as u32,
         distinct: ids.len() as u32,

@@ -13,14 +13,14 @@ use qh_write::{Sink, send_pieces};
 use std::alloc::Global;
 use std::thread::Threads;
 
-/// Reads points from the source to its end and sends the texts that the settings ask for.
+/// Reads points from the source to its end and sends the texts of the outputs in the settings.
 ///
-/// The threads of the settings read. Nothing is sent before the whole text is made. The answer
-/// tells what the devices did: the table of `IsServed` and `IsServeFault` has a line for each. After a
-/// failure neither device is called again. The gate is told of the workers' blocks, and takes the hull at the
-/// end of their run. Outputs that are all the rank need no hull: the gate is not called then.
+/// The input is read by the threads in the settings. Nothing is sent before the whole text is made. The result
+/// describes the state of the devices: the table of `IsServed` and `IsServeFault` has a line for each. After a failure
+/// neither device is called again. The gate is notified of the workers' blocks, and takes the hull at the end of their
+/// run. If all outputs are the rank, no hull is needed, and the gate is not called.
 ///
-/// Out of memory is answered only where the source gave at most `BYTE_LIMIT` bytes: `Big` comes first.
+/// Out of memory is reported only if the source had at most `BYTE_LIMIT` bytes: `Big` takes precedence.
 pub fn serve<R: Threads + Sync, S: Source, K: Sink, G: Gate>(
     rt: &R,
     alloc: Global,

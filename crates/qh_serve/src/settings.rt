@@ -10,10 +10,10 @@ use thiserror::Error;
 /// The greatest block size: all points in one block.
 pub const BLOCK_SIZE_LIMIT: u32 = POINT_LIMIT;
 
-/// How the input is to be read, how the hull is to be made, and which outputs are to be written.
+/// How the input is read, how the hull is computed, and which outputs are written.
 ///
-/// A contract sees settings as their number of workers, block size, list of outputs and form of the input. The number of
-/// threads changes no answer.
+/// A contract sees settings as their number of workers, block size, list of outputs and form of the input. The number
+/// of threads changes no answer.
 #[derive(Debug, Drop)]
 pub struct Settings {
     workers: u32,
@@ -53,8 +53,7 @@ impl Settings {
 
     /// Creates settings with these workers, block size and outputs, for an input of this form.
     ///
-    /// If several errors apply, the first in the order of `SettingsError` is returned; the allocation
-    /// comes last.
+    /// If several errors apply, the first in the order of `SettingsError` is returned; the allocation is the last step.
     pub fn new(
         alloc: Global,
         workers: u32,
@@ -84,8 +83,8 @@ impl Settings {
         })
     }
 
-    /// Returns the same settings for a system with this number of processors: no phase but that of the workers starts
-    /// more threads.
+    /// Returns the same settings, limited to this number of processors: no phase except the workers' starts more
+    /// threads.
     pub fn on_processors(self, processors: usize) -> Settings
         ensures { result ≡ self }
     {
@@ -93,14 +92,14 @@ impl Settings {
         Settings { threads, ..self }
     }
 
-    /// Returns the number of threads that share a phase other than that of the workers, from 1 to `WORKER_LIMIT`.
+    /// Returns the number of threads that share each phase except the workers', from 1 to `WORKER_LIMIT`.
     pub fn threads(&self) -> u32
         ensures { IsWorkers result }
     {
         self.threads
     }
 
-    /// Returns the number of workers that make the hull, from 1 to `WORKER_LIMIT`.
+    /// Returns the number of workers that compute the hull, from 1 to `WORKER_LIMIT`.
     pub fn workers(&self) -> u32
         ensures value { result ≡ self.now.workers }
         ensures range { IsWorkers result }

@@ -1,4 +1,4 @@
--- Chains of positions: how often a position stands in them, and what a write to one link leaves of them.
+-- Chains of positions: the number of times that a position occurs in them, and the chains after a write to one link.
 use Rattle.std.proofs.Common.{◌≡◌, ℕ, zero, suc, ◌+◌, ◌<◌, ◌≤◌, arith, sym, refl, List, [], ◌∷◌, ◌++◌, length, subst, get_or, set}
 use Rattle.std.proofs.Common.{length-set, sum_by, eq-eqb, lt-ltb, le-ltb}
 use Rattle.std.proofs.lemmas.Bool.Decides.{nat_tests}
@@ -15,7 +15,7 @@ pub count-append : (x : ℕ) (xs ys : List ℕ) → count x (xs ++ ys) ≡ count
 count-append x [] ys = omega arith
 count-append x (y ∷ xs) ys = let e = count-append x xs ys in omega arith
 
--- the last of a list stands in it
+-- the last of a list is in it
 pub last_in : (x : ℕ) (xs : List ℕ) (l : ℕ) → IsLast (x ∷ xs) l → 1 ≤ count l (x ∷ xs)
 last_in x [] l e = let a = count_at l x [] e in omega arith
 last_in x (y ∷ ys) l e = let a = last_in y ys l e in omega arith
@@ -26,11 +26,11 @@ pub last_within : (links : List ℕ) (p x l : ℕ) (xs : List ℕ) → IsChain l
 last_within links p x l [] c e = let h = c.1 in omega (arith, e)
 last_within links p x l (y ∷ ys) c e = last_within links (get_or links x 0) y l ys c.2 e
 
--- the link of the first leads to the others
+-- the link of the first position leads to the others
 pub next : (links : List ℕ) (p p' x : ℕ) (xs : List ℕ) → IsChain links p (x ∷ xs) → p' ≡ get_or links p p' → IsChain links p' xs
 next links p p' x xs c r = grind (arith, common_steps, c, r)
 
--- what is read off a chain, given enough steps, is the chain
+-- reading a chain, with enough steps, returns the chain
 pub chain_is : (links : List ℕ) (n p : ℕ) (xs : List ℕ) → IsChain links p xs → length xs ≤ n → chain_from links n p ≡ xs
 unfolding chain_from
 chain_is links zero p [] c h = refl
@@ -42,17 +42,17 @@ chain_is links (suc n) p (x ∷ xs) c h =
 
 -- after a write to the link of y
 module _ (links : List ℕ) (y v : ℕ) where
-  -- a chain without y stays
+  -- a chain without y does not change
   pub chain_kept : (p : ℕ) (xs : List ℕ) → count y xs ≡ 0 → IsChain links p xs → IsChain (set links y v) p xs
   chain_kept p [] n c = rw (length-set links y v) c
   chain_kept p (x ∷ xs) n c = let r = chain_kept (get_or links x 0) xs in grind (arith, common_steps, nat_tests, n, c, r)
 
-  -- y stands in front of the chain from v on
+  -- y in front of the chain from v
   pub chain_front : (p x : ℕ) (xs : List ℕ) → y ≡ x → p ≡ x → y < length links → count y xs ≡ 0 → IsChain links v xs
       → IsChain (set links y v) p (x ∷ xs)
   chain_front p x xs e q h n c = let r = chain_kept v xs in grind (arith, common_steps, e, q, h, n, c, r)
 
-  -- the chain from v on stands behind a chain with the last y
+  -- the chain from v behind a chain with the last position y
   pub chain_joined : (p x : ℕ) (xs ys : List ℕ) → count y (x ∷ xs) ≤ 1 → IsLast (x ∷ xs) y
       → IsChain links p (x ∷ xs) → IsChain (set links y v) v ys → IsChain (set links y v) p ((x ∷ xs) ++ ys)
   chain_joined p x [] ys o e c d = grind (arith, common_steps, e, c, d)
@@ -70,14 +70,14 @@ set_at (suc f) e h r (one_more s k) = set_at f e (omega arith) r k
 
 -- new links, which keep each chain without y
 module _ {links links' : List ℕ} (y : ℕ) (frame : (p : ℕ) (xs : List ℕ) → count y xs ≡ 0 → IsChain links p xs → IsChain links' p xs) where
-  -- sets without y stay
+  -- sets without y do not change
   pub sets_kept : {es : List Ends} {xss : List (List ℕ)} → sum_by (count y) xss ≡ 0 → AreSets links es xss → AreSets links' es xss
   sets_kept n no_sets = no_sets
   sets_kept n (one_more {e} {xs = xs} {xss} s k) =
       let a = sum_by-cons (count y) xs xss in
       one_more (frame e.first xs (omega arith) s.0, s.1) (sets_kept (omega arith) k)
 
-  -- and if y stands in at most one set, this set may change
+  -- if y is in at most one set, only this set may change
   pub sets_put : {es : List Ends} {xss : List (List ℕ)} (f : ℕ) (e : Ends) (xs : List ℕ) → f < length xss
       → sum_by (count y) xss ≤ count y (get_or xss f []) → IsSet links' e xs → AreSets links es xss
       → AreSets links' (set es f e) (set xss f xs)

@@ -1,4 +1,4 @@
--- A walk that went over all its facets found all that the apex sees.
+-- A walk over all its facets found all facets that the apex sees.
 use Rattle.std.proofs.Common.{◌≡◌, ℕ, arith, sym, ◌∙◌, Bool, false, List, subst, inl, inr, ℤ, pos, ◌<ℤ◌}
 use Rattle.std.proofs.lemmas.Int.{by_lt_z}
 use Rattle.qh_model.specs.headline.{Vector.Vector, Sets.In}
@@ -16,7 +16,7 @@ use Rattle.qh_model.proofs.Members.{All-In, in_at}
 use Rattle.qh_surface.specs.contract.Walks.{mark_at, IsMarked, IsCrossed, IsWalkFrom}
 use Rattle.qh_surface.specs.steps.Planes.{plane_at, ArePlanes}
 
--- what a walk tells of the facets that it found, and of their neighbours
+-- the facts about the facets that a walk found and about their neighbours
 module _ (P : ℕ → Type 0) (fs : List StoredFacet) (before after : List Bool) (f : ℕ) (vs : List ℕ)
     (w : IsWalkFrom P fs before after f vs) where
   pub found_live : (g : ℕ) → In g vs → IsLive fs g
@@ -38,7 +38,7 @@ module _ (P : ℕ → Type 0) (fs : List StoredFacet) (before after : List Bool)
 abbrev pub IsSeen : (ℕ → Vector) → List PlaneValue → ℕ → ℕ → Type 0
 IsSeen at ps l g = pos 0 <ℤ height (plane_at ps g) (at l)
 
--- a walk over them, where no facet had a mark
+-- a walk over them, if no facet had a mark
 module _ (at : ℕ → Vector) (fs : List StoredFacet) (ps : List PlaneValue) (o : Weighted) (l f : ℕ) (before after : List Bool)
     (vs : List ℕ) (a : ArePlanes at fs ps) (z : IsSoundMesh at fs o) (none : (g : ℕ) → mark_at before g ≡ false)
     (w : IsWalkFrom (IsSeen at ps l) fs before after f vs) where
@@ -70,7 +70,7 @@ module _ (at : ℕ → Vector) (fs : List StoredFacet) (ps : List PlaneValue) (o
     grows = λ g i s h t. in_listed vs (m.over g s) (grows g i s (listed_in vs g h) t);
   }
 
-  -- found all that it sees
+  -- the walk found all facets that the apex sees
   pub finds_all : AreVisible at fs vs l
   finds_all = record {
     some = (let r = (in_at vs f w.start).1 in omega arith);

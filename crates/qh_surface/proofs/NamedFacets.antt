@@ -8,7 +8,7 @@ use Rattle.qh_surface.specs.declared.named_mesh.NamedMesh.{NamedMesh}
 use Rattle.qh_surface.specs.contract.NamedMeshes.{named}
 
 module _ (n : NamedMesh) where
-  -- the mesh over ids is that over positions with the names of these
+  -- the mesh over ids is the mesh over positions with renamed corners
   pub names : IsNamed (surface_of n.mesh) (surface_of (named n)) (name_in n.ids.items)
   names = stored_named (name_in n.ids.items) n.mesh
 
@@ -16,6 +16,6 @@ module _ (n : NamedMesh) where
   pub named_live : (f : ℕ) → IsLive n.mesh f → IsLive (named n) f
   named_live f l = (live_is_marked (named n) f).0 (subst (In f) (sym names.live) ((live_is_marked n.mesh f).1 l))
 
-  -- and one that is live over ids was so before
+  -- a facet that is live over ids is live over positions
   pub live_before : (f : ℕ) → IsLive (named n) f → IsLive n.mesh f
   live_before f l = (live_is_marked n.mesh f).0 (subst (In f) names.live ((live_is_marked (named n) f).1 l))

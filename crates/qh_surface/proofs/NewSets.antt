@@ -1,4 +1,4 @@
--- Outside sets as they begin, and with room for more facets.
+-- Outside sets at the start, and with room for more facets.
 use Rattle.std.proofs.Common.{◌≡◌, ℕ, zero, suc, ◌+◌, ◌<◌, ◌≤◌, arith, refl, List, [], ◌++◌, length, get_or, replicate, take, take_all}
 use Rattle.std.proofs.Common.{sum_by, ne_eqb}
 use Rattle.std.specs.List.{range_with_len}
@@ -13,7 +13,7 @@ range_below : (x a n : ℕ) → x < a → count x (range_with_len a n) ≡ 0
 range_below x a zero h = refl
 range_below x a (suc n) h = let b = range_below x (a + 1) n (omega arith) in rw (ne_eqb x a (λ e. omega arith)) (omega arith)
 
--- and each other once at most
+-- a range has each other number at most once
 range_once : (x a n : ℕ) → count x (range_with_len a n) ≤ 1
 range_once x a zero = omega arith
 range_once x a (suc n) = let h = range_once x (a + 1) n in let b = range_below x (a + 1) n in grind (arith, nat_tests)
@@ -40,14 +40,14 @@ no_ends = record { first = 4294967295; last = 4294967295 }
 abbrev no_positions : List ℕ
 no_positions = []
 
--- empty sets weigh nothing
+-- empty sets contribute nothing to a count
 pub room_sum : (weight : List ℕ → ℕ) → weight [] ≡ 0 → (xss : List (List ℕ)) (n : ℕ)
     → sum_by weight (xss ++ replicate n []) ≡ sum_by weight xss
 room_sum weight e xss n =
     let none = rw e at (sum_by-replicate {X = List ℕ} weight n no_positions) in
     omega (arith, sum_by-append weight xss (replicate n no_positions), none)
 
--- empty sets behind the others
+-- empty sets after the others
 more_sets : {links : List ℕ} {es : List Ends} {xss : List (List ℕ)} (n : ℕ) → length links ≤ none → AreSets links es xss
     → AreSets links (es ++ replicate n no_ends) (xss ++ replicate n [])
 more_sets zero h no_sets = no_sets

@@ -1,4 +1,4 @@
--- What links, ends and a first orphan stand for, and what each call leaves of it.
+-- The value that links, ends and a first orphan represent, and its change by each call.
 use Rattle.std.proofs.Common.{◌≡◌, ◌≢◌, ℕ, ◌+◌, ◌<◌, ◌≤◌, arith, ap, sym, ◌∙◌, refl, false, subst, List, [], ◌∷◌, ◌++◌, length}
 use Rattle.std.proofs.Common.{length-append, drop, drop-cons, map, get_or, set, length-set, sum_by}
 use Rattle.std.proofs.lemmas.List.{length-map}
@@ -11,14 +11,14 @@ use Rattle.qh_surface.proofs.Chains.{count_at, count-append, last_in, last_withi
 use Rattle.qh_surface.proofs.Chains.{chain_joined, set_at, sets_kept, sets_put}
 
 -- ---- the value
--- sets that are held are those that are read off
+-- the stored sets are those that are read
 sets_is : {links : List ℕ} {es : List Ends} {xss : List (List ℕ)} (n : ℕ) → AreSets links es xss → sum_by length xss ≤ n
     → map (λ (e : Ends). chain_from links n e.first) es ≡ xss
 sets_is n no_sets h = refl
 sets_is {links} n (one_more {e} {xs = xs} {xss} s k) h =
     let a = sum_by-cons length xs xss in λ i. chain_is links n e.first xs s.0 (omega arith) i ∷ sets_is n k (omega arith) i
 
--- so what is seen of fields is what they hold
+-- so the value of the fields is the stored value
 pub value_is : {links : List ℕ} {es : List Ends} {o : ℕ} {os : List ℕ} {xss : List (List ℕ)} → IsKept links es o os xss
     → value_of links es o ≡ record { positions = length links; orphans = os; sets = xss }
 unfolding value_of
@@ -26,7 +26,7 @@ value_is {links} {es} {o} {os} {xss} k =
     let t = k.total in let a = chain_is links (length links) o os k.chain (omega arith) in
     let b = sets_is (length links) k.sets_are (omega arith) in λ i. record { positions = length links; orphans = a i; sets = b i }
 
--- ---- a chain by its first: a position, or it is empty
+-- ---- a chain by its first: either a position, or the chain is empty
 some_from : (links : List ℕ) (p : ℕ) (xs : List ℕ) → IsChain links p xs → p < length links → xs ≡ p ∷ drop 1 xs
 some_from links p [] c h = absurd (omega (arith, c))
 some_from links p (x ∷ xs) c h = ap (λ t. t ∷ xs) (sym c.0)
@@ -57,7 +57,7 @@ module _ {links : List ℕ} {es : List Ends} {o : ℕ} {now : OutsideValue} (k :
   pub no_orphans : now.orphans ≡ [] → now.positions ≤ o
   no_orphans e = let c = subst (IsChain links o) e kept.chain in omega (arith, positions_are)
 
-  -- with an orphan
+  -- a value with an orphan
   pub kept_some : 0 < length now.orphans → IsKept links es o (get_or now.orphans 0 0 ∷ drop 1 now.orphans) now.sets
   kept_some h = subst (λ (t : List ℕ). IsKept links es o t now.sets) (drop-cons now.orphans 0 0 h) kept
 
@@ -75,13 +75,13 @@ module _ {links : List ℕ} {es : List Ends} {o : ℕ} {now : OutsideValue} (k :
     pub last_in_links : (p : ℕ) (xs : List ℕ) → set_of now f ≡ p ∷ xs → e.last < length links
     last_in_links p xs s = let c = subst (IsSet links e) s set_in in last_within links e.first p e.last xs c.0 c.1
 
-  -- what it is after a call
+  -- the value after a call
   module _ {links' : List ℕ} {es' : List Ends} {o' : ℕ} {os : List ℕ} (n : length links' ≡ length links) where
     pub value_after : {xss : List (List ℕ)} → IsKept links' es' o' os xss
         → value_of links' es' o' ≡ record { positions = now.positions; orphans = os; sets = xss }
     value_after {xss} k' = value_is k' ∙ (λ i. record { positions = (n ∙ positions_are) i; orphans = os; sets = xss })
 
-    -- where f has another set
+    -- the value if f has another set
     pub answered : (f : ℕ) (xs : List ℕ) → IsKept links' es' o' os (set now.sets f xs) → f < length now.sets
         → length os + length xs ≡ length now.orphans + length (set_of now f)
         → record {
@@ -94,22 +94,22 @@ module _ {links : List ℕ} {es : List Ends} {o : ℕ} {now : OutsideValue} (k :
         let e = value_after k' in let a = ap listed e in let s = sum_by-set length now.sets f xs [] h in
         record { orphans = λ i. (e i).orphans; sets = λ i. (e i).sets; positions = λ i. (e i).positions; listed = omega arith }
 
--- what is known of the fields
+-- the facts about the fields
 pub ruleset field_facts = (places_are, positions_are, orphans_some, orphans_none, no_orphans, set_some, set_none, last_in_links)
 
 -- ---- lasts after a call
--- the last without the first
+-- the last of a set without its first
 last_rest : (x : ℕ) (xs : List ℕ) (l : ℕ) → IsLast (x ∷ xs) l → IsLast xs l
 last_rest x [] l e = tt
 last_rest x (y ∷ ys) l e = e
 
--- with one more in front
+-- the last with one more position in front
 front_last : (links : List ℕ) (e : Ends) (x l : ℕ) (xs : List ℕ) → IsSet links e xs → (length links ≤ e.first → l ≡ x)
     → (e.first < length links → l ≡ e.last) → IsLast (x ∷ xs) l
 front_last links e x l [] c only last = grind (arith, c, only)
 front_last links e x l (y ∷ ys) c only last = grind (arith, c, last)
 
--- with one more behind the first
+-- the last with one more position behind the first
 second_last : (e : Ends) (x y l : ℕ) (xs : List ℕ) → e.first ≡ y → IsLast (y ∷ xs) e.last → count e.first xs ≡ 0
     → (e.first ≡ e.last → l ≡ x) → (e.first ≢ e.last → l ≡ e.last) → IsLast (y ∷ x ∷ xs) l
 second_last e x y l [] q c n alone last = alone (q ∙ sym c)
@@ -132,12 +132,12 @@ module _ {links : List ℕ} {es : List Ends} {o : ℕ} {os : List ℕ} {xss : Li
         once = λ y. omega (arith, k.once y, less y, sum_by-set (count y) xss f xs [] h);
       }
 
-  -- the set at f has the first p
+  -- p is the first position of the set at f
   module _ (e : Ends) (q : e ≡ get_or es f e) (p : ℕ) (xs : List ℕ) (s : get_or xss f [] ≡ p ∷ xs) where
     first_set : IsSet links e (p ∷ xs)
     first_set = subst (IsSet links e) s (set_at f e h q k.sets_are)
 
-    -- p goes
+    -- p is removed
     pub taken : (p' : ℕ) → p' ≡ get_or links p p' → IsKept links (set es f (record { first = p'; last = e.last })) o os (set xss f xs)
     taken p' r =
         let c = first_set in let a = count_at p p xs refl in let b = k.once p in let t = ap (count p) s in
@@ -146,7 +146,7 @@ module _ {links : List ℕ} {es : List Ends} {o : ℕ} {os : List ℕ} {xss : Li
         (next links p p' p xs (refl, c.0.1, c.0.2) r, last_rest p xs e.last c.1) k.sets_are)
         (λ y. omega (arith, ap (count y) s)) (omega (arith, ap length s))
 
-    -- all of it become orphans
+    -- all positions of the set become orphans
     pub released : (l : ℕ)
         → IsKept (set links e.last o) (set es f (record { first = none; last = l })) p (get_or xss f [] ++ os) (set xss f [])
     released l =
@@ -159,7 +159,7 @@ module _ {links : List ℕ} {es : List Ends} {o : ℕ} {os : List ℕ} {xss : Li
         (sets_put e.last (chain_kept links e.last o) f _ [] h (omega arith) (rw (length-set links e.last o) k.small, tt) k.sets_are)
         (λ y. omega (arith, count-append y (get_or xss f []) os)) (omega (arith, length-append (get_or xss f []) os))
 
--- the first orphan x goes
+-- the first orphan x is removed
 module _ {links : List ℕ} {es : List Ends} {o x : ℕ} {os : List ℕ} {xss : List (List ℕ)} (k : IsKept links es o (x ∷ os) xss)
     {o' : ℕ} (r : o' ≡ get_or links o o') where
   rest : IsChain links o' os
@@ -170,9 +170,9 @@ module _ {links : List ℕ} {es : List Ends} {o x : ℕ} {os : List ℕ} {xss : 
       let t = k.total in
       record { small = k.small; chain = rest; sets_are = k.sets_are; once = λ y. omega (arith, k.once y); total = omega arith }
 
-  -- into the set at f
+  -- x joins the set at f
   module _ {f : ℕ} (h : f < length xss) {e : Ends} (q : e ≡ get_or es f e) (e' : Ends) where
-    -- in front
+    -- x joins it in front
     pub put_front : e'.first ≡ o → (length links ≤ e.first → e'.last ≡ o) → (e.first < length links → e'.last ≡ e.last)
         → IsKept (set links o e.first) (set es f e') o' os (set xss f (x ∷ get_or xss f []))
     put_front first only last =
@@ -184,7 +184,7 @@ module _ {links : List ℕ} {es : List Ends} {o x : ℕ} {os : List ℕ} {xss : 
         put k h e' _ (length-set links o e.first) (w o' os (omega arith) rest) (sets_put o w f e' _ h (omega arith) (n, t) k.sets_are)
         (λ y. omega arith) (omega arith)
 
-    -- behind the first
+    -- x joins it behind the first
     pub put_second : 0 < length (get_or xss f []) → (p : ℕ) → p ≡ get_or links e.first p → e'.first ≡ e.first
         → (e.first ≡ e.last → e'.last ≡ o) → (e.first ≢ e.last → e'.last ≡ e.last)
         → IsKept (set (set links o p) e.first o) (set es f e') o' os (set xss f (joined false x (get_or xss f [])))

@@ -12,7 +12,7 @@ use Rattle.qh_mesh.proofs.ListedFacets.{once_apart, once_push}
 use Rattle.qh_surface.specs.contract.Walks.{mark_at, IsMarked, IsWalk, IsCrossed, AreCrossed, IsFurther}
 use Rattle.qh_surface.proofs.LiveFacets.{live_below}
 
--- no more are found than there are places
+-- the number of found facets is at most the number of places
 pub facets_fit : (fs : List StoredFacet) (vs : List ℕ) → AreFacets fs vs → length vs ≤ length fs
 facets_fit fs vs a =
     pigeon (length fs) (length vs) (slice_index vs) (λ i h. live_below fs (slice_index vs i) (a.live i 0 h)) (once_apart vs a.once)
@@ -57,8 +57,8 @@ module _ (P : ℕ → Type 0) (fs : List StoredFacet) where
       same = get_or_append_left vs (g ∷ []) 0;
     }
 
--- ---- a facet that is asked
--- whether it is entered or not, afterwards it has a mark if it passes
+-- ---- a facet that is tested
+-- after the test a facet that passes has a mark, whether it is entered or not
 pub met : (P : Type 0) (marks : List Bool) (g : ℕ) (entered : Bool) → g < length marks
     → (IsTrue entered ↔ ((mark_at marks g ≡ false) × P)) → P → IsMarked (set marks g (mark_at marks g || entered)) g
 met P marks g entered l e p = get_or-set_same marks g (mark_at marks g || entered) false l ∙ elim (cases_Bool (mark_at marks g)) [
@@ -68,12 +68,12 @@ met P marks g entered l e p = get_or-set_same marks g (mark_at marks g || entere
 
 -- ---- steps one after the other
 module _ (a b : List Bool) (us vs : List ℕ) (p : IsFurther a b us vs) where
-  -- what was found stays so
+  -- found facets stay found
   pub found_further : (f : ℕ) → In f us → In f vs
   found_further f h = let r = in_at us f h in let m = r.1 in let l = p.longer in
       subst (λ g. In g vs) (p.same r.0 m ∙ r.2) (In-get_or vs r.0 0 (omega arith))
 
-  -- what was crossed stays so, and one facet more
+  -- crossed facets stay crossed, and one more facet is crossed
   pub crossed_more : (P : ℕ → Type 0) (fs : List StoredFacet) (n : ℕ) → n < length us → AreCrossed P fs a us n
       → IsCrossed P fs b (slice_index us n) → AreCrossed P fs b vs (n + 1)
   crossed_more P fs n h old new j k = subst (IsCrossed P fs b) (sym (p.same j (omega arith))) (elim (cases_lt j n) [

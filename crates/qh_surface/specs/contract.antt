@@ -1,4 +1,4 @@
--- What public clauses cite: nothing to believe for the hull.
+-- Definitions that public clauses cite. A reader of the headline need not trust them.
 pub mod Corners
 pub mod NamedMeshes
 pub mod OutsideSets

@@ -1,9 +1,9 @@
-//! The surface of a solid set of ids of distinct points, by Quickhull: a closed surface of triangles over the
-//! ids, none of which strictly sees a point of the set.
+//! The surface of a solid set of ids of distinct points, by Quickhull: a closed surface of triangles over the ids. No
+//! triangle strictly sees a point of the set.
 //!
-//! `quickhull` makes it, over positions of the points, from what [`starts`] chooses. `outside_sets` has the points that
-//! are still to be added. `named_mesh` translates positions to ids. `walk` finds connected triangles that pass a test:
-//! those that a point sees, or, above this crate, those of one plane.
+//! `quickhull` computes it over positions of the points, from what [`starts`] chooses. `outside_sets` has the points that
+//! are still to be added. `named_mesh` maps corners to ids. `walk` finds the
+//! connected triangles that pass a test: those that a point sees, or, in crates above this one, those of one plane.
 #![tactic(auto)]
 
 mod named_mesh;

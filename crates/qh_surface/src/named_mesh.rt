@@ -1,7 +1,7 @@
-//! The mesh of a run that is done, with the ids of its corners.
+//! The mesh of a finished run, with the ids of its corners.
 //!
-//! Its corners are positions in a list of points, in which points that are near each other mostly lie near each
-//! other. So the points of its facets are read there, and an id is looked up only where it is returned.
+//! Its corners are positions in a list of points, in which near points mostly lie near each other. So the points of its
+//! facets are read there, and an id is looked up only where it is returned.
 ghost use Rattle.std.specs.Prelude.{◌≡◌, ◌∷◌, [], length};
 ghost use Rattle.qh_model.specs.contract.StoredSurface.{facet_at};
 ghost use Rattle.qh_mesh.specs.contract.Replacement.{IsLive};

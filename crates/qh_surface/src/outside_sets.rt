@@ -1,14 +1,14 @@
 //! The outside sets of the facets, and the points that wait for one.
 //!
-//! A point is known by its position among the points of one run. Each point stands in one list at
-//! most: in the outside set of a facet that it sees, or among the orphans, whose facet was removed or
-//! which never had one. A point in no list is settled.
+//! A point is identified by its position among the points of one run. Each point is in at most one list: in the outside
+//! set of a facet that it sees, or among the orphans, whose facet was removed or which never had a facet. A point in no
+//! list is settled.
 //!
-//! The lists are chains over one vector of links, one a position, so that no call but
-//! [`OutsideSets::new`] and [`OutsideSets::make_room`] takes memory, and no call has a loop.
+//! The lists are chains over one vector of links, one for each position. So only [`OutsideSets::new`],
+//! [`OutsideSets::make_room`] and the calls that reserve allocate memory, and no other call has a loop.
 //!
-//! Source: Barber, Dobkin and Huhdanpaa 1996 (each facet has an outside set; the points of those that
-//! go are partitioned among the new facets).
+//! Source: Barber, Dobkin and Huhdanpaa 1996 (each facet has an outside set; the points of removed facets are
+//! partitioned among the new facets).
 ghost use Rattle.std.specs.Prelude.{◌≡◌, ◌+◌, ◌-◌, ◌<◌, ◌≤◌, ◌↔◌, ℕ, IsTrue, IfSome, IsNone, IfOk, OnOk, OnErr};
 ghost use Rattle.std.specs.Prelude.{length, drop, [], ◌∷◌, ◌++◌, slice_set, slice_index, replicate, false, ◌≢◌};
 ghost use Rattle.std.specs.List.{range_with_len};
@@ -18,10 +18,10 @@ use qh_model::{FacetNo, Id, Memory};
 use std::alloc::{AllocError, Global};
 use std::marker::Model;
 
-/// The number of no position.
+/// The number that is not a position.
 const NONE: u32 = u32::MAX;
 
-/// The first and the last position of an outside set. In an empty one neither is a position of it.
+/// The first and the last position of an outside set. In an empty set neither is a position of the set.
 #[derive(Clone, Copy, Drop)]
 struct Ends {
     first: u32,
@@ -29,7 +29,7 @@ struct Ends {
 }
 
 impl Ends {
-    /// Returns the ends with a position put in front. In an empty set the first is not below `positions`.
+    /// Returns the ends after a position is put in front. In an empty set the first is not below `positions`.
     fn with_front(self, position: u32, positions: usize) -> Ends
         ensures first { result.first ≡ position }
         ensures only { positions ≤ self.first → result.last ≡ position }
@@ -42,7 +42,7 @@ impl Ends {
         }
     }
 
-    /// Returns the ends with a position put after the first, of which there is one.
+    /// Returns the ends after a position is put behind the first, which exists.
     fn with_second(self, position: u32) -> Ends
         ensures first { result.first ≡ self.first }
         ensures second { self.first ≡ self.last → result.last ≡ position }
@@ -61,11 +61,11 @@ impl Ends {
 /// A contract sees the number of positions, the orphans and the sets, in their orders.
 #[derive(Drop)]
 pub struct OutsideSets {
-    /// By position, the one after it in its list. What is no position ends the list.
+    /// By position, the next position in its list. A number that is not a position ends the list.
     links: Vec<u32>,
     /// By the place of a facet, the ends of its outside set.
     ends: Vec<Ends>,
-    /// The first orphan, or no position.
+    /// The first orphan, or a number that is not a position.
     orphan: u32,
 }
 
@@ -81,7 +81,7 @@ impl Model for OutsideSets {
     ghost invariant = { λ s. AreKept s.links.items s.ends.items s.orphan };
 }
 
-/// Returns for each position the next number.
+/// Returns a list with the next number for each position.
 fn rising_links(alloc: Global, positions: u32) -> Result<Vec<u32>, AllocError>
     ensures len { IfOk result (λ v. length v.items ≡ positions) }
     ensures next { IfOk result (λ v. (k : ℕ) → k < positions → slice_index v.items k ≡ k + 1) }
@@ -95,9 +95,9 @@ fn rising_links(alloc: Global, positions: u32) -> Result<Vec<u32>, AllocError>
 
 #[tactic(auto, using(crate::proofs::Steps::field_facts))]
 impl OutsideSets {
-    /// Creates the sets of a run: all positions are orphans, in rising order, and there is no facet.
+    /// Creates the sets of a run. All positions are orphans, in rising order, and there is no facet.
     ///
-    /// `Err` says that an allocation failed.
+    /// Returns `Err` if an allocation failed.
     pub fn new(alloc: Global, positions: u32) -> Result<OutsideSets, Memory>
         ensures positions { IfOk result (λ s. s.positions ≡ positions) }
         ensures orphans { IfOk result (λ s. s.orphans ≡ range_with_len 0 positions) }
@@ -112,7 +112,8 @@ impl OutsideSets {
         })
     }
 
-    /// Asks for room for the sets of `facets` more facets. Where it is refused, they grow step by step.
+    /// Tries to allocate memory for the sets of `facets` more facets. If that fails, the memory grows step by step
+    /// later.
     pub fn ask_for_room(&mut self, facets: usize)
         ensures { self.new ≡ self.old }
     {
@@ -121,7 +122,7 @@ impl OutsideSets {
 
     /// Reserves memory for the sets of more facets; nothing else changes.
     ///
-    /// `Err` says that an allocation failed.
+    /// Returns `Err` if an allocation failed.
     pub fn reserve(&mut self, facets: usize) -> Result<(), Memory>
         ensures { self.new ≡ self.old }
     {
@@ -129,10 +130,10 @@ impl OutsideSets {
         Ok(())
     }
 
-    /// Makes sure that the facets below `places` have sets: the new ones are empty, the old ones
-    /// and the orphans as they were.
+    /// Ensures that the facets below `places` have sets. New sets are empty; existing sets and the orphans do not
+    /// change.
     ///
-    /// `Err` says that an allocation failed: everything is as before.
+    /// Returns `Err` if an allocation failed. Nothing changes then.
     pub fn make_room(&mut self, places: usize) -> Result<(), Memory>
         ensures sets { OnOk result (self.new.sets ≡ self.old.sets ++ replicate (places - length self.old.sets) []) }
         ensures places { OnOk result (places ≤ length self.new.sets) }
@@ -178,7 +179,7 @@ impl OutsideSets {
         }
     }
 
-    /// Takes the first orphan out of all lists, for good.
+    /// Removes the first orphan from all lists for good.
     pub fn drop_orphan(&mut self)
         requires { 0 < length self.old.orphans }
         ensures orphans { self.new.orphans ≡ drop 1 self.old.orphans }
@@ -207,8 +208,7 @@ impl OutsideSets {
         self.links[orphan as usize] = ends.first;
     }
 
-    /// Puts the first orphan after the first position of the outside set of a facet, if it has one, and
-    /// else in front.
+    /// Puts the first orphan after the first position of the outside set of a facet, or in front if the set is empty.
     pub fn assign_second(&mut self, facet: FacetNo)
         requires some { 0 < length self.old.orphans }
         requires place { facet < length self.old.sets }
@@ -225,7 +225,7 @@ impl OutsideSets {
         }
     }
 
-    /// Puts the first orphan after the first position of the outside set of a facet, which has one.
+    /// Puts the first orphan after the first position of the outside set of a facet. The set is not empty.
     fn put_second(&mut self, facet: FacetNo)
         requires some { 0 < length self.old.orphans }
         requires place { facet < length self.old.sets }
@@ -260,8 +260,8 @@ impl OutsideSets {
         }
     }
 
-    /// Takes the first position of the outside set of a facet out of all lists, for good, and answers
-    /// it. An empty set stays so.
+    /// Removes the first position of the outside set of a facet from all lists for good, and returns it. An empty set
+    /// does not change.
     pub fn take_first(&mut self, facet: FacetNo) -> Option<Id>
         requires { facet < length self.old.sets }
         ensures none { IsNone result ↔ (set_of self.old facet ≡ []) }
@@ -279,8 +279,7 @@ impl OutsideSets {
         Some(first)
     }
 
-    /// Makes the positions of the outside set of a facet orphans, in front of the others. The set is
-    /// empty then.
+    /// Makes the positions of the outside set of a facet orphans, in front of the others. The set becomes empty.
     pub fn release(&mut self, facet: FacetNo)
         requires { facet < length self.old.sets }
         ensures orphans { self.new.orphans ≡ set_of self.old facet ++ self.old.orphans }

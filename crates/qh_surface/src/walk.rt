@@ -1,6 +1,6 @@
-//! A walk over twins: the facets of a mesh that pass a test and hang together.
+//! A walk over twins: the connected facets of a mesh that pass a test.
 //!
-//! From a facet that passes all are found by going over the sides of those that are found.
+//! From a facet that passes, a walk across the sides of the facets found reaches all of them.
 //!
 //! Source: Barber, Dobkin and Huhdanpaa 1996 (the visible set is found by a search over neighbours).
 ghost use Rattle.std.specs.Prelude.{◌≡◌, ◌≤◌, ◌<◌, ◌+◌, ◌↔◌, IsTrue, ℕ, List, OnOk, length, false, vec_len, vec_capacity};
@@ -45,7 +45,7 @@ impl Mark {
 #[derive(Clone, Copy)]
 struct Side {
     facet: FacetNo,
-    /// Which of its sides it is: 0, 1 or 2.
+    /// The number of the side: 0, 1 or 2.
     number: usize,
 }
 
@@ -59,15 +59,15 @@ impl Side {
     }
 }
 
-/// What a walk tests of the next facet.
+/// A test of the next facet of a walk.
 pub trait FacetPredicate {
-    // What the test needs to know of a mesh.
+    // Precondition of the test on a mesh.
     ghost Fits: { Self → List StoredFacet → Type 0 };
 
-    // That the facet at a place passes.
+    // The facet at a place passes the test.
     ghost Passes: { Self → List StoredFacet → ℕ → Type 0 };
 
-    /// Returns true if the facet of an edge passes. The one over the edge does.
+    /// Returns true if the facet of an edge passes. Precondition: the facet across the edge passes.
     fn passes(&self, mesh: &Mesh, edge: EdgeNo) -> bool
         requires fits { Self.Fits self.now mesh.now }
         requires live { IsLive mesh.now (facet_of edge) }
@@ -76,8 +76,8 @@ pub trait FacetPredicate {
         requires ends { edge_end mesh.now edge ≡ edge_start mesh.now (twin_of mesh.now edge) }
         ensures { IsTrue result ↔ Self.Passes self.now mesh.now (facet_of edge) };
 
-    /// Returns true if a walk enters the facet of an edge: it has no mark yet and passes. A cheap
-    /// test is made for marked facets, too, since a branch on the mark can't be predicted.
+    /// Returns true if a walk enters the facet of an edge: it has no mark yet and passes. A cheap test runs for marked
+    /// facets, too, since a branch on the mark cannot be predicted.
     fn enters(&self, mesh: &Mesh, edge: EdgeNo, mark: Mark) -> bool
         requires fits { Self.Fits self.now mesh.now }
         requires live { IsLive mesh.now (facet_of edge) }
@@ -90,8 +90,8 @@ pub trait FacetPredicate {
     }
 }
 
-/// Goes over a side of a facet that was found: the neighbour is found too if it passes and has no mark.
-/// It is pushed, then popped if it does not; this keeps the loop free of branches.
+/// Crosses a side of a facet that was found: the neighbour is found too if it passes and has no mark. It is pushed,
+/// then popped if it does not pass; this keeps the loop free of branches.
 fn cross<T: FacetPredicate>(
     mesh: &Mesh,
     test: &T,
@@ -123,7 +123,7 @@ fn cross<T: FacetPredicate>(
     }
 }
 
-/// Goes over the three sides of a facet that was found.
+/// Crosses the three sides of a facet that was found.
 fn cross_all<T: FacetPredicate>(
     mesh: &Mesh,
     test: &T,
@@ -147,11 +147,11 @@ fn cross_all<T: FacetPredicate>(
     Ok(())
 }
 
-/// Lists and marks the facets that a walk from `start` finds, `start` first: those that pass the test and
-/// hang together with it over twins. Marked facets are not entered. The list is cleared before. There is a
-/// mark for each place of the mesh.
+/// Lists and marks the facets that a walk from `start` finds, `start` first: those that pass the test and are connected
+/// to it over twins. Marked facets are not entered. The list is cleared first. There is a mark for each place of the
+/// mesh.
 ///
-/// `Err` says that an allocation failed: what is listed and marked then is not said.
+/// Returns `Err` if an allocation failed. The list and the marks are not specified then.
 pub fn walk<T: FacetPredicate>(
     mesh: &Mesh,
     test: &T,

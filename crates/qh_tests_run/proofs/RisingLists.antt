@@ -8,7 +8,7 @@ use Rattle.qh_model.specs.contract.BoardMachine.{InSpan}
 use Rattle.qh_model.proofs.board.Spans.{span_of_leaf, span_of_node, spans_apart}
 use Rattle.qh_tests_run.specs.Rising.{IsRisingListOf}
 
--- the list of a leaf's block
+-- the list of the block of a leaf
 pub alone_rises : (blocks j : ℕ) → j < blocks → IsRisingListOf (InSpan blocks (blocks + j)) (j ∷ [])
 alone_rises blocks j h = record {
   rises = λ k lt. absurd (omega arith);

@@ -1,8 +1,8 @@
-//! Tests of the public calls of qh_serve, and of what workers do in runs of qh_run and qh_serve: what settings and an input
-//! answer, that workers run at once, and that the text is the same however the work is shared.
+//! Tests of the public functions of qh_serve, and of the workers in runs of qh_run and qh_serve: the answers for
+//! settings and inputs, the parallel work of the workers, and the same text for every distribution of the work.
 //!
-//! They stand apart so that the proofs of the libraries are checked without them: where a crate has tests of its
-//! own, all of it is proved once more with them.
+//! They are in a separate crate so that checking the proofs of the libraries does not include them: a crate that
+//! contains tests is proved a second time with its tests.
 #![tactic(auto)]
 
 #[cfg(test)]

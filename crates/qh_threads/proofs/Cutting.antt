@@ -1,4 +1,4 @@
--- The chunks of a list: where they begin, and how many there are.
+-- The chunks of a list: their first positions, and their number.
 use Rattle.std.proofs.Common.{◌≡◌, ◌+◌, ◌*◌, ◌/◌, ◌%◌, ◌<◌, ◌≤◌, ℕ, min, List, length, drop, arith, refl, ◌∙◌, subst, ⊎_elim}
 use Rattle.std.proofs.lemmas.List.{length-drop, length-take, get_or-take, get_or-drop}
 use Rattle.std.proofs.lemmas.Bool.{cases_lt}
@@ -6,7 +6,7 @@ use Rattle.std.proofs.lemmas.Nat.{div-add-mod', mod-mul-add}
 use native.Mathlib.Nat.{add-mul, one-mul, mul-le-mul_right}
 use Rattle.std.specs.Fork.{slice_chunk, IsChunk}
 
--- a chunk before another ends where that begins, or before
+-- an earlier chunk ends at or before the start of a later one
 ends_below : (n h size : ℕ) → n < h → n * size + size ≤ h * size
 ends_below n h size l =
     let up : n + 1 ≤ h = omega arith in

@@ -7,7 +7,7 @@ use Rattle.std.specs.Fn.{FnReturns}
 use Rattle.qh_threads.specs.declared.claimed.Answer.{Answer}
 use Rattle.qh_threads.specs.steps.Answers.{IsAnswer, ArePlaced}
 
--- what a call returned, in the slot of its index
+-- the result of a call, in the slot of its index
 pub placed_set : {F X : Type 0} (g : Shared F (ℕ × Unit {0}) X) (f : F) (slots : List (Option X)) (k : ℕ) (o : Option X)
     → ArePlaced g f slots → IfSome o (λ x. FnReturns g f (k, tt) x) → ArePlaced g f (set slots k o)
 placed_set g f slots k o p here i d l = by_decision (ℕ_discrete i k)

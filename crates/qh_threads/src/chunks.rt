@@ -1,4 +1,4 @@
-//! The calls of a closure at the chunks of a slice, one beside the other.
+//! Parallel calls of a closure on the chunks of a slice.
 ghost use Rattle.std.specs.Prelude.{◌≡◌, ◌+◌, ◌*◌, ◌/◌, ◌%◌, ◌<◌, ℕ, IfOk, length, min};
 ghost use Rattle.std.specs.Fork.{AcceptsChunks, GivesChunk, GivesChunks, IsChunk};
 
@@ -6,8 +6,7 @@ use crate::claimed::map_claimed;
 use std::alloc::{AllocError, Global};
 use std::thread::Threads;
 
-/// Returns the number of chunks of `size` elements in a slice of `len`, the last one perhaps
-/// shorter.
+/// Returns the number of chunks of `size` elements in a slice of `len`. The last chunk may be shorter.
 fn chunk_count(len: usize, size: usize) -> usize
     requires { 0 < size }
     ensures is { result ≡ len / size + min 1 (len % size) }
@@ -27,12 +26,12 @@ fn chunk_at<T>(s: &[T], size: usize, number: usize) -> &[T]
     chunk
 }
 
-/// Calls `f` at each chunk of `size` elements and the index at which it begins, by at most `threads` threads, as
-/// [`map_claimed`] calls a closure at indices.
+/// Calls `f` with each chunk of `size` elements and the index of its first element. At most `threads` threads make the
+/// calls, as in [`map_claimed`].
 ///
 /// # Errors
 ///
-/// `AllocError` where an allocation failed. The results are dropped then.
+/// `AllocError` if an allocation failed. The results are dropped then.
 pub fn map_chunks<R: Threads, T: Sync, X: Send + Drop, F: Fn(usize, &[T]) -> X + Sync>(
     rt: &R,
     alloc: Global,

@@ -1,4 +1,4 @@
-//! The calls of a closure at indices, which threads claim one after the other.
+//! Calls of a closure at indices that threads claim one after the other.
 ghost use Rattle.std.specs.Prelude.{◌≡◌, ◌<◌, ℕ, IfOk, IsNone, length};
 ghost use Rattle.std.specs.List.{All};
 ghost use Rattle.std.specs.Fork.{GivesEach};
@@ -17,7 +17,7 @@ struct Answer<X> {
     value: X,
 }
 
-/// Calls `f` at the indices that it claims from `next`, until none below `count` is left.
+/// Calls `f` at the indices that it claims from `next`, until no index below `count` remains.
 fn claim<X: Send + Drop, F: Fn(usize) -> X + Sync>(
     alloc: Global,
     next: &AtomicUsize,
@@ -41,7 +41,7 @@ fn claim<X: Send + Drop, F: Fn(usize) -> X + Sync>(
     Ok(answers)
 }
 
-/// Returns the slots with each value put into that of its index.
+/// Returns the slots with each value in the slot of its index.
 fn place<X: Send + Drop, F: Fn(usize) -> X + Sync>(
     answers: Vec<Answer<X>>,
     slots: Vec<Option<X>>,
@@ -74,7 +74,7 @@ fn empty_slots<X>(alloc: Global, count: usize) -> Result<Vec<Option<X>>, AllocEr
     Ok(slots)
 }
 
-/// Takes the values out of the slots, in order. The call at an index whose slot is empty is made here.
+/// Removes the values from the slots and returns them in order. For an empty slot it makes the call here.
 fn values<X: Send + Drop, F: Fn(usize) -> X + Sync>(
     alloc: Global,
     slots: Vec<Option<X>>,
@@ -99,12 +99,12 @@ fn values<X: Send + Drop, F: Fn(usize) -> X + Sync>(
 
 /// Calls `f` at each index below `count`, by at most `threads` threads, and returns the results in order.
 ///
-/// The calling thread is one of them. Each thread claims the next index until none is left, so that a thread that is
-/// slower makes fewer calls. With one thread, or none, no other is started.
+/// The calling thread is one of them. Each thread claims the next index until all are claimed, so that a slower thread
+/// makes fewer calls. If `threads` is 0 or 1, no other thread is started.
 ///
 /// # Errors
 ///
-/// `AllocError` where an allocation failed. The results are dropped then.
+/// `AllocError` if an allocation failed. The results are dropped then.
 pub fn map_claimed<R: Threads, X: Send + Drop, F: Fn(usize) -> X + Sync>(
     rt: &R,
     alloc: Global,

@@ -1,4 +1,4 @@
-//! The calls of a closure at indices, one beside the other.
+//! Parallel calls of a closure at indices.
 ghost use Rattle.std.specs.Prelude.{◌≡◌, ◌<◌, ℕ, IfOk, length};
 ghost use Rattle.std.specs.Fn.{FnReturns};
 ghost use Rattle.std.specs.Fork.{GivesEach};
@@ -9,12 +9,12 @@ use std::thread::{Threads, join};
 
 /// Calls `f` at each index below `count` and returns the results in order.
 ///
-/// The calling thread makes the call at 0. Each other call has a thread of its own where one can be started,
-/// and is made by the calling thread where none can be. So `count` is a number of threads, and small.
+/// The calling thread makes the call at 0. Each other call gets a thread of its own if one can be started, and
+/// otherwise the calling thread makes it. So `count` is a number of threads, and should be small.
 ///
 /// # Errors
 ///
-/// `AllocError` where an allocation failed. The results are dropped then; each call was made.
+/// `AllocError` if an allocation failed. The results are dropped then; each call was made.
 #[cycle(calls)]
 pub fn map_indices<R: Threads, X: Send + Drop, F: Fn(usize) -> X + Sync>(
     rt: &R,

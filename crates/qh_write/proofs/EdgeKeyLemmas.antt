@@ -1,4 +1,4 @@
--- Edges counted by numbers of pairs: what is added, and how many numbers differ.
+-- Edges counted by numbers of pairs: the added numbers, and the number of different ones.
 use Rattle.std.proofs.Common.{◌≡◌, ◌≢◌, ◌∙◌, ℕ, ◌+◌, ◌<◌, List, [], ◌∷◌, ◌++◌, length, ap, sym, refl, subst, inl, inr, map, drop, get_or}
 use Rattle.std.proofs.Common.{append_assoc, min, max, IsPermutation, Bool, true, false, cond, eqb-true, nat_cmp}
 use Rattle.std.proofs.lemmas.{Bool.eqb-false, Grind.flat_map-append, List.length-map, List.Kept.Contains-dedup_nat, List.Kept.Contains-from_dedup}
@@ -35,7 +35,7 @@ adds_then ps qs a b c s t = record {
     both [] qs h k = k
     both (p ∷ ps) qs h k = (h.0, both ps qs h.1 k)
 
--- a part of what is left is added
+-- a part of the remaining pairs is added
 pub completes_more : (one left left' all : List (ℕ × ℕ)) (now next start : List ℕ) → left ≡ one ++ left'
     → AddsPairs one now next → Completes left all now start → Completes left' all next start
 completes_more one left left' all now next start e s h end t = h end (subst (λ x. AddsPairs x now end) (sym e) (adds_then one left' now next end s t))
@@ -52,7 +52,7 @@ pairs_of_sides (t ∷ r) = along t r t
     along t [] e = refl
     along t (w ∷ r) e = ap (λ ps. (min t w, max t w) ∷ ps) (along w r e)
 
--- what is left of fans
+-- the remaining fans
 pub fans_left : (qs : List (List ℕ)) (i : ℕ) (q : List ℕ) → i < length qs → q ≡ get_or qs i q
     → pairs_of (fans (drop i qs)) ≡ pairs_of (fan q) ++ pairs_of (fans (drop (i + 1) qs))
 fans_left qs i q h e = ap (λ t. pairs_of (fans t)) (drop_next qs i q h e) ∙ flat_map-append pairs_round (fan q) (fans (drop (i + 1) qs))
@@ -62,7 +62,7 @@ fans_left qs i q h e = ap (λ t. pairs_of (fans t)) (drop_next qs i q h e) ∙ f
 abbrev code : ℕ × ℕ → ℕ
 code p = packed p.0 p.1
 
--- a number of a pair
+-- the number of a pair determines it
 of_key : (u v z : ℕ) → In z (pair_key (u, v)) → (u ≢ v) × (z ≡ code (u, v))
 of_key u v z m = by_test (u == v) refl m
   where
@@ -78,7 +78,7 @@ in_key u v d = by_test (u == v) refl
     by_test true p = absurd (d (eqb-true u v p))
     by_test false p = inl refl
 
--- pairs with different numbers stand once, as their numbers do
+-- pairs with different numbers occur once if their numbers do
 once_codes : (ps : List (ℕ × ℕ)) → ((u v : ℕ) → In (u, v) ps → v < HALF_ROOM) → Once ps → Once (map code ps)
 once_codes [] small o = tt
 once_codes ((a, b) ∷ ps) small o = ((λ m. from_witness (of_map code ps (code (a, b)) m)), once_codes ps (λ u v i. small u v (inr i)) o.1)

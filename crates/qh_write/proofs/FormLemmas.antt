@@ -10,12 +10,12 @@ pub shown_append : (form : Form) (ps qs : List (List ℕ)) → shown form (ps ++
 shown_append Whole ps qs = refl
 shown_append Fans ps qs = flat_map-append fan ps qs
 
--- none are no lines
+-- no faces have no lines
 pub shown_none : (form : Form) → shown form [] ≡ []
 shown_none Whole = refl
 shown_none Fans = refl
 
--- they name no other ids than the polygons
+-- the faces in a form name only ids of the polygons
 pub shown_in_order : (form : Form) (extremes : List ℕ) (qs : List (List ℕ)) → IsBodyInOrder extremes qs → IsBodyInOrder extremes (shown form qs)
 shown_in_order Whole extremes qs order = order
 shown_in_order Fans extremes qs order = fans_in_order extremes qs order

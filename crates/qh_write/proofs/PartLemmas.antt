@@ -6,13 +6,13 @@ use Rattle.std.specs.{Prelude.IfOk, declared.alloc.AllocError.AllocError}
 use Rattle.qh_write.specs.{contract.Pieces.bytes_of, steps.Parts.AreParts}
 
 module _ {A : Type 0} (F : List A → List ℕ) (none : F [] ≡ []) (joined : (xs ys : List A) → F (xs ++ ys) ≡ F xs ++ F ys) (size : ℕ) where
-  -- what follows the first part is cut into the parts that follow
+  -- the elements after the first part are cut into the following parts
   further : (i : ℕ) (xs : List A) → drop (suc i * size) xs ≡ drop (i * size) (drop size xs)
   further i xs =
       let e : suc i * size ≡ size + i * size = omega arith in
       ap (λ n. drop n xs) e ∙ sym (drop-drop (i * size) size xs)
 
-  -- pieces of the parts in turn are the text of all
+  -- the concatenated pieces of the parts are the text of the whole list
   in_a_row : (pieces : List (Vec ℕ Global)) (xs : List A)
       → ((i : ℕ) (d : Vec ℕ Global) → i < length pieces → (get_or pieces i d).items ≡ F (take size (drop (i * size) xs)))
       → length xs ≤ length pieces * size → bytes_of pieces ≡ F xs
@@ -25,7 +25,7 @@ module _ {A : Type 0} (F : List A → List ℕ) (none : F [] ≡ []) (joined : (
       in_a_row ps (drop size xs) (λ i d l. each (suc i) d (omega arith) ∙ ap (λ ys. F (take size ys)) (further i xs)) (omega (arith, length-drop size xs)) in
       ap₂ (λ (a b : List ℕ). a ++ b) first rest ∙ sym (joined (take size xs) (drop size xs)) ∙ ap F (take-append-drop size xs)
 
-  -- and so where they are made one by one
+  -- the same if the parts are made one by one
   pub parts_of_list : (parts : List (Result (Vec ℕ Global) AllocError)) (xs : List A)
       → ((i : ℕ) (d : Result (Vec ℕ Global) AllocError) → i < length parts → IfOk (get_or parts i d) (λ t. t.items ≡ F (take size (drop (i * size) xs))))
       → length xs ≤ length parts * size → AreParts parts (F xs)

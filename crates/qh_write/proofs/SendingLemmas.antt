@@ -1,4 +1,4 @@
--- What has gone out through a sink after some of the bytes.
+-- The bytes received by a sink after some of the bytes were sent.
 use Rattle.std.proofs.Common.{◌≡◌, ◌∙◌, ℕ, suc, ◌+◌, ◌-◌, ◌<◌, ◌≤◌, List, ◌∷◌, ◌++◌, length, take, drop, get_or, Vec, Global, ap, arith, sym, append_assoc}
 use Rattle.std.proofs.Common.{length-append, subst, take_all}
 use Rattle.std.proofs.{KnownBytes.Appends-trans, Math.Seq.drop-cons, Math.Seq.take-append-add, lemmas.Grind.flat_map-append}
@@ -6,14 +6,14 @@ use Rattle.std.proofs.lemmas.List.{take-append-drop, take-append-le, take_rest, 
 use Rattle.std.specs.{Io.KnownBytes.Appends, Io.KnownBytes.Keeps, Prelude.Option, Prelude.Some, Prelude.None}
 use Rattle.qh_write.specs.{contract.Pieces.bytes_of, headline.Sinks.AppendsBeginning}
 
--- a beginning is a shorter one and what follows that
+-- a prefix is a shorter one and the elements after that
 take-add : (i n : ℕ) (xs : List ℕ) → i ≤ length xs → take (i + n) xs ≡ take i xs ++ take n (drop i xs)
 take-add i n xs h =
     ap (λ (t : List ℕ). take (i + n) t) (sym (take-append-drop i xs))
     ∙ subst (λ (k : ℕ). take (k + n) (take i xs ++ drop i xs) ≡ take i xs ++ take n (drop i xs)) (length-take-le i xs h)
     (take-append-add (take i xs) (drop i xs) n)
 
--- a beginning of the bytes, and what it is grown by, make a longer beginning
+-- a prefix of the bytes, and the bytes added to it, make a longer prefix
 pub Appends-more : (old mid new : Option (List ℕ)) (bs : List ℕ) (sent n : ℕ) → sent ≤ length bs
     → Appends old mid (take sent bs) → Appends mid new (take n (take (length bs - sent) (drop sent bs)))
     → Appends old new (take (sent + n) bs)
@@ -25,12 +25,12 @@ Appends-more (Some xs) (Some ys) (Some zs) bs sent n fits h k =
     ∙ append_assoc xs (take sent bs) (take n (drop sent bs))
     ∙ ap (λ (t : List ℕ). xs ++ t) (sym (take-add sent n bs fits))
 
--- a count within the bytes of the rest is within the number of bytes left
+-- a number of bytes of the rest is at most the number of remaining bytes
 pub fits_rest : (bs : List ℕ) (sent n : ℕ) → n ≤ length (take (length bs - sent) (drop sent bs)) → n ≤ length bs - sent
 fits_rest bs sent n h = subst (λ (m : ℕ). n ≤ m) (ap length (take_rest bs sent) ∙ length-drop sent bs) h
 
 -- ---- pieces
--- some bytes went out, and then a beginning of others
+-- some bytes were sent, and then a prefix of others
 pub beginning_after : (a b c : Option (List ℕ)) (xs ys rest whole : List ℕ) → Appends a b xs → AppendsBeginning b c ys
     → whole ≡ xs ++ (ys ++ rest) → AppendsBeginning a c whole
 beginning_after a b c xs ys rest whole p h e = record {
@@ -44,7 +44,7 @@ beginning_after a b c xs ys rest whole p h e = record {
     begun : take (length xs + h.count) (xs ++ (ys ++ rest)) ≡ xs ++ take h.count ys
     begun = take-append-add xs (ys ++ rest) h.count ∙ ap (λ (bs : List ℕ). xs ++ bs) (take-append-le h.count ys rest h.within)
 
--- all of them went out, and then nothing more
+-- all of them were sent, and then no more
 pub beginning_kept : (a b c : Option (List ℕ)) (xs : List ℕ) → Appends a b xs → Keeps b c → AppendsBeginning a c xs
 beginning_kept a b c xs p k = record {
   count = length xs;
@@ -58,7 +58,7 @@ beginning_kept a b c xs p k = record {
     kept (Some x) (Some y) None p k = absurd k
     kept (Some x) (Some y) (Some z) p k = k ∙ p
 
--- the pieces before piece i, piece i, and what follows it
+-- the pieces before piece i, piece i, and the pieces after it
 pub piece_among : (pieces : List (Vec ℕ Global)) (last : List ℕ) (i : ℕ) (d : Vec ℕ Global) → i < length pieces
     → bytes_of pieces ++ last ≡ bytes_of (take i pieces) ++ ((get_or pieces i d).items ++ (bytes_of (drop (suc i) pieces) ++ last))
 piece_among pieces last i d l =

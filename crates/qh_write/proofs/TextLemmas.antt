@@ -1,4 +1,4 @@
--- Texts that grow by pieces, and the numbers of vertices, from a table or by a search.
+-- Texts that grow by pieces, and the numbers of vertices, found in a table or by a search.
 use Rattle.std.proofs.Common.{◌≡◌, ◌≢◌, ◌∙◌, ℕ, zero, suc, ◌+◌, ◌-◌, ◌<◌, ◌≤◌, List, [], ◌∷◌, ◌++◌, length, arith, ap, sym, refl, subst, inl, inr, ◌⊎◌}
 use Rattle.std.proofs.Common.{get_or-set_same, get_or-set_other, set, length-set, get_or, eqb-true, Bool, zero-add, ap₂, true, false, cond, All}
 use Rattle.std.proofs.Common.{replicate, decimal, slice_index, Vec, Global, Result, Ok, Err}
@@ -16,14 +16,14 @@ pub length-numbered : (table es : List ℕ) (n : ℕ) → length (numbered table
 length-numbered table [] n = refl
 length-numbered table (e ∷ es) n = length-numbered (set table e n) es (suc n) ∙ length-set table e n
 
--- what is no id of the list keeps its entry
+-- the entries of ids that are not in the list are unchanged
 numbered-other : (table es : List ℕ) (n i : ℕ) → ¬ (In i es) → slice_index (numbered table n es) i ≡ slice_index table i
 numbered-other table [] n i h = refl
 numbered-other table (e ∷ es) n i h =
     let other : i ≢ e = λ s. h (inl s) in
     numbered-other (set table e n) es (suc n) i (λ s. h (inr s)) ∙ (rw get_or-set_other refl)
 
--- the table has at each id of the list its number, from n on
+-- the entry of each id of the list is its number, from n on
 numbered-at : (table es : List ℕ) (n i : ℕ) → Once es → In i es → i < length table → slice_index (numbered table n es) i ≡ n + vertex_number es i
 numbered-at table [] n i once h l = absurd h
 numbered-at table (e ∷ es) n i once h l = with_rest (numbered-at (set table e n) es (suc n) i once.1) (e == i) refl h
@@ -44,7 +44,7 @@ numbered-at table (e ∷ es) n i once h l = with_rest (numbered-at (set table e 
     with_rest rest false s (inl h) = absurd (eqb-false e i s (sym h))
     with_rest rest false s (inr h) = later rest h
 
--- the table of the extreme ids has the vertex number of each
+-- the entry of each extreme id is its vertex number
 vertex_number_at : (extremes : List ℕ) (count : ℕ) → IsStrictlyIncreasing extremes → All (λ i. i < count) extremes
     → (i : ℕ) → In i extremes → slice_index (numbered (replicate count 0) 0 extremes) i ≡ vertex_number extremes i
 vertex_number_at extremes count rising within i h =
@@ -61,7 +61,7 @@ table_numbers extremes count table rising within is =
       is = λ i h. ap (λ (t : List ℕ). slice_index t i) is ∙ vertex_number_at extremes count rising within i h;
     }
 
--- a search of a rising list finds the number of an id that it has
+-- a search in a rising list finds the number of an id that it contains
 pub number_found : (ids : List ℕ) (i : ℕ) (found : Result ℕ ℕ) → IsStrictlyIncreasing ids → In i ids
     → IsBinarySearchResult (λ y. nat_cmp y i) ids found → MatchResult found (λ k. k ≡ vertex_number ids i) (λ _. ⊥)
 number_found ids i found rising has result = by_case found (searched ids i found result up)

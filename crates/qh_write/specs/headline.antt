@@ -1,2 +1,2 @@
--- What a reader of the headline must believe.
+-- Definitions that a reader of the headline has to believe.
 pub mod Sinks

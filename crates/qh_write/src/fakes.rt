@@ -9,7 +9,7 @@ use std::alloc::Global;
 pub struct SinkPlan {
     /// The greatest number of bytes of one write, at least 1.
     pub greatest_piece: usize,
-    /// The number of bytes that the sink takes in all; the write after them fails.
+    /// The total number of bytes that the sink accepts; the write after them fails.
     pub room: usize,
     /// The number, from 1, of a write that fails; `None` if no write fails by its number.
     pub failing_write: Option<u64>,
@@ -17,7 +17,7 @@ pub struct SinkPlan {
     pub flush_fails: bool,
 }
 
-/// A sink that keeps the bytes and fails by a plan.
+/// A sink that keeps the bytes and fails according to a plan.
 #[derive(Debug, Drop)]
 pub struct FailSink {
     bytes: Vec<u8>,
@@ -30,7 +30,7 @@ pub struct FailSink {
 impl FailSink {
     ghost use Rattle.qh_write.specs.contract.Devices.{kept_before_failing, plan_of};
 
-    /// Creates a sink that has nothing yet and fails by `plan`.
+    /// Creates a sink that has received nothing yet and fails according to `plan`.
     pub fn new(alloc: Global, plan: SinkPlan) -> FailSink
         ensures empty { kept_before_failing result ≡ [] }
         ensures count { ⟦<FailSink as Sink>⟧.count result ≡ 0 }
@@ -45,7 +45,7 @@ impl FailSink {
         }
     }
 
-    /// Returns what went out, oldest first.
+    /// Returns the received bytes, oldest first.
     pub fn bytes(&self) -> &[u8]
         ensures { result.now ≡ kept_before_failing self.now }
     {

@@ -1,8 +1,8 @@
-//! Writes hulls: their texts, and sending them to a device.
+//! Writes hulls: creates their texts, and sends them to a device.
 //!
-//! [`text`] makes the text of a list of outputs, [`text_in_threads`] by several threads; [`send`] hands it to
-//! a [`Sink`]. The devices are [`MemSink`], which keeps the bytes, and [`StdSink`], which wraps a writer of
-//! std. [`Lines`] are for a person, on standard output or error.
+//! [`text`] creates the text of a list of outputs, [`text_in_threads`] with several threads; [`send`] writes it to a
+//! [`Sink`]. The devices are [`MemSink`], which keeps the bytes, and [`StdSink`], which wraps a writer of std.
+//! [`Lines`] write to standard output or error, for a person.
 #![tactic(auto)]
 
 pub mod fakes;

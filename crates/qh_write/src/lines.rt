@@ -7,13 +7,13 @@ use std::fmt::Display;
 
 /// A device that takes lines of text, such as the standard error.
 pub trait Lines {
-    // The bytes that went out, oldest first, or `None` where the device doesn't tell.
+    // The bytes written so far, oldest first, or `None` if the device does not specify them.
     ghost went: { Self → Option (List ℕ) };
 
-    // How many calls have failed.
+    // The number of failed calls.
     ghost count: { Self → ℕ };
 
-    /// Writes a value and the end of its line; or fails after a beginning of them, and counts the failure.
+    /// Writes a value and a line end; or fails after a prefix of them, and counts the failure.
     fn line<D: Display + Drop>(&mut self, value: D) -> Result<(), SinkFault>
         requires room { count self.old < 2 ^ 64 - 1 }
         ensures went { (text : List ℕ) → D.output value ≡ Some text → SendsLine (went self.old) (went self.new) text result }

@@ -1,10 +1,10 @@
-//! A sink that keeps what it is sent.
+//! A sink that keeps the bytes it receives.
 ghost use Rattle.std.specs.Prelude.{◌≡◌, [], Some, true};
 
 use crate::sink::{Sink, SinkFault};
 use std::alloc::Global;
 
-/// A sink that keeps the bytes in memory. If an allocation of its own fails, that write fails.
+/// A sink that keeps the bytes in memory. If its allocation fails, the write fails.
 #[derive(Debug, Drop)]
 pub struct MemSink {
     bytes: Vec<u8>,
@@ -14,7 +14,7 @@ pub struct MemSink {
 impl MemSink {
     ghost use Rattle.qh_write.specs.contract.Devices.{kept};
 
-    /// Creates a sink that has nothing yet and grows by `alloc`.
+    /// Creates a sink that has received nothing yet and grows with `alloc`.
     pub fn new(alloc: Global) -> MemSink
         ensures empty { kept result ≡ [] }
         ensures count { ⟦<MemSink as Sink>⟧.count result ≡ 0 }
@@ -25,7 +25,7 @@ impl MemSink {
         }
     }
 
-    /// Returns what went out, oldest first.
+    /// Returns the received bytes, oldest first.
     pub fn bytes(&self) -> &[u8]
         ensures { result.now ≡ kept self.now }
     {

@@ -6,16 +6,17 @@ use qh_model::Memory;
 use std::alloc::{AllocError, Global};
 use std::mem;
 
-/// A text in pieces that follow each other. What several threads wrote is sent from there, and not copied together.
+/// A text in consecutive pieces. The output of several threads is sent from these pieces, without copying them
+/// together.
 #[derive(Debug, Drop)]
 pub struct Pieces {
     /// The pieces before the last one.
     pub(crate) done: Vec<Vec<u8>>,
-    /// The last piece, which grows.
+    /// The last piece, to which bytes are appended.
     pub(crate) last: Vec<u8>,
 }
 
-/// Returns what all parts came to, in their order, if none failed.
+/// Returns the results of all parts, in their order, if none failed.
 fn all_pieces(
     alloc: Global,
     parts: Vec<Result<Vec<u8>, AllocError>>,
@@ -59,7 +60,7 @@ impl Pieces {
         }
     }
 
-    /// Appends pieces as they are.
+    /// Appends pieces unchanged.
     fn append(&mut self, alloc: Global, mut more: Vec<Vec<u8>>) -> Result<(), AllocError>
         ensures { OnOk result (bytes_in self.new ≡ bytes_in self.old ++ bytes_of more.items) }
     {
@@ -68,7 +69,7 @@ impl Pieces {
         self.done.append(&mut more)
     }
 
-    /// Appends parts that threads made, if none failed.
+    /// Appends parts that threads created, if none failed.
     pub(crate) fn append_parts(
         &mut self,
         alloc: Global,
@@ -80,7 +81,7 @@ impl Pieces {
         self.append(alloc, pieces)
     }
 
-    /// Returns the bytes of all pieces in one list. One piece is not copied.
+    /// Returns the bytes of all pieces in one list. A single piece is not copied.
     ///
     /// # Errors
     ///

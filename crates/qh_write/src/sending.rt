@@ -1,4 +1,4 @@
-//! A text on its way to a sink, piece by piece.
+//! Sends a text to a sink, piece by piece.
 ghost use Rattle.std.specs.Prelude.{◌≡◌, ◌+◌, ◌-◌, ◌^◌, ◌<◌, OnOk, OnErr, true};
 ghost use Rattle.std.specs.Io.KnownBytes.{Appends, Keeps};
 ghost use Rattle.qh_write.specs.contract.Pieces.{bytes_in};
@@ -45,8 +45,8 @@ fn flush<K: Sink>(sink: &mut K) -> Result<(), SendFault>
 
 /// Sends all bytes in their order and flushes the sink.
 ///
-/// On `SendFault` the sink failed once in this call and was not called again; a beginning of the
-/// bytes went out, perhaps all. No byte is sent twice.
+/// On `SendFault` the sink failed once in this call and was not called again; a prefix of the bytes was sent, perhaps
+/// all. No byte is sent twice.
 pub fn send<K: Sink>(sink: &mut K, bytes: &[u8]) -> Result<(), SendFault>
     requires { K.count sink.old < 2 ^ 64 - 1 }
     ensures sent { OnOk result (Appends (K.went sink.old) (K.went sink.new) bytes.now) }
@@ -59,7 +59,7 @@ pub fn send<K: Sink>(sink: &mut K, bytes: &[u8]) -> Result<(), SendFault>
     flush(sink)
 }
 
-/// Sends a text in pieces, and flushes the sink, as [`send`] does with all its bytes in one list.
+/// Sends a text in pieces, and flushes the sink, as [`send`] does for all its bytes in one list.
 pub fn send_pieces<K: Sink>(sink: &mut K, text: &Pieces) -> Result<(), SendFault>
     requires { K.count sink.old < 2 ^ 64 - 1 }
     ensures sent { OnOk result (Appends (K.went sink.old) (K.went sink.new) (bytes_in text.now)) }

@@ -4,7 +4,7 @@ ghost use Rattle.std.specs.Prelude.{◌≡◌};
 use crate::sink::{Sink, SinkFault};
 use std::io::Write;
 
-/// A sink over a writer of std. A write of no byte counts as a failure.
+/// A sink over a writer of std. A write that accepts no byte counts as a failure.
 #[derive(Drop)]
 pub struct StdSink<W: Write + Drop> {
     writer: W,
@@ -13,7 +13,7 @@ pub struct StdSink<W: Write + Drop> {
 }
 
 impl<W: Write + Drop> StdSink<W> {
-    /// Creates a sink that hands its bytes to `writer`.
+    /// Creates a sink that passes its bytes to `writer`.
     pub fn new(writer: W) -> StdSink<W>
         ensures went { ⟦<StdSink<W> as Sink>⟧.went result ≡ W.contents writer }
         ensures count { ⟦<StdSink<W> as Sink>⟧.count result ≡ 0 }

@@ -61,7 +61,7 @@ fn push_outputs<S: Scribe>(
     Ok(())
 }
 
-/// Returns the texts of the outputs in their order, by a way to write vertices and faces.
+/// Returns the texts of the outputs in their order, with a scribe for vertices and faces.
 fn text_by<S: Scribe>(
     scribe: &S,
     alloc: Global,
@@ -80,7 +80,7 @@ fn text_by<S: Scribe>(
 
 /// Returns the texts of the outputs, joined in their order, written by the calling thread alone.
 ///
-/// The caller sees to it that every id in the hull is the index of a point in `pts`.
+/// The caller ensures that every id in the hull is the index of a point in `pts`.
 ///
 /// # Errors
 ///
@@ -95,11 +95,11 @@ pub fn text(alloc: Global, hull: &Hull, pts: &[Point], outs: &[Out]) -> Result<V
     pieces.joined(alloc)
 }
 
-/// Returns the texts of the outputs in their order, as [`text`] gives them, in pieces. At most `threads` threads
-/// write the vertices and faces of a large hull, or the fans of these, side by side. The number of threads changes where
-/// pieces end and the time, and no byte.
+/// Returns the texts of the outputs in their order, as [`text`] does, in pieces. At most `threads` threads write the
+/// vertices and the faces or fans of a large hull in parallel. The number of threads affects the time and where pieces
+/// end, but no byte.
 ///
-/// The caller sees to it that every id in the hull is the index of a point in `pts`.
+/// The caller ensures that every id in the hull is the index of a point in `pts`.
 ///
 /// # Errors
 ///

@@ -1,4 +1,4 @@
--- What keeps from a verdict on the bytes of two files. This project's own.
+-- The faults that prevent a verdict on the bytes of two files. This project's own.
 use Rattle.std.specs.Prelude.{ℕ, ◌≡◌, ◌<◌, List, Option, None, Some, IfSome, length}
 use Rattle.qh_model.specs.declared.form.Form.TheVariants as forms
 use Rattle.qh_model.specs.declared.limits.TheConstants.{BYTE_LIMIT}
@@ -14,13 +14,13 @@ use Rattle.hullcheck.specs.declared.fault.Fault.TheVariants.{Usage, Memory, Devi
 use Rattle.hullcheck.specs.contract.CommandLine.{Asked, asked_by}
 use Rattle.hullcheck.specs.contract.Judging.{IsWhole}
 
--- a fault of reading all points: the first one of all bytes that came; or a read failed; or more came than an input may have
+-- a fault of reading all points: the first fault of all bytes read; or a read failed; or more bytes were read than the input limit
 pub record IsPointsFault (old new : Option (List ℕ)) (Failed : Type 0) (e : ReadFault) : Type 0 where
   pub text : IsTextFault e → GivesAll old new (λ bytes. IsFirstFault forms.Qhull bytes e)
   pub device : e ≡ reads.Device → Failed
   pub big : e ≡ reads.Big → Gives old new (λ bytes. BYTE_LIMIT < length bytes)
 
--- what keeps from a verdict on the points that a source gives and the faces in a text
+-- a fault that prevents a verdict on the points of a source and the faces in a text
 abbrev pub IsCheckFault : Reading → Option (List ℕ) → Option (List ℕ) → Type 0 → List ℕ → Fault → Type 0
 IsCheckFault reading old new Failed faces Usage = ⊥
 IsCheckFault reading old new Failed faces Memory = Unit {0}
@@ -29,13 +29,13 @@ IsCheckFault reading old new Failed faces Output = ⊥
 IsCheckFault reading old new Failed faces (Points e) = IsPointsFault old new Failed e
 IsCheckFault reading old new Failed faces (Faces e) = IsFaultOfFaces reading.layout faces e
 
--- the same of a file of points, of which all bytes are known or none
+-- the same for a file of points, whose bytes are either all known or all unknown
 pub record IsPointFileFault (content : Option (List ℕ)) (Failed : Type 0) (e : ReadFault) : Type 0 where
   pub text : IsTextFault e → (bytes : List ℕ) × IsWhole content bytes × IsFirstFault forms.Qhull bytes e
   pub device : e ≡ reads.Device → Failed
   pub big : e ≡ reads.Big → IfSome content (λ bytes. BYTE_LIMIT < length bytes)
 
--- what keeps from a verdict on the files that words name, where a call of the files failed or not
+-- a fault that prevents a verdict on the files that words name; `Failed` says whether a call of the files failed
 abbrev pub IsJudgeFault : List (List ℕ) → (Option (List ℕ) → Option (List ℕ)) → Type 0 → Fault → Type 0
 IsJudgeFault words contents Failed Usage = asked_by words ≡ None
 IsJudgeFault words contents Failed Memory = Unit {0}

@@ -1,4 +1,4 @@
--- What the words of a command line ask. This project's own.
+-- The settings that the words of a command line specify. This project's own.
 use Rattle.std.specs.Prelude.{ℕ, Bool, ◌==◌, nat_lt, nat_le, ◌&&◌, if◌then◌else◌, List, [], ◌∷◌, codes, length, slice_index, drop}
 use Rattle.std.specs.Prelude.{Option, None, Some, is_some}
 use Rattle.std.specs.Option.{option_and_then, option_map}
@@ -10,14 +10,14 @@ use Rattle.qh_read.specs.declared.faces.reading.Reading.{Reading}
 use Rattle.qh_read.specs.declared.faces.reading.Turn.TheVariants.{Counterclockwise, Clockwise}
 use Rattle.hullcheck.specs.declared.command_line.Settings.{Settings}
 
--- what is asked: the number of workers, how the faces are read, and the names of the two files
+-- the settings: the number of workers, how the faces are read, and the names of the two files
 pub record Asked : Type 0 where
   pub workers : ℕ
   pub reading : Reading
   pub points : Option (List ℕ)
   pub faces : Option (List ℕ)
 
--- what no words ask
+-- the settings without any words
 abbrev pub asked_by_default : Asked
 asked_by_default = record { workers = 4; reading = record { layout = Off; turn = Counterclockwise }; points = None; faces = None }
 
@@ -26,26 +26,26 @@ abbrev pub is_number_of_workers : List ℕ → Bool
 is_number_of_workers digits = (nat_lt 0 (length digits) && all_ascii_digits digits)
     && (nat_le 1 (digits_value 10 digits) && nat_le (digits_value 10 digits) WORKER_LIMIT)
 
--- the number of workers that a word stands for, perhaps with a plus before it
+-- the number of workers that a word denotes, which may begin with a plus
 abbrev pub workers_in : List ℕ → Option ℕ
 workers_in word = let digits = without_leading_plus word in
     if is_number_of_workers digits then Some (digits_value 10 digits) else None
 
--- with this number of workers
+-- the settings with this number of workers
 abbrev pub with_workers : Asked → ℕ → Asked
 with_workers asked n = record asked { workers = n }
 
--- the first name is that of the points, the second that of the faces, and there is no third
+-- the settings with one more name: the first names the points, the second the faces, and a third is refused
 abbrev pub with_named : Option (List ℕ) → Option (List ℕ) → Asked → List ℕ → Option Asked
 with_named None faces asked word = Some (record asked { points = Some word })
 with_named (Some points) None asked word = Some (record asked { faces = Some word })
 with_named (Some points) (Some faces) asked word = None
 
--- a name of a file does not begin with a minus
+-- the settings with a file name, which does not begin with a minus
 abbrev pub with_file : Asked → List ℕ → Option Asked
 with_file asked word = if slice_index word 0 == 45 then None else with_named asked.points asked.faces asked word
 
--- with an option that stands alone, or the name of a file
+-- the settings with an option without a value, or with a file name
 abbrev pub with_word : Asked → List ℕ → Option Asked
 with_word asked word =
     if bytes_eq word (codes "--indices") then Some (record asked { reading = record { layout = Lines; turn = asked.reading.turn } })
@@ -53,7 +53,7 @@ with_word asked word =
     else if bytes_eq word (codes "--clockwise") then Some (record asked { reading = record { layout = asked.reading.layout; turn = Clockwise } })
     else with_file asked word
 
--- with all of some words; the word behind `--workers` is their number
+-- the settings with all of some words; the word after `--workers` is their number
 abbrev pub with_words : Asked → List (List ℕ) → Option Asked
 with_words asked [] = Some asked
 with_words asked (word ∷ []) = if bytes_eq word (codes "--workers") then None else with_word asked word
@@ -61,14 +61,14 @@ with_words asked (word ∷ next ∷ rest) =
     if bytes_eq word (codes "--workers") then option_and_then (λ n. with_words (with_workers asked n) rest) (workers_in next)
     else option_and_then (λ more. with_words more (next ∷ rest)) (with_word asked word)
 
--- the file of points is named
+-- the settings, if the file of points is named
 abbrev pub with_points : Asked → Option Asked
 with_points asked = if is_some asked.points then Some asked else None
 
--- what the words of a command line ask, of which the first is the name of the program; nothing if they are refused
+-- the settings that the words of a command line specify, the first of which is the name of the program; nothing if they are refused
 abbrev pub asked_by : List (List ℕ) → Option Asked
 asked_by words = option_and_then with_points (with_words asked_by_default (drop 1 words))
 
--- what settings say is asked
+-- the contract view of settings
 abbrev pub asked_in : Settings → Asked
 asked_in s = record { workers = s.workers; reading = s.reading; points = option_map (λ p. p.now) s.points; faces = option_map (λ p. p.now) s.faces }

@@ -1,11 +1,11 @@
--- What is written for a fault, without the line's end. This project's own.
+-- The text that is written for a fault, without the line end. This project's own.
 use Rattle.std.specs.Prelude.{ℕ, List, ◌++◌, codes, decimal}
 use Rattle.qh_model.specs.declared.read_fault.ReadFault.{ReadFault}
 use Rattle.qh_model.specs.declared.read_fault.ReadFault.TheVariants as read
 use Rattle.hullcheck.specs.declared.fault.Fault.{Fault}
 use Rattle.hullcheck.specs.declared.fault.Fault.TheVariants.{Usage, Memory, Device, Output, Points, Faces}
 
--- for a fault of a file
+-- the text for a fault of a file
 abbrev pub read_fault_text : ReadFault → List ℕ
 read_fault_text read.NoHeader = codes "NoHeader"
 read_fault_text (read.BadNumber line) = codes "BadNumber at line " ++ decimal line
@@ -19,7 +19,7 @@ read_fault_text read.Device = codes "the file could not be read"
 read_fault_text read.Big = codes "Big"
 read_fault_text read.NotOff = codes "NotOff"
 
--- for any fault
+-- the text for any fault
 abbrev pub fault_text : Fault → List ℕ
 fault_text Usage = codes "usage: hullcheck [--workers N] [--indices | --counted] [--clockwise] POINTS [FACES]"
 fault_text Memory = codes "hullcheck: out of memory"

@@ -1,4 +1,4 @@
--- What one run of the program does with the words, the files and the devices that it gets. This project's own.
+-- The effect of one run of the program on its devices, given the words and the files. This project's own.
 use Rattle.std.specs.Prelude.{ℕ, ◌≡◌, ◌≢◌, List, Option, Result, Ok, Err, MatchResult}
 use Rattle.std.specs.declared.io.ErrorKind.{ErrorKind}
 use Rattle.std.specs.declared.io.ErrorKind.TheVariants.{OutOfMemory}
@@ -13,11 +13,11 @@ use Rattle.hullcheck.specs.contract.FaultTexts.{fault_text}
 use Rattle.hullcheck.specs.contract.Judging.{IsToldBy}
 use Rattle.hullcheck.specs.contract.Statuses.{fault_status, judgement_status}
 
--- there are no words: out of memory, or one is not UTF-8
+-- there are no words: out of memory, or a word is not UTF-8
 abbrev pub IsUnread : ErrorKind → Result Judgement Fault → Type 0
 IsUnread kind judged = (kind ≡ OutOfMemory → judged ≡ Err Memory) × (kind ≢ OutOfMemory → judged ≡ Err Usage)
 
--- the judgement on the files that the words name, or what keeps from one, if there are words
+-- the judgement on the files that the words name, or the fault that prevents it, if there are words
 abbrev pub IsJudged : {W : Type 0} → (W → List (List ℕ)) → Result W ErrorKind → (Option (List ℕ) → Option (List ℕ)) → Type 0
     → Result Judgement Fault → Type 0
 IsJudged texts words contents Failed judged = MatchResult words
@@ -34,7 +34,7 @@ IsEnd (Ok judgement) old new before after status = (said : Result (Unit {0}) Sin
     × MatchResult said (λ _. (status ≡ judgement_status judgement) × (after ≡ before)) (λ _. IsRefusal Output before after status)
 IsEnd (Err fault) old new before after status = (new ≡ old) × IsRefusal fault before after status
 
--- what is judged, and how the run ends with it: what goes to the output and to the errors, and the status
+-- the judgement, and the end of the run: the text on the output and on the errors, and the status
 pub record IsRun (IsJudgedSo : Result Judgement Fault → Type 0) (old new before after : LineDevice) (status : ℕ) : Type 0 where
   pub judged : Result Judgement Fault
   pub so : IsJudgedSo judged

@@ -12,11 +12,11 @@ use Rattle.qh_check.specs.declared.judgement.Judgement.TheVariants.{Told, Strang
 abbrev pub all_right : ℕ
 all_right = 0
 
--- they are not
+-- the faces are not the hull
 abbrev pub not_right : ℕ
 not_right = 1
 
--- the words are no command line
+-- the command line is invalid
 abbrev pub no_command : ℕ
 no_command = 2
 
@@ -28,11 +28,11 @@ no_memory = 3
 abbrev pub no_device : ℕ
 no_device = 4
 
--- a file has another text than is wanted
+-- a file has an invalid text
 abbrev pub no_such_text : ℕ
 no_such_text = 5
 
--- the status of what is told
+-- the status of a judgement
 abbrev pub judgement_status : Judgement → ℕ
 judgement_status (Told Right) = all_right
 judgement_status (Told OtherPolygons) = not_right
@@ -41,7 +41,7 @@ judgement_status (Told (Open u v)) = not_right
 judgement_status (Told (Twice u v)) = not_right
 judgement_status (Stranger n) = not_right
 
--- where a file could not be read
+-- the status for a file that could not be read
 abbrev pub read_fault_status : ReadFault → ℕ
 read_fault_status read.NoHeader = no_such_text
 read_fault_status (read.BadNumber line) = no_such_text
@@ -55,7 +55,7 @@ read_fault_status read.Device = no_device
 read_fault_status read.Big = no_such_text
 read_fault_status read.NotOff = no_such_text
 
--- and of all that keeps the program from a verdict
+-- the status for each fault that prevents a verdict
 abbrev pub fault_status : Fault → ℕ
 fault_status Usage = no_command
 fault_status Memory = no_memory

@@ -1,4 +1,4 @@
-//! Files and lines that stand in for those of the system.
+//! Fake files and line devices, which replace those of the system.
 ghost use Rattle.std.specs.Prelude.{◌≡◌, None};
 
 use crate::files::Files;
@@ -8,7 +8,7 @@ use std::alloc::Global;
 use std::fmt::{Display, Write};
 use std::io::ErrorKind;
 
-/// A file in memory. A read of one without bytes fails.
+/// A file in memory. A read fails if the file has no bytes.
 #[derive(Drop)]
 pub struct FakeFile<'a> {
     rest: Option<&'a [u8]>,
@@ -37,7 +37,7 @@ impl Source for FakeFile<'_> {
     }
 }
 
-/// Files by their names, of which those without bytes cannot be read, and a standard input.
+/// Named files and a standard input. Files without bytes cannot be read.
 #[derive(Drop)]
 pub struct FakeFiles<'a> {
     pub named: &'a [(&'a str, Option<&'a str>)],
@@ -46,7 +46,7 @@ pub struct FakeFiles<'a> {
 }
 
 impl<'a> FakeFiles<'a> {
-    /// Returns the text of a name, if it is the name of a file.
+    /// Returns the content of a name, if it is the name of a file.
     fn named(&self, name: &str) -> Option<Option<&'a str>> {
         for (own, text) in self.named {
             if *own == name {
@@ -102,7 +102,7 @@ impl<'a> Files for FakeFiles<'a> {
     }
 }
 
-/// Lines that are kept, or a device that fails.
+/// A device that keeps its lines, or one that fails.
 #[derive(Drop)]
 pub struct FakeLines {
     pub text: String,
@@ -122,7 +122,7 @@ impl FakeLines {
         }
     }
 
-    /// Creates a device of which each call fails.
+    /// Creates a device whose calls all fail.
     pub fn failing(alloc: Global) -> FakeLines
         ensures { result.failures ≡ 0 }
     {

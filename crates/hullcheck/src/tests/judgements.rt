@@ -10,7 +10,7 @@ use std::alloc::{AllocError, Global};
 use std::test::Fail;
 use std::thread::Threads;
 
-/// The corners of a cube, and two of them once more.
+/// The corners of a cube, two of them twice.
 pub const CUBE: &str =
     "3 10\n0 0 0\n0 0 1\n0 1 0\n0 1 1\n1 0 0\n1 0 1\n1 1 0\n1 1 1\n0 0 0\n1 1 1\n";
 
@@ -25,13 +25,13 @@ fn told<R: Threads + Sync>(
     check_streams(rt, alloc, &mut points, text.as_bytes(), reading, 1)
 }
 
-/// How Qhull's `i` is read.
+/// The reading of Qhull's option `i`.
 const INDICES: Reading = Reading {
     layout: Layout::Lines,
     turn: Turn::Clockwise,
 };
 
-/// How an OFF file is read.
+/// The reading of an OFF file.
 const OFF: Reading = Reading {
     layout: Layout::Off,
     turn: Turn::Counterclockwise,
@@ -40,7 +40,7 @@ const OFF: Reading = Reading {
 /// The faces of the cube as Qhull writes them, two corners under their second index.
 pub const BY_INDICES: &str = "6\n4 6 2 8 \n1 5 4 0 \n5 9 6 4 \n3 1 0 2 \n7 3 2 6 \n3 7 5 1 \n";
 
-/// The same with the number of corners before these, in the order of OFF files.
+/// The same faces, each with the number of its corners first, in the order of OFF files.
 pub const COUNTED: &str = "6\n4 8 2 6 4\n4 0 4 5 1\n4 4 6 9 5\n4 2 0 1 3\n4 6 2 3 7\n4 1 5 7 3\n";
 
 /// An OFF file of a tetrahedron of corners of the cube, with a comment.

@@ -1,4 +1,4 @@
-//! The program over files and lines that stand in for those of the system.
+//! The program with fake files and line devices.
 use super::fakes::{FakeFiles, FakeLines};
 use super::judgements::{BY_INDICES, COUNTED, CUBE, words};
 use crate::program::run;
@@ -7,7 +7,7 @@ use std::test::Fail;
 const USAGE: &str =
     "usage: hullcheck [--workers N] [--indices | --counted] [--clockwise] POINTS [FACES]\n";
 
-/// The files that the rows name; of one no byte can be read.
+/// The files that the rows name. One of them cannot be read.
 const FILES: [(&str, Option<&str>); 5] = [
     ("cube", Some(CUBE)),
     ("faces", Some(COUNTED)),
@@ -16,7 +16,7 @@ const FILES: [(&str, Option<&str>); 5] = [
     ("broken", None),
 ];
 
-/// Words, the standard input, the exit status, and what goes to the output and to the errors.
+/// Words, the standard input, the exit status, the text on the output and the text on the errors.
 const RUNS: [(&[&str], &str, u8, &str, &str); 10] = [
     (
         &["hullcheck", "cube", "faces", "--counted"],

@@ -33,11 +33,11 @@ number_option name default limit = record (new_rule name) {
   parser = Some (from_one_to limit);
 }
 
--- the words OUT, each of which this parser takes
+-- the words OUT, each of which this parser accepts
 abbrev pub outs_rule : ValueParser → Rule
 outs_rule parser = record (new_rule (codes "outs")) { action = Some Append; value_names = 1; parser = Some parser }
 
--- the option `--from FORM`, with the point file as its default, each of whose words this parser takes
+-- the option `--from FORM`, with the point file as its default, each of whose words this parser accepts
 abbrev pub from_option : ValueParser → Rule
 from_option parser = record (new_rule (codes "from")) {
   long = Some (codes "from");
@@ -65,7 +65,7 @@ abbrev pub form_word : Form → Text
 form_word forms.Qhull = codes "qhull"
 form_word forms.Off = codes "off"
 
--- the words that a parser takes, where it takes some words and no other
+-- the words that a parser accepts, if it accepts specific words only
 abbrev pub words_taken : ValueParser → List Text
 words_taken (Names names) = map (λ w. w.now) names.now
 words_taken _ = []
@@ -75,11 +75,11 @@ abbrev pub IsProgram : App → Type 0
 IsProgram app = (from : ValueParser) × (outs : ValueParser) × (words_taken from ≡ map form_word (forms.Qhull ∷ forms.Off ∷ []))
     × (words_taken outs ≡ map word_of (Rank ∷ Summary ∷ Fx ∷ Off ∷ OffTriangles ∷ [])) × (app ≡ program from outs)
 
--- the number that a text stands for
+-- the number that a text denotes
 abbrev pub NumberOf : Option Text → ℕ → Type 0
 NumberOf text n = (t : Text) × (text ≡ Some t) × IsNumeral 10 (without_leading_plus t) × (n ≡ digits_value 10 (without_leading_plus t))
 
--- the outputs of the words OUT, in their order; with no such word the summary alone
+-- the outputs of the words OUT, in their order; the summary alone if there is no word
 abbrev pub AreOutsOf : Option (List Text) → List Out → Type 0
 AreOutsOf None outs = outs ≡ Summary ∷ []
 AreOutsOf (Some words) outs = map word_of outs ≡ words
@@ -99,7 +99,7 @@ pub record AreSettingsIn (app : App) (words : List Text) (s : SettingsValue) : T
 abbrev pub AreSettingsOf : List Text → SettingsValue → Type 0
 AreSettingsOf words s = (app : App) × IsProgram app × AreSettingsIn app words s
 
--- the command does not take the words, for another cause than that they ask for help
+-- the command refuses the words, for a cause other than a request for help
 pub record IsRefused (app : App) (words : List Text) : Type 0 where
   pub refused : takes app words ≡ false
   pub kind : ErrorKind
@@ -110,7 +110,7 @@ pub record IsRefused (app : App) (words : List Text) : Type 0 where
 abbrev pub IsUsageOf : App → List Text → Type 0
 IsUsageOf app words = IsRefused app words ⊎ ((s : SettingsValue) → AreSettingsIn app words s → ¬ (IsInRange s.workers s.block))
 
--- why there are no settings: help is what the words ask for; a bad command line; or an allocation failed
+-- the reason why there are no settings: the words request help; the command line is invalid; or an allocation failed
 abbrev pub IsArgFaultOf : List Text → ArgFault → Type 0
 IsArgFaultOf words (Help text) = (app : App) × IsProgram app × IsAmong DisplayHelp (fault_of app words)
 IsArgFaultOf words Usage = (app : App) × IsProgram app × IsUsageOf app words

@@ -1,4 +1,4 @@
--- What the program does for a command line, between a source and a sink.
+-- The effect of the program for a command line, on a source and a sink.
 -- Source: this project's own.
 use Rattle.std.specs.Prelude.{ℕ, ◌≡◌, ◌+◌, Bool, List, Option, Result, Ok, Err, MatchResult, string_bytes, true}
 use Rattle.std.specs.Io.KnownBytes.{Appends}
@@ -11,19 +11,19 @@ use Rattle.qh_serve.specs.headline.SettingsValue.{SettingsValue}
 use Rattle.qconvex.specs.declared.command_line.ArgFault.{ArgFault}
 use Rattle.qconvex.specs.declared.command_line.ArgFault.TheVariants.{Help, Usage, Memory}
 
--- the devices, by what each of them tells
+-- the devices, by their observable state
 abbrev pub devices : Option (List ℕ) → Option (List ℕ) → ℕ → ℕ → Bool → Devices
 devices to_come went source_failures sink_failures flushed =
     record { to_come = to_come; went = went; source_failures = source_failures; sink_failures = sink_failures; flushed = flushed }
 
--- the text went out, none of it held back; neither device failed, and the source was not read
+-- the text was sent, nothing is buffered; neither device failed, and the source was not read
 pub record IsHelped (text : List ℕ) (old new : Devices) : Type 0 where
   pub went : Appends old.went new.went text
   pub flushed : new.flushed ≡ true
   pub quiet : IsQuiet old new
   pub unread : new.to_come ≡ old.to_come
 
--- the sink failed once, after a beginning of the text, perhaps all, and this is the fault; the source was not read
+-- the sink failed once, after a prefix of the text, perhaps all of it, and this is the fault; the source was not read
 pub record IsHelpFailure (text : List ℕ) (old new : Devices) (fault : Fault) : Type 0 where
   pub told : fault ≡ faults.Send
   pub went : AppendsBeginning old.went new.went text
@@ -31,7 +31,7 @@ pub record IsHelpFailure (text : List ℕ) (old new : Devices) (fault : Fault) :
   pub sink : new.sink_failures ≡ old.sink_failures + 1
   pub unread : new.to_come ≡ old.to_come
 
--- what becomes of settings, as `serve` says it; of a wish for help; and of a command line that has neither
+-- the outcome: for settings as `serve` specifies it; for a request for help; and for an invalid command line
 abbrev pub IsOutcome : Result SettingsValue ArgFault → Devices → Devices → Result (Unit {0}) Fault → Type 0
 IsOutcome (Ok s) old new result = MatchResult result (λ _. IsServed s.form s.outs old new) (IsServeFault s.form s.outs old new)
 IsOutcome (Err (Help text)) old new result = MatchResult result (λ _. IsHelped (string_bytes text) old new) (IsHelpFailure (string_bytes text) old new)

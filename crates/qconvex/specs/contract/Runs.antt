@@ -1,4 +1,4 @@
--- What one run of the program does with the words and the devices that it gets.
+-- The effect of one run of the program on its devices, given the words.
 -- Source: this project's own.
 use Rattle.std.specs.Prelude.{ℕ, ◌≡◌, ◌≢◌, List, Result, Ok, Err, MatchResult}
 use Rattle.std.specs.declared.io.ErrorKind.{ErrorKind}
@@ -14,15 +14,15 @@ use Rattle.qconvex.specs.contract.Outcomes.{IsOutcome}
 use Rattle.qconvex.specs.declared.command_line.ArgFault.{ArgFault}
 use Rattle.qconvex.specs.declared.command_line.ArgFault.TheVariants.{Usage, Memory}
 
--- there are no words: out of memory, or one is not UTF-8
+-- there are no words: out of memory, or a word is not UTF-8
 abbrev pub IsUnread : ErrorKind → Result SettingsValue ArgFault → Type 0
 IsUnread kind asked = (kind ≡ OutOfMemory → asked ≡ Err Memory) × (kind ≢ OutOfMemory → asked ≡ Err Usage)
 
--- what the words ask for, if there are words
+-- the settings of the words or the reason why there are no settings, if there are words
 abbrev pub IsAsked : {W : Type 0} → (W → List Text) → Result W ErrorKind → Result SettingsValue ArgFault → Type 0
 IsAsked texts words asked = MatchResult words (λ w. MatchResult asked (AreSettingsOf (texts w)) (IsArgFaultOf (texts w))) (λ kind. IsUnread kind asked)
 
--- a fault has its line; an answer has none
+-- a line is written for a fault, and no line for an answer
 abbrev pub SaysFault : Result (Unit {0}) Fault → LineDevice → LineDevice → Type 0
 SaysFault (Ok _) old new = new ≡ old
 SaysFault (Err fault) old new = SaysLine (fault_line fault) old new
@@ -32,7 +32,7 @@ abbrev pub outcome_status : Result (Unit {0}) Fault → ℕ
 outcome_status (Ok _) = 0
 outcome_status (Err fault) = status_of fault
 
--- the words ask for something, this is done between the devices, and the status and the line of errors are those of its outcome
+-- the words have settings or a fault, the devices have its outcome, and the status and the line of errors are those of the outcome
 pub record IsRun {W : Type 0} (texts : W → List Text) (words : Result W ErrorKind) (old new : Devices) (before after : LineDevice) (status : ℕ) : Type 0 where
   pub asked : Result SettingsValue ArgFault
   pub outcome : Result (Unit {0}) Fault

@@ -1,4 +1,4 @@
--- What is read from clap's matches, and what a fault on the way says.
+-- The settings in clap's matches, and the faults on the way.
 use Rattle.std.specs.Prelude.{◌≡◌, ◌≢◌, List, Option, codes}
 use Rattle.std.specs.Option.{option_map}
 use Rattle.clap.specs.Words.{Text, matched_of, one_text, raw_values}
@@ -12,26 +12,26 @@ use Rattle.qh_serve.specs.headline.SettingsValue.{SettingsValue}
 use Rattle.qh_serve.specs.contract.Ranges.{IsInRange}
 use Rattle.qconvex.specs.contract.CommandLine.{AreOutsOf, IsFormOf, NumberOf}
 
--- the settings that the values found say
+-- the settings in the values found
 pub record AreSettingsFound (found : Found) (s : SettingsValue) : Type 0 where
   pub workers : NumberOf (one_text found (codes "workers")) s.workers
   pub block : NumberOf (one_text found (codes "block")) s.block
   pub outs : AreOutsOf (option_map raw_values (matched_of found (codes "outs"))) s.outs
   pub form : IsFormOf (option_map raw_values (matched_of found (codes "from"))) s.form
 
--- why no settings were found: no value is in range, or an allocation failed
+-- the reason why no settings were found: the values are not settings in range, or an allocation failed
 abbrev pub IsFindingFault : Found → ArgFault → Type 0
 IsFindingFault found (Help text) = ⊥
 IsFindingFault found Usage = (s : SettingsValue) → AreSettingsFound found s → ¬ (IsInRange s.workers s.block)
 IsFindingFault found Memory = Unit {0}
 
--- why there are no outputs: a word names no output, or an allocation failed
+-- the reason why there are no outputs: a word names no output, or an allocation failed
 abbrev pub IsOutsFault : Option (List Text) → ArgFault → Type 0
 IsOutsFault words (Help text) = ⊥
 IsOutsFault words Usage = (outs : List Out) → ¬ (AreOutsOf words outs)
 IsOutsFault words Memory = Unit {0}
 
--- what stands for an error of clap
+-- the fault that corresponds to an error of clap
 abbrev pub IsRefusalOf : ErrorKind → ArgFault → Type 0
 IsRefusalOf kind (Help text) = kind ≡ DisplayHelp
 IsRefusalOf kind Usage = (kind ≢ OutOfMemory) × (kind ≢ DisplayHelp)

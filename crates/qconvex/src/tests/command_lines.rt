@@ -1,4 +1,4 @@
-//! Command lines, right and wrong.
+//! Valid and invalid command lines.
 use crate::command_line::{ArgFault, settings_of};
 use crate::help::HELP;
 use qh_model::Form;
@@ -23,7 +23,7 @@ fn words(alloc: Global, line: &str) -> Result<Vec<String>, AllocError> {
     Ok(words)
 }
 
-/// What becomes of a line that memory is there for.
+/// The result for a line, if no allocation fails.
 #[derive(Drop)]
 enum Judged {
     Accepted(Settings),
@@ -31,7 +31,7 @@ enum Judged {
     Refused,
 }
 
-/// Returns what becomes of a line.
+/// Returns the result for a line.
 fn judge(alloc: Global, line: &str) -> Result<Judged, AllocError> {
     match settings_of(alloc, words(alloc, line)?) {
         Ok(settings) => Ok(Judged::Accepted(settings)),
@@ -63,7 +63,7 @@ const REFUSED: [&str; 18] = [
     "--from off,qhull",
 ];
 
-/// Lines that are accepted, with what their settings say.
+/// Lines that are accepted, with their settings.
 const ACCEPTED: [(&str, Numbers); 12] = [
     ("", (4, 4096, 1, Form::Qhull)),
     ("rank", (4, 4096, 1, Form::Qhull)),
@@ -91,7 +91,7 @@ fn refuses_lines(rt: HostRuntime) -> Result<(), Fail> {
     Ok(())
 }
 
-/// What settings say: the workers, the block size, the number of outputs and the form.
+/// Settings: the workers, the block size, the number of outputs and the form.
 type Numbers = (u32, u32, usize, Form);
 
 /// Asserts the settings of a line.
@@ -113,7 +113,7 @@ fn accepts_lines(rt: HostRuntime) -> Result<(), Fail> {
     Ok(())
 }
 
-/// Some of what the help text says: the options with their ranges, each output and each exit status.
+/// Parts of the help text: the options with their ranges, each output and each exit status.
 const HELPED: [&str; 16] = [
     "Usage: qconvex [--from FORM] [--workers N] [--block N] [OUT]...\n",
     "standard input",
@@ -133,7 +133,7 @@ const HELPED: [&str; 16] = [
     "\n  4  a device failed",
 ];
 
-/// Asserts that a line is told the help text.
+/// Asserts that a line is answered with the help text.
 fn assert_helped<R: AllocGlobal + Abort>(rt: &R, line: &str) -> Result<(), Fail> {
     let Judged::Helped(text) = judge(rt.alloc(), line)? else {
         return Err("the line asks for help".into());

@@ -1,4 +1,4 @@
-//! The program over streams that stand in for the standard ones.
+//! The program over fake streams.
 use super::stand_in::{StandIn, Stream};
 use crate::help::HELP;
 use crate::system::start;
@@ -14,8 +14,8 @@ const SQUARE: &str = "3\n5\n0 0 0\n2 0 0\n2 2 0\n0 2 0\n1 1 0\n";
 const SQUARE_OFF_AND_SUMMARY: &str =
     "OFF\n4 1 4\n0 0 0\n2 0 0\n2 2 0\n0 2 0\n4 0 1 2 3\nConvex hull of 5 points in 3-d:\n  dimension: 2\n  distinct points: 5\n  extreme points: 4\n  facets: 1\n  edges: 4\n";
 
-/// Words, an input, how many bytes standard output takes; and the exit status, what stands on standard
-/// output, and what on standard error.
+/// Words, an input, the capacity of standard output in bytes, the exit status, the text on standard output, and the
+/// text on standard error.
 const RUNS: [(&[&str], &str, usize, u8, &str, &str); 12] = [
     (&["qconvex", "rank"], ONE_POINT, 99, 0, "1 1 0\n", ""),
     (
@@ -94,8 +94,8 @@ const RUNS: [(&[&str], &str, usize, u8, &str, &str); 12] = [
     ),
 ];
 
-/// Returns how the program ends on these words and this input, and whether what came on standard
-/// output and on standard error is what was wanted.
+/// Returns the exit status for these words and this input, and whether standard output and standard error received the
+/// expected texts.
 fn outcome<'a, R: AllocGlobal + Threads + Sync>(
     rt: &R,
     words: &'a [&'a str],

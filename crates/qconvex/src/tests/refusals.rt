@@ -1,4 +1,4 @@
-//! The program where one allocation fails. `scripts/trials/refusals.py` refuses each growth in turn.
+//! The program where one allocation fails. `scripts/trials/refusals.py` makes each allocation fail in turn.
 use super::stand_in::{StandIn, Stream};
 use crate::system::start;
 use std::process::ExitCode;
@@ -11,8 +11,8 @@ const OCTAHEDRON: &str =
 const OCTAHEDRON_OFF: &str =
     "OFF\n6 8 12\n2 0 0\n0 2 0\n-2 0 0\n0 -2 0\n0 0 2\n0 0 -2\n3 0 1 4\n3 0 3 5\n3 0 4 3\n3 0 5 1\n3 1 2 4\n3 1 5 2\n3 2 3 4\n3 2 5 3\n";
 
-/// Returns true if the program, while it judges its words and after that, ends with the text of the
-/// octahedron, or out of memory with the line of that fault.
+/// Returns true if the program ends with the text of the octahedron, or out of memory with the line of that fault. The
+/// allocation may fail while the program parses its words or later.
 #[test]
 fn tells_that_it_is_out_of_memory(rt: HostRuntime) -> Result<(), Fail> {
     let stand_in = StandIn {

@@ -1,4 +1,4 @@
-//! A runtime that stands in for the system: words, an input, and streams that know what should come.
+//! A runtime that replaces the system: words, an input, and streams that compare their bytes with expected ones.
 
 use std::alloc::{Allocator, Global};
 use std::env::FillError;
@@ -9,10 +9,10 @@ use std::rt::Env;
 use std::sync::atomic::{AtomicUsize, Ordering};
 use std::thread::Threads;
 
-/// How many bytes a stream says that came, where one of them was another.
+/// The byte count that a stream reports if one of its bytes differed from the expected one.
 const WRONG: usize = 18446744073709551615;
 
-/// A stream: what should come, how many bytes of it came, and how many it takes.
+/// A stream: its expected bytes, the number of bytes received, and its capacity.
 #[derive(Drop)]
 pub struct Stream<'a> {
     wanted: &'a [u8],
@@ -21,7 +21,7 @@ pub struct Stream<'a> {
 }
 
 impl<'a> Stream<'a> {
-    /// Creates a stream of which these bytes are wanted, and which fails once it has a number of bytes.
+    /// Creates a stream that expects these bytes, and that fails once it has received `room` bytes.
     pub fn new(wanted: &'a [u8], room: usize) -> Stream<'a> {
         Stream {
             wanted,
@@ -30,17 +30,17 @@ impl<'a> Stream<'a> {
         }
     }
 
-    /// Returns true if all that is wanted came, and nothing else.
+    /// Returns true if exactly the expected bytes were received.
     pub fn is_whole(&self) -> bool {
         self.came.load(Ordering::SeqCst) == self.wanted.len()
     }
 
-    /// Returns true if nothing came.
+    /// Returns true if nothing was received.
     pub fn is_untouched(&self) -> bool {
         self.came.load(Ordering::SeqCst) == 0
     }
 
-    /// Takes bytes, or fails where there is no room for them.
+    /// Receives bytes, or fails if there is no room for them.
     fn take(&self, bytes: &[u8]) -> io::Result<()> {
         let came = self.came.load(Ordering::SeqCst);
         if came.saturating_add(bytes.len()) > self.room {
@@ -60,7 +60,7 @@ impl<'a> Stream<'a> {
     }
 }
 
-/// The runtime, with the memory and the threads of another.
+/// The runtime, with the memory and the threads of another runtime.
 #[derive(Drop)]
 pub struct StandIn<'r, 'a, R> {
     pub rt: &'r R,

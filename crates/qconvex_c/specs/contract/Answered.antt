@@ -1,14 +1,14 @@
--- What the buffers of a call hold.
+-- The contents of a call's buffers.
 use Rattle.std.specs.Prelude.{ℕ, ◌+◌, ◌<◌, ◌⊎◌, List, length, take}
 use Rattle.qh_model.specs.headline.Vector.{Vector}
 use Rattle.qconvex_c.specs.contract.Flat.{IsFlatHull}
 use Rattle.qconvex_c.specs.declared.sizes.Sizes.{Sizes}
 
--- the buffers begin with the flat hull of the points, as long as the sizes say
+-- the buffers begin with the flat hull of the points, with the lengths in the sizes
 pub record IsAnswered (pts : List Vector) (s : Sizes) (extremes offsets corners : List ℕ) : Type 0 where
   pub flat : IsFlatHull pts s (take s.extremes extremes) (take (s.faces + 1) offsets) (take s.corners corners)
 
--- the sizes are those of the hull of the points, and some buffer is too short for it
+-- the sizes are those of the hull of the points, and a buffer is too short for it
 pub record NeedsRoom (pts : List Vector) (s : Sizes) (extremes offsets corners : List ℕ) : Type 0 where
   pub all_extremes : List ℕ
   pub all_offsets : List ℕ

@@ -1,4 +1,4 @@
--- Faces in one list of corners, and what a caller is told of them.
+-- Faces in one list of corners, and the verdict that a call returns.
 use Rattle.std.specs.Prelude.{ℕ, ◌≡◌, ◌+◌, ◌<◌, List, [], length, slice_index, slice_index_or, slice_range}
 use Rattle.qh_model.specs.headline.DistinctIds.{AreDistinctIds}
 use Rattle.qh_model.specs.headline.Predicates.{place}
@@ -34,7 +34,7 @@ on_face kind face point = record { kind = kind; point = point; from = 0; to = 0;
 abbrev pub on_edge : ℕ → ℕ → ℕ → Verdict
 on_edge kind from to = record { kind = kind; point = 0; from = from; to = to; face = 0 }
 
--- what a judgement says, by numbers
+-- the verdict of a judgement, with numbers
 abbrev pub verdict_of : Judgement → Verdict
 verdict_of (Told Right) = of_kind QCONVEX_RIGHT
 verdict_of (Told OtherPolygons) = of_kind QCONVEX_OTHERS

@@ -1,4 +1,4 @@
--- The answers of a call, by the numbers that C knows them by: those of `c/qconvex.h`.
+-- The return codes, as numbers for C: those of `c/qconvex.h`.
 use Rattle.std.specs.Prelude.{ℕ}
 
 -- the buffers hold the answer
@@ -9,7 +9,7 @@ QCONVEX_DONE = 0
 abbrev pub QCONVEX_NO_POINT : ℕ
 QCONVEX_NO_POINT = 1
 
--- there are more than the most points
+-- there are more than `POINT_LIMIT` points
 abbrev pub QCONVEX_TOO_MANY : ℕ
 QCONVEX_TOO_MANY = 2
 
@@ -25,20 +25,20 @@ QCONVEX_MEMORY = 4
 abbrev pub QCONVEX_ROOM : ℕ
 QCONVEX_ROOM = 5
 
--- of many sets the starts do not rise, or are beyond the points; or there is not one
+-- for many sets: there is no start, the starts do not rise, or one is beyond the points
 abbrev pub QCONVEX_STARTS : ℕ
 QCONVEX_STARTS = 6
 
--- ---- what is told of faces
--- they are the surface of the hull
+-- ---- kinds of verdicts
+-- the faces are the surface of the hull
 abbrev pub QCONVEX_RIGHT : ℕ
 QCONVEX_RIGHT = 0
 
--- a corner of a face is the index of no point
+-- a corner of a face is not the index of a point
 abbrev pub QCONVEX_STRANGER : ℕ
 QCONVEX_STRANGER = 1
 
--- the first three corners of a face are no points in a plane
+-- the first three corners of a face do not span a plane
 abbrev pub QCONVEX_NO_PLANE : ℕ
 QCONVEX_NO_PLANE = 2
 
@@ -46,11 +46,11 @@ QCONVEX_NO_PLANE = 2
 abbrev pub QCONVEX_ABOVE : ℕ
 QCONVEX_ABOVE = 3
 
--- the plane of a face supports the points, and its polygon is another
+-- the plane of a face supports the points, but its polygon differs from the face
 abbrev pub QCONVEX_OTHER_FACE : ℕ
 QCONVEX_OTHER_FACE = 4
 
--- more faces run along an edge one way than the other
+-- more faces run along an edge in one direction than in the other
 abbrev pub QCONVEX_OPEN : ℕ
 QCONVEX_OPEN = 5
 
@@ -58,6 +58,6 @@ QCONVEX_OPEN = 5
 abbrev pub QCONVEX_TWICE : ℕ
 QCONVEX_TWICE = 6
 
--- there is no face, or the points lie in one plane and have another polygon
+-- there is no face, or the points lie in one plane and have a different polygon
 abbrev pub QCONVEX_OTHERS : ℕ
 QCONVEX_OTHERS = 7

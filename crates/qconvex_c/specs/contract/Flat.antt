@@ -9,12 +9,12 @@ abbrev pub corners_of : List (List ℕ) → List ℕ
 corners_of [] = []
 corners_of (q ∷ qs) = q ++ corners_of qs
 
--- where each face ends among so listed corners, the first of which has the number n
+-- the ends of the faces in the list of their corners, whose first corner has the number n
 abbrev pub ends_from : ℕ → List (List ℕ) → List ℕ
 ends_from n [] = []
 ends_from n (q ∷ qs) = (n + length q) ∷ ends_from (n + length q) qs
 
--- 0, and where each face ends
+-- 0, and the end of each face
 abbrev pub offsets_of : List (List ℕ) → List ℕ
 offsets_of qs = 0 ∷ ends_from 0 qs
 

@@ -9,28 +9,28 @@ use Rattle.qconvex_c.specs.contract.Codes.{QCONVEX_DONE, QCONVEX_NO_POINT, QCONV
 use Rattle.qconvex_c.specs.declared.set_answer.SetAnswer.{SetAnswer}
 use Rattle.qconvex_c.specs.declared.sizes.Sizes.{Sizes}
 
--- set j has the points from start j to before start j + 1: starts rise, there is one, and no one is beyond the number of points
+-- set j has the points from start j to before start j + 1: there is at least one start, the starts rise, and none exceeds the number of points
 pub record AreStarts (count : ℕ) (starts : List ℕ) : Type 0 where
   pub some : 0 < length starts
   pub rising : (j : ℕ) → j + 1 < length starts → slice_index starts j ≤ slice_index starts (j + 1)
   pub within : (j : ℕ) → j < length starts → slice_index starts j ≤ count
 
--- how many sets there are
+-- the number of sets
 abbrev pub sets_in : List ℕ → ℕ
 sets_in starts = length starts - 1
 
--- where the last one ends
+-- the end of the last set
 abbrev pub end_of : List ℕ → ℕ
 end_of starts = slice_index starts (sets_in starts)
 
--- for a set of n points there are n extreme ids, 2 n + 2 offsets and 6 n + 4 corners, and these parts adjoin each other
+-- a set of n points has parts for n extreme ids, 2 n + 2 offsets and 6 n + 4 corners, and these parts are adjacent
 abbrev pub offsets_start : List ℕ → ℕ → ℕ
 offsets_start starts j = 2 * slice_index starts j + 2 * j
 
 abbrev pub corners_start : List ℕ → ℕ → ℕ
 corners_start starts j = 6 * slice_index starts j + 4 * j
 
--- there is an answer for each set, and a part for each in each buffer
+-- there is room for an answer for each set, and for a part for each set in each buffer
 pub record HaveRoom (starts : List ℕ) (answer_room extreme_room offset_room corner_room : ℕ) : Type 0 where
   pub answers : sets_in starts ≤ answer_room
   pub extremes : end_of starts ≤ extreme_room
@@ -41,7 +41,7 @@ pub record HaveRoom (starts : List ℕ) (answer_room extreme_room offset_room co
 abbrev pub NO_SIZES : Sizes
 NO_SIZES = record { points = 0; distinct = 0; dimension = 0; extremes = 0; faces = 0; corners = 0; edges = 0 }
 
--- the answer of a set, with what stood in its parts of the buffers and what stands there now: that of a call for it alone
+-- the answer of a set, with the old and new contents of its parts of the buffers: those of a call for this set alone
 pub record IsSetHull (pts : List Vector) (a : SetAnswer) (extremes extremes' offsets offsets' corners corners' : List ℕ) : Type 0 where
   pub done : a.code ≡ QCONVEX_DONE → IsAnswered pts a.sizes extremes' offsets' corners'
   pub none : (a.code ≡ QCONVEX_NO_POINT) ↔ (length pts ≡ 0)
@@ -68,13 +68,13 @@ pub record HasSetHull (pts : List Vector) (starts : List ℕ) (j : ℕ) (a : Set
       (slice_range corners (corners_start starts j) (corners_start starts (j + 1)))
       (slice_range corners' (corners_start starts j) (corners_start starts (j + 1)))
 
--- so has each set
+-- each set has its answer and its hull
 pub record AreSetHulls (pts : List Vector) (starts : List ℕ) (answers : List SetAnswer)
     (extremes extremes' offsets offsets' corners corners' : List ℕ) : Type 0 where
   pub each : (j : ℕ) (other : SetAnswer) → j < sets_in starts
       → HasSetHull pts starts j (slice_index_or answers j other) extremes extremes' offsets offsets' corners corners'
 
--- a buffer stays as it was before and behind a part
+-- a buffer is unchanged before and after a part
 pub record AreKeptBetween (from to : ℕ) (before after : List ℕ) : Type 0 where
   pub front : take from after ≡ take from before
   pub rest : drop to after ≡ drop to before

@@ -16,7 +16,7 @@ abbrev pub normal_of : (ℕ → Vector) → List ℕ → List ℤ
 normal_of at (u ∷ v ∷ w ∷ r) = (cross (at u) (at v) (at w)).x ∷ (cross (at u) (at v) (at w)).y ∷ (cross (at u) (at v) (at w)).z ∷ []
 normal_of at t = []
 
--- a number of triangles, by their corners and by their normals, are the faces of the hull of the points
+-- these triangles, by their corners and their normals, are the faces of the hull of the points
 pub record AreFans (pts : List Vector) (count : ℕ) (triangles : List ℕ) (normals : List ℤ) : Type 0 where
   pub hull : HullValue
   pub right : IsHull pts hull
@@ -24,7 +24,7 @@ pub record AreFans (pts : List Vector) (count : ℕ) (triangles : List ℕ) (nor
   pub triangle_corners : triangles ≡ corners_of (triangles_of hull.body.polygons)
   pub triangle_normals : normals ≡ flat_map (normal_of (place pts)) (triangles_of hull.body.polygons)
 
--- there is this number of triangles, and some buffer is too short for them
+-- this is the number of triangles, and a buffer is too short for them
 pub record NeedsFanRoom (pts : List Vector) (count : ℕ) (triangles : List ℕ) (normals : List ℤ) : Type 0 where
   pub all_triangles : List ℕ
   pub all_normals : List ℤ

@@ -10,6 +10,6 @@ use Rattle.qconvex_c.specs.contract.Triangles.{normal_of}
 abbrev pub face_corners : List ℕ → List ℕ
 face_corners q = corners_of (face_triangles q)
 
--- their normals
+-- the normals of the triangles of a face
 abbrev pub face_normals : (ℕ → Vector) → List ℕ → List ℤ
 face_normals at q = flat_map (normal_of at) (face_triangles q)

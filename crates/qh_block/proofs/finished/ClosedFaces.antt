@@ -1,4 +1,4 @@
--- The faces of a finished mesh close up, in whatever order they were gathered.
+-- The faces of a finished mesh close up, whatever the order in which they were gathered.
 use Rattle.std.proofs.Common.{ℕ, List, [], ◌∷◌, IsPermutation}
 use Rattle.std.proofs.lemmas.List.Sorted.{IsPermutation-cons, IsPermutation-refl, IsPermutation-sym, IsPermutation-trans}
 use Rattle.qh_model.specs.headline.{Vector.Vector, Predicates.place, Sets.Members}

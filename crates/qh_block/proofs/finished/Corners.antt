@@ -9,11 +9,11 @@ use Rattle.qh_mesh.specs.contract.Replacement.{IsLive}
 use Rattle.qh_surface.specs.contract.Corners.{AreCornersBelow}
 use Rattle.qh_block.specs.steps.{Faces.three_of, Faces.corners_of, Faces.IsListedCorner}
 
--- those of one
+-- the corners of one facet
 in_three : (fs : List StoredFacet) (v : ℕ) (l : ℕ) → In l (three_of fs v) ↔ IsCorner (surface_of fs) v l
 in_three fs v l = (λ m. grind (arith, m), λ c. grind (arith, c))
 
--- those of the list
+-- the corners of the listed facets
 pub in_corners : (fs : List StoredFacet) (vs : List ℕ) (l : ℕ) → In l (corners_of fs vs) ↔ IsListedCorner fs vs l
 in_corners fs vs l = (
   λ i. let r = of_flat_map (three_of fs) vs l i in (r.0, r.1, (in_three fs r.0 l).0 r.2),

@@ -37,7 +37,7 @@ module _ (at : ℕ → Vector) (ids : List ℕ) (fs : List StoredFacet) (d : Has
   lives : (g : ℕ) → IsLive fs g → In g m.live
   lives g l = (live_is_marked fs g).1 l
 
-  -- a face told by another facet of its plane
+  -- a face in terms of another facet of its plane
   told : (f g : ℕ) → IsLive fs f → IsLive fs g → IsLevelFacet at m f g → (q : List ℕ) → IsFace f q → IsFace g q
   told f g l l' level q p =
       let h = level_facets_span at ids m z f g (lives f l) (lives g l') level in
@@ -71,7 +71,7 @@ module _ (at : ℕ → Vector) (ids : List ℕ) (fs : List StoredFacet) (d : Has
       scale : pos h.s *ℤ vol (at (m.i f)) (at (m.j f)) (at (m.k f)) (at x) ≡ pos h.t *ℤ vol (at a) (at b) (at c) (at x)
       scale = vol_along _ _ _ (at a) (at b) (at c) (at x) h (on a (inl refl))
 
-  -- none
+  -- at the start there is no face
   pub no_faces : (marks : List Bool) → ((g : ℕ) → mark_at marks g ≡ true → ⊥) → AreMarkedFaces at (Members ids) fs marks []
   unfolding IsDistinct
   no_faces marks n = record {
@@ -90,7 +90,7 @@ module _ (at : ℕ → Vector) (ids : List ℕ) (fs : List StoredFacet) (d : Has
     pub new_plane : IsNewPlane at fs marks f
     new_plane g l' h level = unmarked (old.whole g f l' l h (level_back at ids m z f g (lives f l) (lives g l') level))
 
-    -- and its face is one more
+    -- the face of an unmarked facet is one more face
     pub next_face : (after : List Bool) (q : List ℕ) → IsNewFace at (Members ids) fs f marks after q
         → AreMarkedFaces at (Members ids) fs after (qs ++ q ∷ [])
     next_face after q new = record {
@@ -110,7 +110,7 @@ module _ (at : ℕ → Vector) (ids : List ℕ) (fs : List StoredFacet) (d : Has
         last : (p : List ℕ) → In p (q ∷ []) → IsFace f p
         last p h = ⊎_elim (λ e. subst (IsFace f) (sym e) new.polygon) (λ n. absurd n) h
 
-        -- a face from before is of another plane, so it begins with other ids
+        -- a face gathered before is of another plane, so it begins with other ids
         other : (p : List ℕ) → In p qs → begin_alike q p ≡ false
         other p i = ⊎_elim (λ e. absurd (unmarked (alike e))) (λ e. e) (cases_Bool (begin_alike q p))
           where

@@ -10,7 +10,7 @@ use Rattle.qh_block.specs.steps.{Faces.IsNewPlane, Faces.IsNewFace, Faces.AreMar
 use Rattle.qh_block.proofs.finished.FaceLists.{no_faces, new_plane, next_face}
 use Rattle.qh_surface.proofs.LiveFacets.{live_below}
 
--- where facets are left to be looked at
+-- some facets remain to be processed
 pub record IsGathering (pts : List Vector) (fs : List StoredFacet) (left : List ℕ) (marks : List Bool) (qs : List (List ℕ))
     : Type 0 where
   pub room : length fs ≤ length marks
@@ -19,7 +19,7 @@ pub record IsGathering (pts : List Vector) (fs : List StoredFacet) (left : List 
   pub faces : (ids : List ℕ) → IsIdSet pts ids → IsFinished (place pts) ids (surface_of fs)
       → AreMarkedFaces (place pts) (Members ids) fs marks qs
 
--- at the start none is marked
+-- at the start no facet is marked
 pub gathering_starts : (pts : List Vector) (fs : List StoredFacet) (marks : List Bool) → ((f : ℕ) → mark_at marks f ≡ false)
     → length fs ≤ length marks → IsGathering pts fs (surface_of fs).live marks []
 gathering_starts pts fs marks none room = record {
@@ -30,7 +30,7 @@ gathering_starts pts fs marks none room = record {
 }
 
 module _ (pts : List Vector) (fs : List StoredFacet) (marks : List Bool) (qs : List (List ℕ)) where
-  -- the next facet has a mark's place; if it has no mark, its face is one more
+  -- the next facet has a place; if it has no mark, its face is one more face
   module _ (all left : List ℕ) (f : ℕ) (old : IsGathering pts fs all marks qs) (is : all ≡ f ∷ left) where
     live : IsLive fs f
     live = old.live f (subst (In f) (sym is) (inl refl))

@@ -1,4 +1,4 @@
--- A plane with one facet has the corners of that facet, from the least on, as its polygon.
+-- The polygon of a plane with one facet has the corners of that facet, beginning with the least.
 use Rattle.std.proofs.Common.{◌≡◌, ◌≢◌, ℕ, ◌<◌, List, [], ◌∷◌, length, sym, subst, refl, arith, Bool, true, false, cond}
 use Rattle.std.proofs.lemmas.Bool.Decides.{nat_tests}
 use Rattle.std.specs.Prelude.{◌&&◌, nat_lt, pos, ◌<ℤ◌}
@@ -17,7 +17,7 @@ use Rattle.qh_model.specs.laws.FacetPlanes.{IsLevelFacet}
 use Rattle.qh_block.proofs.flats.Polygons.{corners_differ}
 use Rattle.qh_block.proofs.finished.{Corners.in_corners, NewFaces.face_of_corners}
 
--- three ids that are not in line, from the least on, are their polygon
+-- three ids that are not in line, beginning with the least, are their polygon
 least_first : (at : ℕ → Vector) (i j k : ℕ) → ¬ (AreInLine (at i) (at j) (at k))
     → IsPolygon at (Extreme at (Members (i ∷ j ∷ k ∷ []))) (cross (at i) (at j) (at k)) (from_least i j k)
 least_first at i j k area = by_test (nat_lt i j && nat_lt i k) refl (nat_lt j k) refl
@@ -45,7 +45,7 @@ least_first at i j k area = by_test (nat_lt i j && nat_lt i k) refl (nat_lt j k)
         left_triangle n at _ k i j (λ x. (λ m. grind (arith, m), λ m. grind (arith, m)))
         lower.0 lower.1 d.0 (turn _ _ _ (turn _ _ _ first))
 
--- the face of a plane of which a walk found one facet
+-- the face of a plane in which a walk found one facet
 pub lone_triangle : (pts : List Vector) (ids : List ℕ) (fs : List StoredFacet) (f : ℕ) (before after : List Bool) (vs : List ℕ)
     → length vs ≡ 1 → IsIdSet pts ids → IsFinished (place pts) ids (surface_of fs) → IsLive fs f → IsNewPlane (place pts) fs before f
     → IsWalkFrom (IsLevelFacet (place pts) (surface_of fs) f) fs before after f vs

@@ -1,4 +1,4 @@
--- A walk in the plane of a facet of a mesh over positions is one of the same mesh over ids.
+-- A walk in the plane of a facet of a mesh over positions is a walk of the same mesh over ids.
 use Rattle.std.proofs.Common.{◌≡◌, ◌∙◌, ℕ, ◌<◌, inl, inr, List, length, ap, sym, subst, refl, Bool}
 use Rattle.std.proofs.lemmas.List.{get_or-map}
 use Rattle.std.specs.Prelude.{◌↔◌, slice_index}
@@ -39,7 +39,7 @@ module _ (pts : List Vector) (n : NamedMesh) (o : IsNamedMesh pts n) where
       ap at' (e ∙ name_is n.ids.items c b)
       ∙ sym (ap (λ (xs : List Vector). place xs c) o.points ∙ get_or-map (place pts) n.ids.items c 0 origin b)
 
-  -- so it is level with a facet where its position is
+  -- so an id is level with a facet if its position is
   level_same : (f : ℕ) (l : IsLive n.mesh f) (c : ℕ) → c < length n.ids.items
       → IsLevelWith at (m n) f c ↔ IsLevelWith at' (m' n) f (name n c)
   level_same f l c b = (λ h. same ∙ h, λ h. sym same ∙ h)
@@ -51,7 +51,7 @@ module _ (pts : List Vector) (n : NamedMesh) (o : IsNamedMesh pts n) where
           (point_is ((m n).k f) ((m' n).k f) (o.positions.k_in f l) ((names n).k_is f (lives f l)) t) (point_is c (name n c) b refl t)
 
   module _ (f g : ℕ) (l : IsLive n.mesh f) (k : IsLive n.mesh g) where
-    -- a corner's position is that of a corner, and back
+    -- the position of a corner is a corner, and conversely
     corner_named : (c : ℕ) → IsCorner (m n) g c → (c < length n.ids.items) × IsCorner (m' n) g (name n c)
     corner_named c (inl e) = rw e (o.positions.i_in g k, inl (sym ((names n).i_is g (lives g k))))
     corner_named c (inr (inl e)) = rw e (o.positions.j_in g k, inr (inl (sym ((names n).j_is g (lives g k)))))
@@ -69,7 +69,7 @@ module _ (pts : List Vector) (n : NamedMesh) (o : IsNamedMesh pts n) where
     level_before : IsLevelFacet at' (m' n) f g → IsLevelFacet at (m n) f g
     level_before h c i = let r = corner_named c i in (level_same f l c r.0).1 (h (name n c) r.1)
 
-  -- what a walk over positions has found, one over ids finds
+  -- a facet that a walk over positions has found is found by a walk over ids
   pub walk_named : (f : ℕ) (before after : List Bool) (vs : List ℕ) → IsLive n.mesh f → IsWhole (m' n)
       → IsWalkFrom (IsLevelFacet at (m n) f) n.mesh before after f vs
       → IsWalkFrom (IsLevelFacet at' (m' n) f) (named n) before after f vs

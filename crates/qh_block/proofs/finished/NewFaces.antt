@@ -62,7 +62,7 @@ module _ (pts : List Vector) (ids : List ℕ) (fs : List StoredFacet) (f : ℕ) 
     own : (l : ℕ) → IsCorner m f l → In l corners
     own l c = (members l).1 (f, w.start, c)
 
-    -- of the corners of the plane's facets
+    -- the ids are those of the corners of the plane's facets
     corner : (l : ℕ) → Members corners l ↔ InPlane l
     corner l = (
       λ i. (let c = (members l).0 i in record { f = c.0; live = lives c.0 (on_live c.0 c.1); level = on_level c.0 c.1; corner = c.2 }),
@@ -86,7 +86,7 @@ module _ (pts : List Vector) (ids : List ℕ) (fs : List StoredFacet) (f : ℕ) 
           extreme (along_itself normal) polygon;
     }
 
-    -- the face by the polygon of a planar set, as the corners are
+    -- the face as the polygon of a planar set, given the corners
     pub new_face : IsStrictlyIncreasing corners → (IsPlanarSet pts corners normal
         → IsPolygon at (Extreme at (Members corners)) normal q) → IsNewFace at (Members ids) fs f before after q
     new_face rising polygon = face_of_corners (polygon (record {

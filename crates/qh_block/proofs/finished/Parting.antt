@@ -1,4 +1,4 @@
--- The loop over the live facets of a mesh that gathers the faces of chosen facets apart from the others.
+-- The loop over the live facets of a mesh that gathers the faces of chosen facets in a list of their own.
 use Rattle.std.proofs.Common.{◌≡◌, inl, inr, ℕ, ◌<◌, ◌≤◌, List, [], ◌∷◌, ◌++◌, IsPermutation, length, refl, subst, sym}
 use Rattle.std.specs.Prelude.{Bool, true, false}
 use Rattle.std.proofs.lemmas.List.{append_assoc}
@@ -22,7 +22,7 @@ abbrev pub AreOf : List Vector → List StoredFacet → List Bool → Bool → L
 AreOf pts fs chosen mark qs = (ids : List ℕ) → IsIdSet pts ids → IsFinished (place pts) ids (surface_of fs)
     → AreFacesOfMarked (place pts) (Members ids) fs chosen mark qs
 
--- where facets are left to be looked at: the faces that were gathered are in two lists
+-- some facets remain to be processed: the faces that were gathered are in two lists
 pub record IsParting (pts : List Vector) (fs : List StoredFacet) (chosen : List Bool) (left : List ℕ) (marks : List Bool)
     (own others : List (List ℕ)) : Type 0 where
   pub all : List (List ℕ)
@@ -31,7 +31,7 @@ pub record IsParting (pts : List Vector) (fs : List StoredFacet) (chosen : List 
   pub own_are : AreOf pts fs chosen true own
   pub others_are : AreOf pts fs chosen false others
 
--- at the start none is marked
+-- at the start no facet is marked
 pub parting_starts : (pts : List Vector) (fs : List StoredFacet) (chosen marks : List Bool) → ((f : ℕ) → mark_at marks f ≡ false)
     → length fs ≤ length marks → IsParting pts fs chosen (surface_of fs).live marks [] []
 parting_starts pts fs chosen marks none room = record {

@@ -30,7 +30,7 @@ module _ (pts : List Vector) (ids : List ℕ) (fs : List StoredFacet) (set : IsI
     members = λ i. (λ m. (face_members i).0 ((members i).0 m), λ x. (members i).1 ((face_members i).1 x));
   }
 
-  -- in order they are the faces of the set, and close up
+  -- sorted, they are the faces of the set, and close up
   pub closed : (ps : List (List ℕ)) → RiseStrictly ps → ((q : List ℕ) → In q ps ↔ In q qs)
       → AreClosedFaces (place pts) (Members ids) ps
   closed ps order same = let first = faces.each z.some ((live_is_marked fs z.some).0 z.some_live) in record {

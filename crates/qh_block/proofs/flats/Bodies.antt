@@ -1,4 +1,4 @@
--- The hulls of a point and of a segment, told of their one polygon.
+-- The hulls of a point and of a segment, from their one polygon.
 use Rattle.std.proofs.Common.{◌≡◌, ◌∙◌, ℕ, ◌<◌, [], ◌∷◌, List, length, get_or, sym, subst, ◌⊎◌, ⊎_elim, inl, inr, arith, refl}
 use Rattle.std.specs.Prelude.{◌↔◌}
 use Rattle.qh_model.specs.contract.IdSets.{IsIdSet}
@@ -19,7 +19,7 @@ module _ (pts : List Vector) (ids : List ℕ) (b : BodyValue) where
   abbrev IsRight : Type 0
   IsRight = IsBody (place pts) (Members ids) b
 
-  -- a body of one polygon is right where its dimension, the polygon, the members of this and its edges are
+  -- a body of one polygon is right if its dimension, the polygon, the polygon's members and its edges are right
   pub flat_is_body : (dim : ℕ) (q : List ℕ) (edges : ℕ) → IsFlatBody dim q edges b → IsDimension (place pts) (Members ids) dim
       → ((l : ℕ) → In l q ↔ IsExtreme l) → ArePolygons (place pts) (Members ids) dim (q ∷ []) → IsEdgeCount (q ∷ []) edges → IsRight
   flat_is_body dim q edges h d m p e = subst (IsBody (place pts) (Members ids)) (sym h.is) (record {
@@ -31,14 +31,14 @@ module _ (pts : List Vector) (ids : List ℕ) (b : BodyValue) where
 
   -- ---- one id
   module _ (i : ℕ) (one : length ids ≡ 1) (is : get_or ids 0 0 ≡ i) where
-    -- it is a member, and the only one
+    -- the id is a member, and the only one
     member : In i ids
     member = subst (λ v. In v ids) is (In-get_or ids 0 0 (omega (arith, one)))
 
     alone : (x : ℕ) → In x ids → x ≡ i
     alone x m = let r = in_at ids x m in let h = r.1 in sym r.2 ∙ rw (let z : r.0 ≡ 0 = omega (arith, h, one) in z) is
 
-    -- its hull
+    -- the hull of one id
     pub point_is_body : IsDimension (place pts) (Members ids) 0 → IsFlatBody 0 (i ∷ []) 0 b → IsRight
     point_is_body d f =
         flat_is_body 0 (i ∷ []) 0 f d (λ l. (λ m. ⊎_elim (λ e. rw e extreme) (λ n. absurd n) m, λ x. inl (alone l x.0)))
@@ -48,14 +48,14 @@ module _ (pts : List Vector) (ids : List ℕ) (b : BodyValue) where
         extreme = greatest_is_extreme (place pts) ids origin i member (λ j o. absurd (o.1 (alone j o.0)))
 
   -- ---- two ids
-  -- the hull of the two, the lower first
+  -- the hull of two ids, with the lower first
   of_ends : IsDimension (place pts) (Members ids) 1 → (u v : ℕ) → ((l : ℕ) → ((l ≡ u) ⊎ (l ≡ v)) ↔ IsExtreme l) → u < v
       → IsFlatBody 1 (u ∷ v ∷ []) 1 b → IsRight
   of_ends d u v same h f =
       flat_is_body 1 (u ∷ v ∷ []) 1 f d (λ l. (λ m. (same l).0 (grind (arith, m)), λ x. (let m = (same l).1 x in grind (arith, m))))
       (inr (inr (inl (refl, (u ∷ v ∷ [], record { i = u; j = v; members = same; lower = h; is = refl }, refl))))) (one_edge u v h)
 
-  -- so of the ends, in either order
+  -- the hull of the two ends, in either order
   pub segment_is_body : (i j e g : ℕ) (q : List ℕ) → AreFirstTwo ids i j → Each (IsInLine pts i j) ids → IsFirstAlong pts ids i j e
       → IsFirstAlong pts ids j i g → IsIdSet pts ids → ((e < g) × (q ≡ e ∷ g ∷ [])) ⊎ (¬ (e < g) × (q ≡ g ∷ e ∷ []))
       → IsFlatBody 1 q 1 b → IsRight

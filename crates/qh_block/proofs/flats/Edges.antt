@@ -1,4 +1,4 @@
--- The number of edges of one polygon: none for a point, one for a segment, else one for each member.
+-- The number of edges of one polygon: 0 for a point, 1 for a segment, otherwise 1 for each member.
 use Rattle.std.proofs.Common.{◌≡◌, ◌≢◌, ℕ, suc, ◌<◌, [], ◌∷◌, ◌++◌, List, length, arith, inl, false, max, min, subst, sym, ◌⊎◌}
 use Rattle.std.proofs.lemmas.Grind.{common_steps}
 use Rattle.std.specs.List.{list_any}
@@ -8,17 +8,17 @@ use Rattle.qh_bodies.specs.contract.ApartPolygons.{HasThree}
 use Rattle.qh_bodies.specs.contract.ApartPolygons.HasThree.{three}
 use Rattle.qh_model.proofs.polygons.EdgeCounts.{edges_are_counted}
 
--- a pair with an id that is not on the way is not one of the way's
+-- a pair with an id that is not on the path is not a pair of the path
 unlisted : (x u v t : ℕ) (r : List ℕ) (e : ℕ) → (u ≡ x) ⊎ (v ≡ x) → ¬ (In x (t ∷ r)) → x ≢ e
     → list_any (λ p. (p.0 == u) && (p.1 == v)) (pairs_along t r e ++ []) ≡ false
 unlisted x u v t [] e h n d = grind (arith, common_steps, h, n, d)
 unlisted x u v t (w ∷ r) e h n d = let rest = unlisted x u v w r e h in grind (arith, common_steps, h, n, d, rest)
 
--- the lower or the higher of two is the first, and the second
+-- the lower or the higher of two ids is the first or the second
 lower_or_higher : (a b : ℕ) → ((min a b ≡ a) ⊎ (max a b ≡ a)) × ((min a b ≡ b) ⊎ (max a b ≡ b))
 lower_or_higher a b = grind arith
 
--- on a way to an id that is not on it all pairs are counted
+-- on a path to an id that is not on it, all pairs are counted
 way_count : (t : ℕ) (r : List ℕ) (e : ℕ) → Once (t ∷ r) → ¬ (In e (t ∷ r)) → count_pairs (pairs_along t r e ++ []) ≡ suc (length r)
 way_count t [] e o n = grind (arith, common_steps, n)
 way_count t (w ∷ r) e o n =
@@ -28,7 +28,7 @@ way_count t (w ∷ r) e o n =
 counted : (q : List ℕ) (n : ℕ) → edge_count (q ∷ []) ≡ n → IsEdgeCount (q ∷ []) n
 counted q n e = subst (IsEdgeCount (q ∷ [])) e (edges_are_counted (q ∷ []))
 
--- of one id, of two, and of at least three
+-- the number of edges for one id, for two, and for at least three
 pub no_edges : (i : ℕ) → IsEdgeCount ((i ∷ []) ∷ []) 0
 no_edges i = counted (i ∷ []) 0 (grind (arith, common_steps))
 

@@ -19,7 +19,7 @@ use Rattle.qh_polygon.proofs.ShapeIds.{first_two_in}
 use Rattle.qh_block.specs.steps.Segments.{IsFirstAlong}
 
 -- ---- scalar products along a line
--- a way along d, as any w sees it
+-- the scalar product of any w with a difference of points in a line along d
 seen_along : (d w i a b : Vector) → cross_product d (minus a i) ≡ cross_product d (minus b i)
     → dot d d *ℤ (dot w a -ℤ dot w b) ≡ (dot d a -ℤ dot d b) *ℤ dot w d
 seen_along d w i a b e =
@@ -32,7 +32,7 @@ seen_along d w i a b e =
     (add (add (mul N.x (less P.x Q.x)) (mul N.y (less P.y Q.y))) (mul N.z (less P.z Q.z))) refl)
     (ap (λ v. v.x) e) (ap (λ v. v.y) e) (ap (λ v. v.z) e)
 
--- what w sees at l, between a and b, is not above both, where t tells the way and s is its square
+-- the scalar product of w with l, between a and b, is not above both others; t is the position and s the square
 not_above : (s wa wl wb ta tl tb r : ℤ) → pos 0 <ℤ s → s *ℤ (wl -ℤ wa) ≡ (tl -ℤ ta) *ℤ r → s *ℤ (wl -ℤ wb) ≡ (tl -ℤ tb) *ℤ r
     → ta ≤ℤ tl → tl ≤ℤ tb → wa <ℤ wl → wb <ℤ wl → ⊥
 not_above s wa wl wb ta tl tb r h p q ha hb la lb =
@@ -41,15 +41,15 @@ not_above s wa wl wb ta tl tb r h p q ha hb la lb =
     by_lt_z (pos 0) r (λ up. not_less _ _ b (mul-nonpos_nonneg (tl -ℤ tb) r (omega (arith, ints, hb)) (less_le _ _ up)))
     (λ down. not_less _ _ a (mul-nonneg_nonpos (tl -ℤ ta) r (omega (arith, ints, ha)) down))
 
--- an order of ways from o is one of places
+-- the order of vectors from o is the order of positions
 later : (d o p q : Vector) → dot d (minus p o) ≤ℤ dot d (minus q o) → dot d p ≤ℤ dot d q
 later d o p q h = omega (arith, ints, dot-minus d p o, dot-minus d q o)
 
--- a way ahead is one to a place further on
+-- a vector forward leads to a position further on
 ahead : (d o p : Vector) → pos 0 <ℤ dot d (minus p o) → dot d o <ℤ dot d p
 ahead d o p h = omega (arith, ints, dot-minus d p o)
 
--- the way back
+-- the scalar product of the reversed vector is the opposite one
 back : (i j p : Vector) → dot (minus i j) p ≡ neg_ℤ (dot (minus j i) p)
 back i j p = ring (put i (put j (put p []))) (dotE (subE (vec 0) (vec 1)) (vec 2)) (neg (dotE (subE (vec 1) (vec 0)) (vec 2))) refl
 
@@ -67,21 +67,21 @@ module _ (pts : List Vector) (ids : List ℕ) (i j e g : ℕ) (two : AreFirstTwo
   in_line : (k : ℕ) → In k ids → IsInLine pts i j k
   in_line k m = let r = in_at ids k m in subst (IsInLine pts i j) r.2 (line r.0 r.1)
 
-  -- the way, and how far an id is along it
+  -- the direction of the line, and how far an id is along it
   abbrev way : Vector
   way = minus (at j) (at i)
 
   abbrev far : ℕ → ℤ
   far k = dot way (at k)
 
-  -- different ids are apart
+  -- different ids have different points
   apart : (a b : ℕ) → In a ids → In b ids → a ≢ b → pos 0 <ℤ dot (minus (at b) (at a)) (minus (at b) (at a))
   apart a b ma mb n = square-positive (minus (at b) (at a)) (λ h. n (set.distinct a b ma mb (same_point (at a) (at b) h)))
 
   long : pos 0 <ℤ dot way way
   long = apart i j has.0 has.1 (λ h. ne_of_lt (set.rising 0 two.two) (two.first ∙ h ∙ sym two.second))
 
-  -- w has no greatest between two others
+  -- w has no greatest value between two other points
   not_between : (w : Vector) (a l b : ℕ) → In a ids → In l ids → In b ids → far a ≤ℤ far l → far l ≤ℤ far b
       → dot w (at a) <ℤ dot w (at l) → dot w (at b) <ℤ dot w (at l) → ⊥
   unfolding cross
@@ -90,13 +90,13 @@ module _ (pts : List Vector) (ids : List ℕ) (i j e g : ℕ) (two : AreFirstTwo
       (λ k m. seen_along way w (at i) (at l) (at k) (in_line l ml ∙ sym (in_line k m))) in
       not_above (dot way way) (dot w (at a)) (dot w (at l)) (dot w (at b)) (far a) (far l) (far b) (dot w way) long (see a ma) (see b mb)
 
-  -- different ids are not as far
+  -- different ids are at different distances
   strictly : (a b : ℕ) → In a ids → In b ids → a ≢ b → far a ≤ℤ far b → far a <ℤ far b
   strictly a b ma mb n h =
       let w = minus (at b) (at a) in let up = ahead w (at a) (at b) (apart a b ma mb n) in
       le_less (far a) (far b) h (λ q. not_between w a b a ma mb ma h (equal_le (far b) (far a) (sym q)) up up)
 
-  -- the first is the least far, and the last the furthest
+  -- the first has the least distance, and the last the greatest
   least : (k : ℕ) → In k ids → far e ≤ℤ far k
   least k m = later way (at i) (at e) (at k) (first.first k m)
 
@@ -105,11 +105,11 @@ module _ (pts : List Vector) (ids : List ℕ) (i j e g : ℕ) (two : AreFirstTwo
       let d = minus (at i) (at j) in
       neg_le _ _ (far g) (far k) (back (at i) (at j) (at g)) (back (at i) (at j) (at k)) (later d (at j) (at g) (at k) (last.first k m))
 
-  -- they differ
+  -- the first and the last differ
   pub ends_differ : e ≢ g
   ends_differ h = let same = ap far h in omega (arith, ints, least i has.0, ahead way (at i) (at j) long, most j has.1, same)
 
-  -- they are extreme, as the greatest along the way or the way back
+  -- the first and the last are extreme, as the greatest along the line or in the opposite direction
   last_extreme : IsEnd g
   last_extreme = greatest_is_extreme at ids way g last.member (λ a o. inl (strictly a g o.0 last.member o.1 (most a o.0)))
 
@@ -118,7 +118,7 @@ module _ (pts : List Vector) (ids : List ℕ) (i j e g : ℕ) (two : AreFirstTwo
       (λ a o. (let up = strictly e a first.member o.0 (λ h. o.1 (sym h)) (least a o.0) in
       inl (lt_neg _ _ (far a) (far e) (back (at i) (at j) (at a)) (back (at i) (at j) (at e)) up)))
 
-  -- and no other is
+  -- no other id is extreme
   only : (l : ℕ) → IsEnd l → (l ≡ e) ⊎ (l ≡ g)
   only l x = grind (arith, neither)
     where

@@ -32,7 +32,7 @@ three_members at (x ∷ []) i j k a b c area = absurd (let d = corners_differ at
 three_members at (x ∷ y ∷ []) i j k a b c area = absurd (let d = corners_differ at i j k area in grind (arith, d, a, b, c))
 three_members at (x ∷ y ∷ z ∷ xs) i j k a b c area = three x y z xs
 
--- the opposite of a normal is that of the triangle the other way round
+-- the opposite of a normal is that of the reversed triangle
 opposite_is : (a b c : Vector) → minus origin (cross a b c) ≡ cross a c b
 opposite_is a b c =
     vector_path _ (opposite (cross a b c)) (omega (arith, ints)) (omega (arith, ints)) (omega (arith, ints)) ∙ sym (cross-flip a b c)
@@ -77,7 +77,7 @@ module _ (pts : List Vector) (ids : List ℕ) (n : Vector) (s : IsPlanarSet pts 
   flat_face = ⊎_elim (λ e. face s.i s.j s.k s.has_i s.has_j s.has_k e)
       (λ e. face s.i s.k s.j s.has_i s.has_k s.has_j (e ∙ opposite_is (at s.i) (at s.j) (at s.k))) s.normal
 
-  -- it has at least three members, since each id is a combination of them
+  -- the polygon has at least three members, since each id is a combination of them
   at_least : HasThree q
   at_least =
       let t = triangle_of at (Members ids) (λ l. In l q) (λ a m.
@@ -86,7 +86,7 @@ module _ (pts : List Vector) (ids : List ℕ) (n : Vector) (s : IsPlanarSet pts 
       (record { i = s.i; j = s.j; k = s.k; has_i = s.has_i; has_j = s.has_j; has_k = s.has_k; area = s.area }) in
       three_members at q t.i t.j t.k t.has_i t.has_j t.has_k t.area
 
-  -- so it is the hull
+  -- so the polygon is the hull
   pub polygon_is_body : (b : BodyValue) → IsDimension at (Members ids) 2 → IsFlatBody 2 q (length q) b → IsBody at (Members ids) b
   polygon_is_body b d h =
       flat_is_body pts ids b 2 q (length q) h d p.members (inr (inl (refl, (q, flat_face, refl)))) (edges_round q at_least p.once)

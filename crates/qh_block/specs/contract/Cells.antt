@@ -1,4 +1,4 @@
--- Boxes of space, and cells: a box with the planes that come near it. This project's own.
+-- Boxes of space, and cells: a box with the planes near it. This project's own.
 use Rattle.std.specs.Prelude.{◌⊎◌, ◌<◌, ℕ, List, All, length, slice_index_or, pos, ◌<ℤ◌}
 use Rattle.qh_model.specs.headline.Vector.{Vector, origin}
 use Rattle.qh_model.specs.contract.Places.{IsPlace}
@@ -9,7 +9,7 @@ use Rattle.qh_block.specs.declared.regions.bounds.Bounds.{Bounds}
 use Rattle.qh_block.specs.declared.regions.cells.Cell.{Cell}
 use Rattle.qh_block.specs.declared.regions.columns.Columns.{Columns}
 
--- a point from one corner of a box to the other
+-- a point between the two corners of a box
 abbrev pub IsWithin : Bounds → Vector → Type 0
 IsWithin b p = IsInBox b.low b.high p
 
@@ -17,7 +17,7 @@ IsWithin b p = IsInBox b.low b.high p
 abbrev pub IsBelow : Bounds → PlaneValue → Type 0
 IsBelow b plane = (p : Vector) → IsWithin b p → height plane p <ℤ pos 0
 
--- the plane with a number in a list, or none of importance past its end
+-- the plane with a number in a list; past its end an arbitrary plane
 abbrev pub numbered : List PlaneValue → ℕ → PlaneValue
 numbered planes k = slice_index_or planes k (record { normal = origin; offset = pos 0 })
 
@@ -25,7 +25,7 @@ numbered planes k = slice_index_or planes k (record { normal = origin; offset = 
 abbrev pub AreNear : List PlaneValue → Bounds → List ℕ → Type 0
 AreNear planes b near = (k : ℕ) → k < length planes → IsBelow b (numbered planes k) ⊎ In k near
 
--- so it is for a cell
+-- each plane of the list is listed in the cell as near, or strictly above all points of the cell's box
 abbrev pub IsCellOf : List PlaneValue → Cell → Type 0
 IsCellOf planes c = AreNear planes c.bounds c.near.items
 

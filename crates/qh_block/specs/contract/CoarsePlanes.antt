@@ -1,4 +1,4 @@
--- Planes with normals of few bits, each below another one wherever points are. This project's own.
+-- Planes with normals of few bits, each below another plane wherever points are. This project's own.
 use Rattle.std.specs.Prelude.{◌^◌, ℤ, pos, neg_ℤ, ◌≤ℤ◌, ◌<ℤ◌}
 use Rattle.qh_model.specs.headline.Vector.{Vector}
 use Rattle.qh_model.specs.contract.Places.{IsPlace}
@@ -8,7 +8,7 @@ use Rattle.qh_pred.specs.contract.Planes.{PlaneValue, height}
 abbrev pub IsOffset : ℤ → Type 0
 IsOffset n = (neg_ℤ (pos (2 ^ 63)) ≤ℤ n) × (n <ℤ pos (2 ^ 63))
 
--- what a coarse plane keeps: a normal no greater than points are, and an offset of 64 bits
+-- the invariant of a coarse plane: a normal within the limit of coordinates, and an offset of 64 bits
 pub record IsCoarse (plane : PlaneValue) : Type 0 where
   pub normal : IsPlace plane.normal
   pub offset : IsOffset plane.offset

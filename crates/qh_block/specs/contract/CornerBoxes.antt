@@ -10,12 +10,12 @@ use Rattle.qh_block.specs.contract.Cells.{IsWithin}
 abbrev pub IsPointOf : List Vector → List ℕ → Vector → Type 0
 IsPointOf pts ids p = (i : ℕ) × In i ids × (place pts i ≡ p)
 
--- no nearer than the end of a range that is above, or below
+-- a number is at or beyond the upper or the lower end of a range
 abbrev pub IsBeyond : Bool → ℤ → ℤ → ℤ → Type 0
 IsBeyond true low high n = high ≤ℤ n
 IsBeyond false low high n = n ≤ℤ low
 
--- a point in the octant of a corner of the box, looking outwards; the corner is named by its end along each axis
+-- a point in the outward octant of a corner of the box; the corner is named by its end along each axis
 abbrev pub IsOutward : Bool → Bool → Bool → Bounds → Vector → Type 0
 IsOutward x y z b p = IsBeyond x b.low.x b.high.x p.x × IsBeyond y b.low.y b.high.y p.y × IsBeyond z b.low.z b.high.z p.z
 
@@ -31,6 +31,6 @@ IsEnd low n high = (n ≡ low) ⊎ (n ≡ high)
 abbrev pub IsCorner : Bounds → Vector → Type 0
 IsCorner b p = IsEnd b.low.x p.x b.high.x × IsEnd b.low.y p.y b.high.y × IsEnd b.low.z p.z b.high.z
 
--- a point of the box that is no corner of it
+-- a point of the box that is not a corner of it
 abbrev pub IsHeldBy : Bounds → Vector → Type 0
 IsHeldBy b p = IsWithin b p × ¬ (IsCorner b p)

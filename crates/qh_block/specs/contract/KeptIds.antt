@@ -1,4 +1,4 @@
--- The ids of a set that are kept where those go whose points a region holds. This project's own.
+-- The ids of a set that are kept if the ids with points in a region are removed. This project's own.
 use Rattle.std.specs.Prelude.{ℕ, List}
 use Rattle.std.specs.List.Sorted.{IsStrictlyIncreasing}
 use Rattle.qh_model.specs.headline.Vector.{Vector}
@@ -10,12 +10,12 @@ use Rattle.qh_model.specs.headline.Extreme.{Extreme}
 abbrev pub HasNoExtreme : List Vector → List ℕ → (Vector → Type 0) → Type 0
 HasNoExtreme pts ids held = (i : ℕ) → In i ids → held (place pts i) → ¬ (Extreme (place pts) (Members ids) i)
 
--- what is kept of some ids of a set, in their order: all of them that are extreme in the set
+-- the ids kept of some ids of a set, in order: they include all that are extreme in the set
 pub record IsKept (pts : List Vector) (all ids kept : List ℕ) : Type 0 where
   pub rising : IsStrictlyIncreasing ids → IsStrictlyIncreasing kept
   pub within : (i : ℕ) → In i kept → In i ids
   pub extremes : (i : ℕ) → In i ids → Extreme (place pts) (Members all) i → In i kept
 
--- so it is for each set that has the ids, and that has no extreme id whose point is held
+-- the ids are kept in this way for each set that has the ids and has no extreme id whose point is held
 pub record KeepsExtremes (pts : List Vector) (held : Vector → Type 0) (ids kept : List ℕ) : Type 0 where
   pub each : (all : List ℕ) → ((i : ℕ) → In i ids → In i all) → HasNoExtreme pts all held → IsKept pts all ids kept

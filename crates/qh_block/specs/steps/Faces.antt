@@ -11,14 +11,14 @@ use Rattle.qh_mesh.specs.contract.Replacement.{IsLive}
 use Rattle.qh_surface.specs.contract.Walks.{mark_at}
 use Rattle.qh_bodies.specs.contract.ApartPolygons.{AreApart}
 
--- the corners of a facet, and of the listed facets, as listed
+-- the corners of a facet, and of the listed facets in order
 abbrev pub three_of : List StoredFacet → ℕ → List ℕ
 three_of fs v = (facet_at fs v).i ∷ (facet_at fs v).j ∷ (facet_at fs v).k ∷ []
 
 abbrev pub corners_of : List StoredFacet → List ℕ → List ℕ
 corners_of fs vs = flat_map (three_of fs) vs
 
--- three ids in their turn, from the least on
+-- three ids in cyclic order, beginning with the least
 abbrev pub from_least : ℕ → ℕ → ℕ → List ℕ
 from_least i j k =
     if nat_lt i j && nat_lt i k then i ∷ j ∷ k ∷ []

@@ -1,4 +1,4 @@
--- What is right for a set of ids of a list of points, where the ids rise and have distinct points.
+-- The right results for a set of ids of a list of points, if the ids rise and have distinct points.
 use Rattle.std.specs.Prelude.{ℕ, List}
 use Rattle.qh_model.specs.contract.IdSets.{IsIdSet}
 use Rattle.qh_model.specs.headline.Hull.{AreExtremes, BodyValue, IsBody}
@@ -6,10 +6,10 @@ use Rattle.qh_model.specs.headline.Predicates.{place}
 use Rattle.qh_model.specs.headline.Sets.{Members}
 use Rattle.qh_block.specs.declared.regions.id_set.IdSet.{IdSet}
 
--- its extreme ids
+-- the extreme ids of the set
 abbrev pub AreExtremesOf : IdSet → List ℕ → Type 0
 AreExtremesOf s es = IsIdSet s.pts.now s.ids.now → AreExtremes (place s.pts.now) (Members s.ids.now) es
 
--- its hull
+-- the hull of the set
 abbrev pub IsHullOf : IdSet → BodyValue → Type 0
 IsHullOf s b = IsIdSet s.pts.now s.ids.now → IsBody (place s.pts.now) (Members s.ids.now) b

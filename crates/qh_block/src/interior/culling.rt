@@ -1,4 +1,4 @@
-//! The corner box and the rounds of the filter, one after the other.
+//! The corner box and the rounds of the filter, in order.
 ghost use Rattle.std.specs.Prelude.{◌<◌, ℕ, IfOk, IfSome, length};
 ghost use Rattle.std.specs.List.Sorted.{IsStrictlyIncreasing};
 ghost use Rattle.qh_model.specs.contract.IdSets.{AreIndices};
@@ -17,8 +17,8 @@ use qh_pred::point_at;
 use std::alloc::Global;
 use std::thread::Threads;
 
-/// Returns true if at least half of a sample of a set, each `step`-th id, lies in a region, so that it pays to
-/// test all ids.
+/// Returns true if at least half of a sample of a set, each `step`-th id, lies in a region, so that it pays to test all
+/// ids.
 fn has_most<R: Region>(region: &R, set: IdSet, step: usize) -> bool {
     let mut held: usize = 0;
     let mut count: usize = 0;
@@ -31,8 +31,7 @@ fn has_most<R: Region>(region: &R, set: IdSet, step: usize) -> bool {
     filter_pays(held, count)
 }
 
-/// Returns the ids of a large set but those that a round finds inside; `None` if the round does
-/// not pay.
+/// Returns the ids of a large set without those that a round finds inside; `None` if the round does not pay.
 fn ids_after_round<S: Sieve>(
     sieve: &S,
     alloc: Global,
@@ -63,8 +62,8 @@ fn ids_after_round<S: Sieve>(
     Ok(Some(outer))
 }
 
-/// Returns the ids of a large set but those that are found inside, in two rounds, or of a smaller one in
-/// one; `None` if the first does not pay.
+/// Returns the ids of a set without those that are found inside, in two rounds for a large set and in one for a smaller
+/// set. Returns `None` if the first round does not pay.
 pub fn cull_ids<S: Sieve>(sieve: &S, alloc: Global, set: IdSet) -> Result<Option<Vec<Id>>, Memory>
     requires some { 0 < length set.ids.now }
     requires ready { S.ready sieve.now }
@@ -85,8 +84,8 @@ pub fn cull_ids<S: Sieve>(sieve: &S, alloc: Global, set: IdSet) -> Result<Option
     }
 }
 
-/// Returns the ids of a set but those that lie in its corner box; `None` if the set is small, or if a sample says
-/// that few do.
+/// Returns the ids of a set without those that lie in its corner box; `None` if the set is small, or if few ids of a
+/// sample lie in the box.
 fn ids_outside_box(alloc: Global, set: IdSet) -> Result<Option<Vec<Id>>, Memory>
     requires { 0 < length set.ids.now }
     ensures some { IfOk result (λ found. IfSome found (λ v. 0 < length v.items)) }
@@ -106,8 +105,8 @@ fn ids_outside_box(alloc: Global, set: IdSet) -> Result<Option<Vec<Id>>, Memory>
     Ok(Some(outer))
 }
 
-/// Returns what [`cull_ids`] leaves of a part of a set that has all extreme ids of the set; the whole part where it
-/// does not pay.
+/// Returns the ids that [`cull_ids`] keeps of a part of a set, or the whole part if the filter does not pay. The part
+/// has all extreme ids of the set.
 fn cull_part(alloc: Global, set: IdSet, part: Vec<Id>) -> Result<Vec<Id>, Memory>
     requires some { 0 < length part.items }
     requires part { IsOuterPart set.pts.now set.ids.now part.items }
@@ -124,11 +123,11 @@ fn cull_part(alloc: Global, set: IdSet, part: Vec<Id>) -> Result<Vec<Id>, Memory
     }
 }
 
-/// Returns the ids of a set but those that the calling thread finds not to be extreme: those in its corner box, and of
-/// a large set those strictly inside the hull of a sample; `None` if no filter pays.
+/// Returns the ids of a set without those that the calling thread finds not to be extreme: those in its corner box, and
+/// of a large set those strictly inside the hull of a sample. Returns `None` if no filter pays.
 ///
-/// The set has at least one id. What is left has all extreme ids, so its hull is that of the set, and rises where
-/// the ids do.
+/// The set has at least one id. The returned ids include all extreme ids, so their hull is that of the set. They rise
+/// if the ids of the set do.
 ///
 /// # Errors
 ///
@@ -148,11 +147,11 @@ pub fn cull_alone(alloc: Global, set: IdSet) -> Result<Option<Vec<Id>>, Memory>
     Ok(Some(cull_part(alloc, set, first)?))
 }
 
-/// Returns the ids of a large set but those that the interior filter finds strictly inside, by at most
-/// `threads` threads; `None` if no filter pays: the set is small, or the sample says that few ids are inside.
+/// Returns the ids of a large set without those that the interior filter finds strictly inside, by at most `threads`
+/// threads. Returns `None` if no filter pays: the set is small, or the sample shows that few ids are inside.
 ///
-/// `ids` has at least one id, each the index of one of the points. What is left has all extreme ids, so
-/// its hull is that of the set, and rises where `ids` does.
+/// `ids` has at least one id, each the index of one of the points. The returned ids include all extreme ids, so their
+/// hull is that of the set. They rise if `ids` does.
 ///
 /// # Errors
 ///

@@ -1,6 +1,6 @@
-//! When the filter runs, and over how much of a set: every number and rule, with its reason.
+//! The rules of when the filter runs and over how much of a set: every number and rule, with its reason.
 //!
-//! These rules change the time and never an answer, since what the filter leaves has the same hull.
+//! These rules affect the time and never an answer, since the ids that the filter keeps have the same hull.
 //! docs/PERFORMANCE.md has the measurements.
 ghost use Rattle.std.specs.Prelude.{◌<◌};
 
@@ -16,8 +16,7 @@ pub struct Round {
 }
 
 impl Round {
-    /// Returns how many ids of a set of this length stand between two of the sample, the first of them
-    /// among these.
+    /// Returns the distance between consecutive ids of the sample in a set of this length.
     pub fn stride(&self, count: usize) -> usize
         ensures { 0 < result }
     {
@@ -25,36 +24,36 @@ impl Round {
     }
 }
 
-/// The one round of a set too small for the first of two rounds.
+/// The only round of a set that is too small for two rounds.
 ///
-/// Its sample and its grid are small, so that they cost little where the set is small, too. Of fewer ids
-/// the sample is a large part.
+/// Its sample and its grid are small, so that they cost little for a small set, too. For fewer ids, the sample is a
+/// large part of the set.
 pub const SMALL_ROUND: Round = Round {
     from: 8_192,
     sample: 128,
     side_bits: 3,
 };
 
-/// The first round tests all ids. The hull of a small sample has most of them inside if it has any.
+/// The first round tests all ids. The hull of even a small sample has most of them inside, if most are inside at all.
 ///
-/// Of fewer ids the sample is a large part.
+/// For fewer ids, the sample is a large part of the set.
 pub const FIRST_ROUND: Round = Round {
     from: 50_000,
     sample: 2_048,
     side_bits: 5,
 };
 
-/// The second round goes over what the first leaves, which lies near the surface of the hull.
+/// The second round tests the ids that the first keeps, which lie near the surface of the hull.
 ///
-/// Its sample is larger, since a point near the surface is outside of the hull of a small one. The
-/// hull of a still larger sample takes as much longer as the tree above the filter is faster.
+/// Its sample is larger, since a point near the surface is outside the hull of a small sample. The hull of a still
+/// larger sample costs as much time as the tree above the filter saves.
 pub const SECOND_ROUND: Round = Round {
     from: 32_768,
     sample: 8_192,
     side_bits: 5,
 };
 
-/// Returns the round that goes over all ids of a set of this length.
+/// Returns the round that tests all ids of a set of this length.
 pub fn round_of_all(count: usize) -> Round {
     if count < FIRST_ROUND.from {
         SMALL_ROUND
@@ -68,13 +67,13 @@ pub fn round_of_all(count: usize) -> Round {
 /// The box of fewer points holds few of them.
 pub const BOX_FROM: usize = 256;
 
-/// About the size of the sample, spread over the set, that decides whether the corner box has most of its points.
+/// The approximate size of the sample, spread over the set, that decides if most points are in the corner box.
 pub const BOX_SAMPLE: usize = 128;
 
 /// Returns true if the hull of the interior filter's sample has few enough facets.
 ///
-/// A hull of n points has at most 2 n - 4 facets. More than half of this number say that most of the sample
-/// is extreme, so that few points of the set are inside.
+/// A hull of n points has at most 2 n - 4 facets. If there are more than half of these, most of the sample is extreme,
+/// so few points of the set are inside.
 pub fn sample_pays(facets: usize, sample: usize) -> bool {
     facets <= sample
 }

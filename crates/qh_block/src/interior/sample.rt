@@ -1,4 +1,4 @@
-//! The hull of a few ids of a set, spread over it, as planes.
+//! The planes of the hull of a sample of a set.
 ghost use Rattle.std.specs.Prelude.{◌≡◌, ◌*◌, ◌<◌, ℕ, slice_index, IfOk, IfSome, IsTrue, length};
 ghost use Rattle.std.specs.List.Sorted.{IsStrictlyIncreasing};
 ghost use Rattle.qh_block.specs.steps.InnerPoints.{HasPlanes, AreInner};
@@ -13,7 +13,7 @@ use qh_surface::starts::Simplex;
 use qh_surface::{plane_of, surface_from};
 use std::alloc::{AllocError, Global};
 
-/// Returns every `step`-th id, from the first on.
+/// Returns every `many`-th id, beginning with the first.
 pub fn one_of(alloc: Global, ids: &[Id], many: usize) -> Result<Vec<Id>, AllocError>
     requires some { 0 < length ids.now }
     requires many { 0 < many }
@@ -24,7 +24,7 @@ pub fn one_of(alloc: Global, ids: &[Id], many: usize) -> Result<Vec<Id>, AllocEr
     ids.chunks(many).map(|part| part[0]).collect(alloc)
 }
 
-/// Returns coarse planes under those of the live facets.
+/// Returns coarse planes below those of the live facets.
 fn planes_of(alloc: Global, pts: &[Point], mesh: &Mesh) -> Result<Vec<CoarsePlane>, AllocError>
     requires corners { AreCornersBelow (length pts.now) mesh.now }
     ensures { IfOk result (λ v. HasPlanes pts.now mesh.now v.items) }
@@ -48,8 +48,8 @@ fn rise(ids: &[Id]) -> bool
     true
 }
 
-/// Returns the columns inside the hull of a sample, 2 to a power along each axis, by a sieve; `None` if it lies in a
-/// plane or does not rise, or if it has more facets than a set has with many ids inside.
+/// Returns the columns inside the hull of a sample, 2 to a power along each axis, with cells made by a sieve. Returns
+/// `None` if the sample lies in a plane or does not rise, or if it has more facets than `sample_pays` allows.
 pub fn inner_columns<S: Sieve>(
     sieve: &S,
     alloc: Global,

@@ -1,4 +1,4 @@
-//! Boxes of space with sides along the axes.
+//! Axis-parallel boxes of space.
 ghost use Rattle.std.specs.Prelude.{◌≡◌, ◌⊎◌, ◌↔◌, IsTrue};
 ghost use Rattle.qh_model.specs.contract.Places.{IsPlace};
 ghost use Rattle.qh_model.specs.headline.Vector.{Vector};
@@ -10,8 +10,8 @@ use crate::regions::coarse_planes::CoarsePlane;
 use qh_model::Point;
 use qh_pred::{greatest_of, least_of};
 
-/// The points from one corner to the opposite one, these among them. There is no such point where a coordinate
-/// of the first corner is the greater one.
+/// The points between two opposite corners, which are included. There is no point if a coordinate of the first corner
+/// is greater than that of the second.
 #[derive(Clone, Copy, Drop)]
 pub struct Bounds {
     pub low: Point,
@@ -48,7 +48,7 @@ fn near_end(factor: i32, low: i32, high: i32) -> i32
 }
 
 impl Bounds {
-    /// Bounds with no point between them.
+    /// Returns bounds without points.
     pub fn none() -> Bounds
         ensures { (p : Vector) → ¬ (IsWithin result p) }
     {
@@ -58,7 +58,7 @@ impl Bounds {
         }
     }
 
-    /// Returns true if a point is among theirs.
+    /// Returns true if the bounds contain a point.
     pub fn contains(&self, p: Point) -> bool
         ensures within { IsTrue result ↔ IsWithin self.now p }
         ensures place { IsPlace p }
@@ -91,7 +91,7 @@ impl Bounds {
         )
     }
 
-    /// Returns the corner that lies furthest against a plane's normal.
+    /// Returns the corner that lies furthest in the direction opposite to a plane's normal.
     pub fn near_corner(&self, plane: &CoarsePlane) -> Point {
         let tip = plane.tip();
         Point::new(
@@ -101,15 +101,15 @@ impl Bounds {
         )
     }
 
-    /// Returns true if a plane is strictly above all of the points: the corner that lies furthest along
-    /// its normal is below it.
+    /// Returns true if a plane is strictly above all of the points: the corner that lies furthest along its normal is
+    /// below it.
     pub fn is_below(&self, plane: &CoarsePlane) -> bool
         ensures { IsTrue result → IsBelow self.now plane.now }
     {
         plane.is_above(self.far_corner(plane))
     }
 
-    /// Returns the points that are among both.
+    /// Returns the points that both bounds contain.
     pub fn common(&self, other: &Bounds) -> Bounds
         ensures { (p : Vector) → IsWithin result p → IsWithin self.now p }
     {

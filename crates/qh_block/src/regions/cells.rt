@@ -9,11 +9,11 @@ use crate::regions::coarse_planes::CoarsePlane;
 use qh_model::{COORDINATE_LIMIT, Memory, Point};
 use std::alloc::{AllocError, Global};
 
-/// A box of space, and the planes of a hull that come near it, by their numbers in a list.
+/// A box of space, and the planes of a hull near it, by their numbers in a list.
 ///
-/// Each other plane of the hull is strictly above all points of the box, so the planes that are near tell
-/// which of its points are strictly inside the hull. Numbers take little memory: the planes of all cells
-/// together would not fit a processor's own.
+/// Each other plane of the hull is strictly above all points of the box. So the near planes decide which of its points
+/// are strictly inside the hull. Numbers take little memory; copies of the planes of all cells would not fit the cache
+/// of a processor.
 #[derive(Drop)]
 pub struct Cell {
     pub bounds: Bounds,
@@ -22,7 +22,7 @@ pub struct Cell {
 
 /// Returns the numbers below a count, rising.
 ///
-/// `Err` says that an allocation failed, or that there are more than numbers of 32 bits.
+/// Returns `Err` if an allocation failed, or if the count exceeds the numbers of 32 bits.
 fn numbers_below(alloc: Global, count: usize) -> Result<Vec<u32>, Memory>
     ensures { IfOk result (λ v. v.items ≡ range_with_len 0 count) }
 {
@@ -57,7 +57,7 @@ fn is_under(planes: &[CoarsePlane], number: u32, p: Point) -> bool
 }
 
 impl Cell {
-    /// Returns the cell of all points, to which all planes are near.
+    /// Returns the cell of all points. All planes are near it.
     pub fn whole(alloc: Global, count: usize) -> Result<Cell, Memory>
         ensures { IfOk result (λ c. (planes : List PlaneValue) → length planes ≡ count → IsCellOf planes c) }
     {
@@ -71,7 +71,7 @@ impl Cell {
         })
     }
 
-    /// Returns the cell of no points, to which no plane is near.
+    /// Returns the cell without points. No plane is near it.
     pub fn none(alloc: Global) -> Cell
         ensures { (planes : List PlaneValue) → IsCellOf planes result }
     {
@@ -81,8 +81,7 @@ impl Cell {
         }
     }
 
-    /// Returns the part of the cell that lies between bounds, with those planes that are near the
-    /// part.
+    /// Returns the part of the cell that lies between bounds, with those planes that are near the part.
     pub fn part(
         &self,
         alloc: Global,
@@ -101,8 +100,7 @@ impl Cell {
         Ok(Cell { bounds, near })
     }
 
-    /// Returns the part of the cell that lies between bounds, with all planes that are near the
-    /// cell.
+    /// Returns the part of the cell that lies between bounds, with all planes that are near the cell.
     pub fn within(self, bounds: &Bounds) -> Cell
         ensures { (planes : List PlaneValue) → IsCellOf planes self → IsCellOf planes result }
     {

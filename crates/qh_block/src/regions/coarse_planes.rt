@@ -1,8 +1,8 @@
 //! Planes with normals of few bits, whose heights take 64 bits.
 //!
-//! The normal of three points far apart has components of 62 bits, so that a height takes 128. Where all that
-//! counts is that points are strictly below a plane, a plane with a shorter normal tells, a little below the
-//! plane wherever points are.
+//! The normal of three points that are far apart has components of 62 bits, so a height takes 128 bits. A plane with a
+//! shorter normal is enough to show that points are strictly below a plane, if it lies a little below that plane
+//! wherever points are.
 ghost use Rattle.std.specs.Prelude.{◌≡◌, ◌≤◌, ◌<◌, ◌*◌, ◌^◌, ◌↔◌, pos, ◌+ℤ◌, ◌-ℤ◌, ◌*ℤ◌, ◌≤ℤ◌, ◌<ℤ◌, IfSome, IsTrue, unsigned_abs};
 ghost use Rattle.qh_model.specs.declared.limits.TheConstants.{COORDINATE_LIMIT};
 ghost use Rattle.qh_model.specs.headline.Limits.{IsCoordinate};
@@ -20,7 +20,7 @@ use std::marker::Model;
 /// The bits of the components of a coarse plane's normal.
 const COMPONENT_BITS: u32 = 30;
 
-/// A plane whose normal has components no greater than coordinates are.
+/// A plane whose normal has components within the coordinate limit.
 ///
 /// A contract sees it as its normal and offset, whole numbers without bound.
 #[derive(Clone, Copy)]
@@ -74,8 +74,7 @@ fn length(steps: i64, step: i64) -> i128
     i128::from(steps) * i128::from(step)
 }
 
-/// Returns the step by which components of a normal are divided: a power of 2, and 1 where they are
-/// small.
+/// Returns the step by which components of a normal are divided: a power of 2, and 1 if they are small.
 fn step_of(normal: &Normal) -> i64 {
     let greatest = normal
         .x()
@@ -86,7 +85,7 @@ fn step_of(normal: &Normal) -> i64 {
     1i64.wrapping_shl(bits.saturating_sub(COMPONENT_BITS))
 }
 
-/// Returns the whole steps in a component of a normal, if they are as few as coordinates are great.
+/// Returns the number of whole steps in a component of a normal, if it is within the coordinate limit.
 fn steps_in(component: i128, step: i64) -> Option<i32>
     requires { unsigned_abs component ≤ normal_limit }
     ensures { IfSome result IsCoordinate }
@@ -100,7 +99,7 @@ fn steps_in(component: i128, step: i64) -> Option<i32>
     }
 }
 
-/// Returns what is left of a component of a normal without a part of it.
+/// Returns a component of a normal minus a part of it.
 fn left_of(component: i128, part: i128) -> i128
     requires component { unsigned_abs component ≤ normal_limit }
     requires part { unsigned_abs part ≤ 2 ^ 126 }
@@ -110,7 +109,7 @@ fn left_of(component: i128, part: i128) -> i128
     component - part
 }
 
-/// Returns a number that is not below 0 and has 64 bits, if it is such.
+/// Returns a number if it is not below 0 and fits 64 bits.
 fn small(number: i128) -> Option<i128>
     ensures same { IfSome result (λ found. found ≡ number) }
     ensures low { IfSome result (λ found. pos 0 ≤ℤ found) }
@@ -123,8 +122,7 @@ fn small(number: i128) -> Option<i128>
     }
 }
 
-/// Returns what a number of steps leaves of a component of a normal, if that is not below 0 and has 64
-/// bits.
+/// Returns a component of a normal minus a number of steps, if the rest is not below 0 and fits 64 bits.
 fn rest_of(component: i128, steps: i32, step: i64) -> Option<i128>
     requires { unsigned_abs component ≤ normal_limit }
     ensures rest { IfSome result (IsRest component steps step) }
@@ -146,7 +144,7 @@ fn total(x: i128, y: i128, z: i128) -> i128
     x + y + z
 }
 
-/// Returns the room for rests of this sum: the greatest scalar product of the rests and a point.
+/// Returns the bound for rests with this sum: the greatest scalar product of the rests and a point.
 fn room(total: i128) -> i128
     requires { unsigned_abs total ≤ 2 ^ 66 }
     ensures value { result ≡ total *ℤ pos COORDINATE_LIMIT }
@@ -165,7 +163,7 @@ fn tip_of(normal: &Normal, step: i64) -> Option<Point>
     Some(Point::new(x, y, z))
 }
 
-/// Returns the room for what the steps leave of the components of a normal.
+/// Returns the bound for the rests of the components of a normal after the steps.
 fn room_for(normal: &Normal, tip: Point, step: i64) -> Option<i128>
     ensures room { IfSome result (IsRoomFor normal.now tip step) }
     ensures limit { IfSome result (λ r. unsigned_abs r ≤ 2 ^ 96) }
@@ -176,7 +174,7 @@ fn room_for(normal: &Normal, tip: Point, step: i64) -> Option<i128>
     Some(room(total(x, y, z)))
 }
 
-/// Returns the greatest offset in steps that is found to leave so much room below that of a plane.
+/// Returns the greatest offset found, in steps, that is below the offset of a plane by at least `room`.
 fn lowered(plane: &Plane, room: i128, step: i64) -> Option<i64>
     requires { unsigned_abs room ≤ 2 ^ 96 }
     ensures low { IfSome result (IsLowered plane.now.offset room step) }
@@ -203,14 +201,14 @@ impl CoarsePlane {
         CoarsePlane { tip, offset }
     }
 
-    /// Returns a plane that no point is strictly below.
+    /// Returns a plane with no point strictly below it.
     fn below_all() -> CoarsePlane
         ensures { (p : Vector) → height result p ≡ pos 0 }
     {
         CoarsePlane::new(Point::new(0, 0, 0), 0)
     }
 
-    /// Returns the plane under another one whose normal is that of the other, divided by a step.
+    /// Returns the plane below another one whose normal is that of the other, divided by a step.
     fn with_step(plane: &Plane, step: i64) -> Option<CoarsePlane>
         ensures { IfSome result (IsUnder plane.now) }
     {
@@ -224,8 +222,8 @@ impl CoarsePlane {
         Some(CoarsePlane::new(tip, offset))
     }
 
-    /// Returns a plane under another one, as near to it as so few bits let it be: a point that is strictly
-    /// below it is strictly below the other.
+    /// Returns a plane below another one, as near to it as the few bits allow. A point that is strictly below the
+    /// returned plane is strictly below the other.
     pub fn under(plane: &Plane) -> CoarsePlane
         ensures { IsUnder plane.now result }
     {

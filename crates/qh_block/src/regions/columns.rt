@@ -1,5 +1,5 @@
-//! The columns of a grid, each in three cells of a hull: the middle, which is inside as far as a box can be,
-//! and what may be inside above and below it.
+//! The columns of a grid. Each has three cells of a hull: the middle, which is inside as far as a box can be, and the
+//! spaces above and below it, which may be partly inside.
 ghost use Rattle.std.specs.Prelude.{◌≡◌, IfOk, IsTrue};
 ghost use Rattle.std.specs.List.{All};
 ghost use Rattle.qh_block.specs.contract.Cells.{IsCellOf, HoldsPoint};
@@ -15,12 +15,12 @@ use crate::regions::sieves::Sieve;
 use qh_model::{Memory, Point};
 use std::alloc::{AllocError, Global};
 
-/// Planes close under those of a hull, and the cells of the columns of a grid between them, quarter by
-/// quarter: of each column first the middle, then what is above it, then what is below.
+/// Planes slightly below those of a hull, and the cells of the columns of a grid between them, quarter by quarter. Each
+/// column has first the middle, then the cell above it, then the cell below it.
 #[derive(Drop)]
 pub struct Columns {
     grid: Grid,
-    /// The planes, which the cells name by their places here.
+    /// The planes. The cells refer to them by their indices here.
     pub planes: Vec<CoarsePlane>,
     /// The cells, three for each column, in the order of the columns.
     pub cells: Vec<Cell>,
@@ -33,7 +33,7 @@ pub struct Plan<'a> {
     pub planes: &'a [CoarsePlane],
     /// The grid of the columns.
     pub grid: &'a Grid,
-    /// Along each axis the grid has 2 to this power of columns.
+    /// The grid has 2 to this power columns along each axis.
     pub side_bits: u32,
 }
 
@@ -52,8 +52,7 @@ fn cell_at(
     whole.part(alloc, planes, &heights.cut(&whole.bounds))
 }
 
-/// Returns the part of a cell over a square of columns, no higher and no lower than the planes near
-/// it let through.
+/// Returns the part of a cell over a square of columns, as high and as low as the planes near it allow.
 fn cell_over(
     alloc: Global,
     planes: &[CoarsePlane],
@@ -71,7 +70,7 @@ fn cell_over(
     Ok(part.within(&bounds))
 }
 
-/// Adds the three cells of a column to a list.
+/// Appends the three cells of a column to a list.
 fn push_cells(
     alloc: Global,
     planes: &[CoarsePlane],
@@ -93,7 +92,7 @@ fn push_cells(
     Ok(())
 }
 
-/// Adds the cells of all columns of a square to a list, of which one cell is known.
+/// Appends the cells of all columns of a square to a list, computed from one cell that contains them.
 fn push_square(
     alloc: Global,
     plan: Plan,
@@ -126,7 +125,7 @@ pub fn cells_between(alloc: Global, plan: Plan) -> Result<Vec<Cell>, Memory>
     Ok(cells)
 }
 
-/// Returns the cells of those quarters of the grid that have these numbers, one quarter after the other.
+/// Returns the cells of the quarters of the grid with these numbers, one quarter after the other.
 pub fn cells_of_quarters(alloc: Global, plan: Plan, numbers: &[u32]) -> Result<Vec<Cell>, Memory>
     ensures { IfOk result (λ v. All (IsCellOf plan.entry.planes.now) v.items) }
 {
@@ -144,11 +143,11 @@ pub fn cells_of_quarters(alloc: Global, plan: Plan, numbers: &[u32]) -> Result<V
 
 impl Columns {
     /// Returns the columns over the points of ids, 2 to the power `side_bits` along each axis, with their cells between
-    /// planes, which a sieve makes. A point that they hold is strictly below each of the planes.
+    /// planes; a sieve makes the cells. A point that they hold is strictly below each of the planes.
     ///
     /// # Errors
     ///
-    /// `Memory` where an allocation failed, or where there are more planes than numbers of 32 bits.
+    /// `Memory` if an allocation failed, or if there are more planes than numbers of 32 bits.
     pub fn between<S: Sieve>(
         sieve: &S,
         alloc: Global,
@@ -174,7 +173,7 @@ impl Columns {
         })
     }
 
-    /// Returns the place of the one cell of a point's column that may hold it.
+    /// Returns the index of the only cell of a point's column that may hold it.
     fn place(&self, p: Point) -> usize {
         let middle = self.grid.number(p).saturating_mul(3);
         match self.cells.get(middle) {
@@ -184,8 +183,8 @@ impl Columns {
         }
     }
 
-    /// Returns true if the one cell of a point's column that may hold it does: the point is in its box and strictly below
-    /// all planes that are near.
+    /// Returns true if the only cell of a point's column that may hold it does: the point is in its box and strictly
+    /// below all near planes.
     pub fn hold(&self, p: Point) -> bool
         ensures { IsTrue result → HoldsPoint self.now p }
     {

@@ -1,7 +1,7 @@
 //! The box between the points of a set that lie furthest along the diagonals of space.
 //!
-//! In the octant of each corner of the box, looking outwards, lies one of these points. So a point of the box is
-//! a combination of them, and is not extreme unless it is one of them, and so a corner of the box.
+//! The octant of each corner of the box, facing outwards, contains one of these points. So a point of the box is a
+//! convex combination of them. It is not extreme unless it is one of them, and then it is a corner of the box.
 //!
 //! Source: Akl and Toussaint 1978 (points between the extreme points of a few directions are thrown away).
 ghost use Rattle.std.specs.Prelude.{◌≡◌, ◌<◌, ℕ, List, length};
@@ -15,7 +15,7 @@ use crate::regions::region::Region;
 use qh_model::Point;
 use qh_pred::{greatest_of, least_of, point_at};
 
-/// The points that lie furthest along a diagonal of space, one way and the other, and how far they do.
+/// The points that lie furthest along a diagonal of space in both directions, and how far they lie.
 #[derive(Clone, Copy, Drop)]
 struct Diagonal {
     front: Point,
@@ -25,7 +25,7 @@ struct Diagonal {
 }
 
 impl Diagonal {
-    /// Returns the diagonal that has seen one point, which any other replaces.
+    /// Returns the diagonal after one point, which any other point replaces.
     fn at(point: Point) -> Diagonal
         ensures front { result.front ≡ point }
         ensures back { result.back ≡ point }
@@ -38,7 +38,7 @@ impl Diagonal {
         }
     }
 
-    /// Takes one more point, which lies so far along the diagonal.
+    /// Adds a point that lies at `reach` along the diagonal.
     #[inline(always)]
     fn see(&mut self, point: Point, reach: i64)
         ensures { (pts : List Vector) (ids : List ℕ) → AreEndsOf pts ids self.old.front self.old.back
@@ -55,7 +55,7 @@ impl Diagonal {
     }
 }
 
-/// The four diagonals of space, each by the way that y and z go where x grows.
+/// The four diagonals of space, each named by the directions of y and z as x grows.
 #[derive(Clone, Copy, Drop)]
 struct Diagonals {
     up_up: Diagonal,
@@ -65,7 +65,7 @@ struct Diagonals {
 }
 
 impl Diagonals {
-    /// Returns the diagonals that have seen one point, which any other replaces.
+    /// Returns the diagonals after one point, which any other point replaces.
     fn at(point: Point) -> Diagonals
         ensures { (pts : List Vector) (ids : List ℕ) → IsPointOf pts ids point → HasEndsOf pts ids result }
     {
@@ -77,7 +77,7 @@ impl Diagonals {
         }
     }
 
-    /// Takes one more point.
+    /// Adds a point.
     #[inline(always)]
     fn see(&mut self, point: Point)
         ensures { (pts : List Vector) (ids : List ℕ) → HasEndsOf pts ids self.old
@@ -110,16 +110,16 @@ impl Diagonals {
     }
 }
 
-/// The points of the box between points of a set, but its corners.
+/// The points of the box between points of a set, except its corners.
 #[derive(Clone, Copy, Drop)]
 pub struct CornerBox {
     bounds: Bounds,
 }
 
 impl CornerBox {
-    /// Returns the box of a set of at least one id, which holds the point of no extreme id of the set.
+    /// Returns the box of a set of at least one id. It does not contain the point of any extreme id of the set.
     ///
-    /// Where the points that lie furthest along the diagonals leave none between them, the box has no point.
+    /// The box is empty if there is no point between the points that lie furthest along the diagonals.
     pub fn of(set: IdSet) -> CornerBox
         requires { 0 < length set.ids.now }
         ensures { HasOutward set.entry.pts.now set.entry.ids.now result.bounds }

@@ -7,7 +7,7 @@ use crate::regions::id_set::IdSet;
 use qh_model::{COORDINATE_LIMIT, Point};
 use qh_pred::point_at;
 
-/// Where columns stand: from the least x and y on, each 2 to a power wide.
+/// The position of the columns: the least x and y, and the power of 2 that is the width of each column.
 #[derive(Clone, Copy, Drop)]
 pub struct Grid {
     west: i32,
@@ -15,7 +15,7 @@ pub struct Grid {
     width_bits: u32,
 }
 
-/// A square of columns: the place of its first one, and the power of 2 that is the length of its side.
+/// A square of columns: the place of its first column, and the power of 2 that is the length of its side.
 #[derive(Clone, Copy, Drop)]
 pub struct Square {
     pub x: u32,
@@ -39,7 +39,7 @@ fn spread(halves: u32) -> u32 {
 }
 
 impl Square {
-    /// Returns all columns, 2 to a power along each axis.
+    /// Returns the square of all columns, 2 to the power `side_bits` along each axis.
     pub fn whole(side_bits: u32) -> Square {
         Square {
             x: 0,
@@ -48,13 +48,12 @@ impl Square {
         }
     }
 
-    /// Returns how many columns it has.
+    /// Returns the number of columns in the square.
     pub fn columns(&self) -> usize {
         1usize.wrapping_shl(self.bits.saturating_mul(2))
     }
 
-    /// Returns one of the four squares in it, by the two bits of its number, with a side of this
-    /// length.
+    /// Returns one of the four squares in it, by the two bits of its number, with a side of 2 to the power `bits`.
     pub fn quarter(&self, bits: u32, number: u32) -> Square
         ensures { result.bits ≡ bits }
     {
@@ -68,7 +67,7 @@ impl Square {
 }
 
 impl Grid {
-    /// Returns the grid over the points of ids, with 2 to a power columns along each axis.
+    /// Returns the grid over the points of ids, with 2 to the power `side_bits` columns along each axis.
     pub fn over(set: IdSet, side_bits: u32) -> Grid {
         let (mut west, mut east) = (i32::MAX, i32::MIN);
         let (mut south, mut north) = (i32::MAX, i32::MIN);
@@ -114,8 +113,7 @@ impl Grid {
         }
     }
 
-    /// Returns the number of a point's column in the order of the quarters, where the grid has one
-    /// over it.
+    /// Returns the number of a point's column in the order of the quarters. The point has to lie over the grid.
     pub fn number(&self, p: Point) -> usize {
         let x = p.x().abs_diff(self.west).wrapping_shr(self.width_bits);
         let y = p.y().abs_diff(self.south).wrapping_shr(self.width_bits);

@@ -1,4 +1,4 @@
-//! Heights in a column between planes.
+//! Ranges of heights in a column between planes.
 
 use crate::regions::bounds::Bounds;
 use crate::regions::coarse_planes::CoarsePlane;
@@ -6,7 +6,7 @@ use crate::regions::grid::nearest_coordinate;
 use qh_model::Point;
 use std::cmp::Ordering;
 
-/// Numbers along the z axis, from the least to the greatest.
+/// A range of numbers along the z axis, from the least to the greatest.
 #[derive(Clone, Copy, Drop)]
 pub struct Heights {
     pub low: i64,
@@ -19,7 +19,7 @@ impl Heights {
         Heights { low: 1, high: 0 }
     }
 
-    /// Returns those between bounds.
+    /// Returns the heights between bounds.
     fn of(bounds: &Bounds) -> Heights {
         Heights {
             low: i64::from(bounds.low.z()),
@@ -27,8 +27,7 @@ impl Heights {
         }
     }
 
-    /// Returns those at which all places between bounds in x and y are below the planes that are
-    /// near.
+    /// Returns the heights at which all places between bounds in x and y are below the near planes.
     pub fn inside(planes: &[CoarsePlane], near: &[u32], bounds: &Bounds) -> Heights {
         let mut heights = Heights::of(bounds);
         for number in near {
@@ -39,8 +38,7 @@ impl Heights {
         heights
     }
 
-    /// Returns those at which some place between bounds in x and y may be below the planes that are
-    /// near.
+    /// Returns the heights at which some place between bounds in x and y may be below the near planes.
     pub fn reached(planes: &[CoarsePlane], near: &[u32], bounds: &Bounds) -> Heights {
         let mut heights = Heights::of(bounds);
         for number in near {
@@ -51,7 +49,7 @@ impl Heights {
         heights
     }
 
-    /// Returns the bounds in x and y of others, between these heights.
+    /// Returns bounds with the x and y of other bounds and these heights.
     pub fn cut(&self, bounds: &Bounds) -> Bounds {
         let (low, high) = (bounds.low, bounds.high);
         Bounds {
@@ -65,7 +63,7 @@ impl Heights {
         self.low > self.high
     }
 
-    /// Returns those above all of others.
+    /// Returns the heights above `others`.
     pub fn above(&self, others: &Heights) -> Heights {
         Heights {
             low: others.high.saturating_add(1),
@@ -73,7 +71,7 @@ impl Heights {
         }
     }
 
-    /// Returns those below all of others.
+    /// Returns the heights below `others`.
     pub fn under(&self, others: &Heights) -> Heights {
         Heights {
             low: self.low,
@@ -81,7 +79,7 @@ impl Heights {
         }
     }
 
-    /// Returns those of them at which a place in x and y is below a plane.
+    /// Returns the heights at which a place in x and y is below a plane.
     fn below(self, plane: &CoarsePlane, place: Point) -> Heights {
         let tip = plane.tip();
         let (x, y, z) = (i64::from(tip.x()), i64::from(tip.y()), i64::from(tip.z()));

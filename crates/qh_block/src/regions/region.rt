@@ -6,10 +6,10 @@ use qh_model::Point;
 
 /// A region of space.
 pub trait Region {
-    /// What is known of a point that it has.
+    /// Postcondition of `has` for a point for which it returns true.
     ghost held: { Self → Vector → Type 0 };
 
-    /// Returns true if the region is seen to have a point.
+    /// Returns true if a test shows that the region has a point. It may return false for a point of the region.
     fn has(&self, p: Point) -> bool
         ensures { IsTrue result → held self.now p };
 }

@@ -1,5 +1,5 @@
-//! Who makes the cells of columns, and sorts out the ids that columns hold: the calling thread alone, or threads
-//! side by side.
+//! Sieves make the cells of columns and remove the ids that columns hold. The calling thread does it alone, or several
+//! threads do it in parallel.
 ghost use Rattle.std.specs.Prelude.{◌≡◌, ◌*◌, ◌≤◌, ◌<◌, ℕ, List, IfOk, Result, Vec, take, drop, length, slice_index_or};
 ghost use Rattle.std.specs.List.{All};
 ghost use Rattle.std.specs.Thread.{IsSync};
@@ -18,41 +18,41 @@ use qh_threads::{PARTS_FOR_EACH, map_claimed};
 use std::alloc::{AllocError, Global};
 use std::thread::{self, Threads};
 
-/// The least number of ids that threads sort out together.
+/// The least number of ids that several threads process.
 const SHARED_FROM: usize = 16_384;
 
-/// The least number of columns whose cells threads make together.
+/// The least number of columns whose cells several threads make.
 const SHARED_COLUMNS: usize = 256;
 
-/// A way to make the cells of columns, and to go over the ids of a set.
+/// A way to make the cells of columns and to process the ids of a set.
 pub trait Sieve {
-    /// What is known of one that goes over ids.
+    /// Precondition of this sieve.
     ghost ready: { Self → Type 0 };
 
     /// Returns the cells of all columns, quarter by quarter.
     ///
     /// # Errors
     ///
-    /// `Memory` where an allocation failed, or where there are more planes than numbers of 32 bits.
+    /// `Memory` if an allocation failed, or if there are more planes than numbers of 32 bits.
     fn cells(&self, alloc: Global, plan: Plan) -> Result<Vec<Cell>, Memory>
         requires { ready self.now }
         ensures { IfOk result (λ v. All (IsCellOf plan.entry.planes.now) v.items) };
 
-    /// Returns the ids whose points the columns don't hold, in their order.
+    /// Returns the ids whose points the columns do not hold, in their order.
     ///
     /// # Errors
     ///
-    /// `AllocError` where an allocation failed.
+    /// `AllocError` if an allocation failed.
     fn outside(&self, alloc: Global, set: IdSet, columns: &Columns) -> Result<Vec<Id>, AllocError>
         requires { ready self.now }
         ensures { IfOk result (λ v. KeepsExtremes set.entry.pts.now (HoldsPoint columns.now) set.entry.ids.now v.items) };
 }
 
-/// Returns the ids whose points a region doesn't have, in their order, by the calling thread.
+/// Returns the ids whose points a region does not have, in their order. The calling thread does the work.
 ///
 /// # Errors
 ///
-/// `AllocError` where an allocation failed.
+/// `AllocError` if an allocation failed.
 pub fn ids_outside<R: Region>(alloc: Global, set: IdSet, region: &R) -> Result<Vec<Id>, AllocError>
     ensures { IfOk result (λ v. KeepsExtremes set.entry.pts.now (R.held region.now) set.entry.ids.now v.items) }
 {
@@ -65,8 +65,8 @@ pub fn ids_outside<R: Region>(alloc: Global, set: IdSet, region: &R) -> Result<V
     Ok(kept)
 }
 
-/// Returns the part with a number, where a set is cut into parts of `size` ids; the last may be
-/// shorter, and there is nothing past it.
+/// Returns the part with a number of a set that is cut into parts of `size` ids. The last part may be shorter, and a
+/// part past it is empty.
 fn part_at(set: IdSet, size: usize, number: usize) -> IdSet
     ensures points { result.pts.now ≡ set.entry.pts.now }
     ensures ids { result.ids.now ≡ take size (drop (number * size) set.entry.ids.now) }
@@ -80,7 +80,7 @@ fn part_at(set: IdSet, size: usize, number: usize) -> IdSet
     }
 }
 
-/// Returns what was kept of the parts of a set, one after the other.
+/// Returns the ids kept of the parts of a set, one part after the other.
 fn joined(
     alloc: Global,
     set: IdSet,
@@ -103,7 +103,7 @@ fn joined(
     Ok(kept)
 }
 
-/// Returns the ids that the columns don't hold, in their order, by a number of threads, which claim parts of the ids.
+/// Returns the ids that the columns do not hold, in their order. A number of threads claim parts of the ids.
 fn ids_outside_in_threads<R: Threads + Sync>(
     rt: &R,
     alloc: Global,
@@ -144,7 +144,7 @@ fn joined_cells(alloc: Global, parts: Vec<Result<Vec<Cell>, Memory>>) -> Result<
     Ok(cells)
 }
 
-/// Returns the cells of all columns, quarter by quarter, by a number of threads, each at some of the quarters.
+/// Returns the cells of all columns, quarter by quarter. Each of a number of threads makes those of some quarters.
 fn cells_in_threads<R: Threads + Sync>(
     rt: &R,
     alloc: Global,
@@ -169,7 +169,7 @@ fn cells_in_threads<R: Threads + Sync>(
     joined_cells(alloc, parts)
 }
 
-/// The calling thread alone.
+/// The sieve that uses the calling thread alone.
 #[derive(Clone, Copy, Debug)]
 pub struct Alone;
 
@@ -185,12 +185,12 @@ impl Sieve for Alone {
     }
 }
 
-/// A runtime and the greatest number of its threads.
+/// The sieve that uses several threads: a runtime and the greatest number of its threads.
 #[derive(Clone, Copy, Debug)]
 pub struct InThreads<'a, R> {
     /// The runtime that starts threads.
     pub rt: &'a R,
-    /// The most threads that work at a time. With fewer than two, the calling thread does all.
+    /// The greatest number of threads that work at a time. If it is below two, the calling thread does all.
     pub threads: usize,
 }
 

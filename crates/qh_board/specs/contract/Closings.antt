@@ -1,4 +1,4 @@
--- What a closed board shows.
+-- The contract view of a closed board.
 -- Source: this project's own.
 use Rattle.std.specs.Prelude.{if◌then◌else◌, ◌==◌, ℕ, ◌+◌, length, slice_index, count_by, List, Option}
 use Rattle.std.specs.Slots.{slots_items}
@@ -9,16 +9,16 @@ use Rattle.qh_board.specs.declared.view.Spans.{Ghosts}
 use Rattle.qh_board.specs.declared.closed.Closed.{Closed}
 use Rattle.qh_board.specs.contract.Tokens.{Token}
 
--- the mark that a word tells
+-- the mark that a word encodes
 abbrev pub mark_of_word : ℕ → ended.Mark
 mark_of_word n = if n == 1 then marks.Left else marks.GaveUp
 
 module _ {S : Type 0} where
-  -- how many claims a pass made: one for each block that it got, and one that told it that all are claimed
+  -- the number of claims of a pass: one for each block that it got, and one that found all blocks claimed
   abbrev pub claims_made : Token S → ℕ
   claims_made t = length t.pass.got + (if t.pass.over then 1 else 0)
 
-  -- how many of the tokens are those of pass w
+  -- the number of the tokens that belong to pass w
   abbrev pub tokens_of : ℕ → List (Token S) → ℕ
   tokens_of w ts = count_by (λ t. t.pass.number == w) ts
 
@@ -26,7 +26,7 @@ module _ {S X : Type 0} {g : Ghosts S X} where
   abbrev pub closed_setup : Closed S X g → Setup S
   closed_setup c = c.setup
 
-  -- how many claims there were
+  -- the number of claims
   abbrev pub closed_claims : Closed S X g → ℕ
   closed_claims c = c.claims
 

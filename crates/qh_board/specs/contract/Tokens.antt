@@ -1,4 +1,4 @@
--- What a contract sees of a board and of the tokens of its passes.
+-- The contract view of a board and of the tokens of its passes.
 -- Source: this project's own.
 use Rattle.std.specs.Prelude.{◌≡◌, ℕ, ◌<◌, List, length, slice_index_or, Option, Some}
 use Rattle.atomic_table.specs.Seated.{TableId}
@@ -7,19 +7,19 @@ use Rattle.qh_board.specs.declared.view.Setup.{Setup}
 use Rattle.qh_board.specs.declared.view.Record.{Record}
 use Rattle.qh_board.specs.contract.Records.{fresh_record, node_or}
 
--- a board: the table that it is, and what it was told when it was made
+-- a board: its table, and the parameters with which it was made
 pub record BoardValue (S : Type 0) : Type 0 where
   pub table : TableId
   pub setup : Setup S
 
--- a token, be it a Pass, a Task or a Left: the table and what its board was told, and the record of its pass
+-- a token, a Pass, a Task or a Left: the table and the parameters of its board, and the record of its pass
 pub record Token (S : Type 0) : Type 0 where
   pub table : TableId
   pub setup : Option (Setup S)
   pub pass : Record
 
 module _ {S : Type 0} where
-  -- the token is one of the board's
+  -- the token belongs to the board
   pub record IsOf (b : BoardValue S) (t : Token S) : Type 0 where
     pub table : t.table ≡ b.table
     pub setup : t.setup ≡ Some b.setup
@@ -32,7 +32,7 @@ module _ {S : Type 0} where
   abbrev pub task_node : Token S → ℕ
   task_node t = node_or t.pass.node
 
-  -- the passes of a new board: each has the number of its place, and has done nothing yet
+  -- the passes of a new board: each has the number of its position, and has made no step yet
   abbrev pub AreFresh : List (Token S) → Type 0
   AreFresh ts = (k : ℕ) (d : Token S) → k < length ts → (slice_index_or ts k d).pass ≡ fresh_record k
 

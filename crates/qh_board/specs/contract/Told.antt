@@ -1,4 +1,4 @@
--- What the calls of passes tell: the record of the pass after its step, by what the step found.
+-- The results of the calls of passes: the record of the pass after its step, depending on what the step found.
 -- Source: this project's own.
 use Rattle.std.specs.Prelude.{◌≡◌, ℕ, ◌+◌, ◌*◌, ◌/◌, ◌<◌, ◌≤◌, All}
 use Rattle.qh_board.specs.declared.view.Mark.{Mark}
@@ -10,7 +10,8 @@ use Rattle.qh_board.specs.contract.Records.{with_block, told_over, come_first, c
 use Rattle.qh_board.specs.contract.Tokens.{BoardValue, Token, IsOf, IsRightAt, task_node}
 
 module _ {S : Type 0} where
-  -- the claim found j claims, fewer than there are blocks, so that block j is this pass's; its last claim was before, and the blocks that it got are below
+  -- the claim found j claims, fewer than there are blocks, so that block j belongs to this pass; its last claim was before, and the blocks that it got are
+  -- below
   pub record GotBlock (b : BoardValue S) (pass task : Token S) : Type 0 where
     pub j : ℕ
     pub unclaimed : j < b.setup.blocks
@@ -26,19 +27,19 @@ module _ {S : Type 0} where
     pub mine : IsOf b after
     pub done : after.pass ≡ told_over n pass.pass
 
-  -- the arrival found nobody
+  -- the arrival was the first at the parent
   pub record CameFirst (b : BoardValue S) (task after : Token S) : Type 0 where
     pub inner : 1 < task_node task
     pub mine : IsOf b after
     pub done : after.pass ≡ come_first task.pass
 
-  -- the task was the root
+  -- the task was that of the root
   pub record CameOut (b : BoardValue S) (task after : Token S) : Type 0 where
     pub root : task_node task ≡ 1
     pub mine : IsOf b after
     pub done : after.pass ≡ without_node task.pass
 
-  -- the arrival found the sibling there: the values of the parent's children, each right for its node, and the own one as handed in
+  -- the arrival came after the sibling's: the values of the parent's children, each right for its node, the own value unchanged
   pub record CameSecond {X : Type 0} (right : S → (ℕ → Type 0) → X → Type 0) (b : BoardValue S) (task : Token S)
       (value : X) (after : Token S) (even odd : X) : Type 0 where
     pub inner : 1 < task_node task
@@ -49,13 +50,13 @@ module _ {S : Type 0} where
     pub own_even : task_node task ≡ 2 * (task_node task / 2) → even ≡ value
     pub own_odd : task_node task ≡ 2 * (task_node task / 2) + 1 → odd ≡ value
 
-  -- the pass has ended so
+  -- the pass has ended with this mark
   pub record Ended (b : BoardValue S) (mark : Mark) (token after : Token S) : Type 0 where
     pub mine : IsOf b after
     pub done : after.pass ≡ ended_as mark token.pass
 
 module _ {S X : Type 0} where
-  -- the task of a block, or the pass, which was told that all blocks are claimed
+  -- the task of a block, or the pass, if all blocks are claimed
   abbrev pub Claimed : BoardValue S → Token S → Claim S X → Type 0
   Claimed b pass (Block task) = GotBlock b pass task
   Claimed b pass (Over after) = ToldOver b pass after

@@ -1,4 +1,4 @@
--- The seats of tokens: what a seat has besides the record of its pass.
+-- The seats of tokens: their contents besides the record of the pass.
 use Rattle.std.specs.Prelude.{◌≡◌, ℕ, ◌+◌, ◌*◌, ◌<◌, ◌≤◌, Bool, true, [], ◌∷◌, Option, Some, None}
 use Rattle.atomic_table.specs.Table.{Me}
 use Rattle.atomic_table.specs.Seated.{TableId}
@@ -10,7 +10,7 @@ use Rattle.qh_board.specs.contract.Tokens.{Token}
 use Rattle.qh_board.specs.steps.Views.{HasRecord, HasEnded, kids, blocks_of, passes_of, record_of}
 
 module _ {S : Type 0} where
-  -- what a contract sees of a seat at a table
+  -- the contract view of a seat at a table
   abbrev pub token_of : TableId → View S → Token S
   token_of table v = record { table = table; setup = v.setup; pass = record_of v }
 
@@ -22,8 +22,8 @@ module _ {S : Type 0} where
       pub is : HasRecord me.0 number None over None
       pub claimed : over ≡ true → blocks_of me.0 < (record_of me.0).claims
 
-    -- the seat of a pass that holds a node: its slot and those of its children are out, and empty;
-    -- if the pass is over, its last claim found all blocks claimed
+    -- the seat of a pass that holds a node: its slot and those of its children are with the pass, and empty; if the pass is over, its last claim found all
+    -- blocks claimed
     pub record IsHolding (number : ℕ) (over : Bool) (node : ℕ) (me : Me (Option X) (View S)) : Type 0 where
       pub bare : me.1 ≡ (node, None) ∷ kids (blocks_of me.0) node
       pub inside : number < passes_of me.0

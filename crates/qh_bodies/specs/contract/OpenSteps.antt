@@ -1,4 +1,4 @@
--- Steps that keep polygons from closing up.
+-- Steps because of which polygons do not close up.
 -- This project's own.
 use Rattle.std.specs.Prelude.{ℕ, ◌≡◌, List}
 use Rattle.qh_model.specs.contract.ClosedPolygons.{step_count}

@@ -1,4 +1,4 @@
--- Polygons that do not stand in lexicographic order.
+-- Polygons that are not in lexicographic order.
 -- This project's own.
 use Rattle.std.specs.Prelude.{ℕ, ◌<◌, ◌+◌, List, [], length, slice_index_or}
 use Rattle.qh_model.specs.headline.Polygons.{ComesBefore}

@@ -1,4 +1,4 @@
--- What is told of the polygons of a hull beside them.
+-- The tally of the polygons of a hull.
 use Rattle.std.specs.Prelude.{◌≡◌, ◌↔◌, ℕ, List}
 use Rattle.std.specs.List.{flat_map}
 use Rattle.std.specs.List.Sorted.{IsStrictlyIncreasing}
@@ -10,7 +10,7 @@ use Rattle.qh_bodies.specs.contract.SolidEdges.{all_edges_up}
 abbrev pub all_members : List (List ℕ) → List ℕ
 all_members qs = flat_map (λ q. q) qs
 
--- their members, rising, each once, and how often the ways round them go to a higher id
+-- the members of the polygons, rising, each once, and the number of steps to a higher id round them
 pub record IsTally (qs : List (List ℕ)) (tally : Tally) : Type 0 where
   pub rising : IsStrictlyIncreasing tally.extremes.items
   pub members : (i : ℕ) → In i tally.extremes.items ↔ In i (all_members qs)

@@ -1,4 +1,4 @@
--- What is told of faces. This project's own.
+-- Judgements on faces. This project's own.
 use Rattle.std.specs.Prelude.{ℕ, ◌≡◌, ◌<◌, ◌↔◌, List, [], length, slice_index_or}
 use Rattle.qh_model.specs.headline.Vector.{Vector}
 use Rattle.qh_model.specs.headline.DistinctIds.{AreDistinctIds}
@@ -11,8 +11,7 @@ use Rattle.qh_check.specs.declared.judgement.Judgement.{Judgement}
 use Rattle.qh_check.specs.declared.judgement.Judgement.TheVariants.{Told, Stranger}
 use Rattle.qh_check.specs.contract.Naming.{AreNamedFaces, HasStranger}
 
--- the verdict is `Right` just where the faces, named by the distinct ids of the points, are the surface of their hull;
--- and what it says is so
+-- the verdict is `Right` exactly if the faces, renamed to the distinct ids of the points, are the surface of their hull; and the verdict is true
 pub record IsTold (pts named : List Vector) (faces : List (List ℕ)) (v : SurfaceVerdict) : Type 0 where
   pub ids : List ℕ
   pub distinct : AreDistinctIds pts ids
@@ -21,14 +20,14 @@ pub record IsTold (pts named : List Vector) (faces : List (List ℕ)) (v : Surfa
   pub right : (v ≡ Right) ↔ IsHullSurface (place pts) (Members ids) polygons
   pub reason : IsSurfaceReason (place pts) (Members ids) polygons v
 
--- the face at a position has a corner where none of the points lies
+-- the face at a position has a corner that is not one of the points
 pub record IsStrangeFace (pts named : List Vector) (faces : List (List ℕ)) (n : ℕ) : Type 0 where
   pub ids : List ℕ
   pub distinct : AreDistinctIds pts ids
   pub there : n < length faces
   pub stranger : HasStranger pts ids named (slice_index_or faces n [])
 
--- what is told of faces whose corners are numbers of points of a list
+-- a right judgement on faces whose corners are indices of points of a list
 abbrev pub IsJudgement : List Vector → List Vector → List (List ℕ) → Judgement → Type 0
 IsJudgement pts named faces (Told v) = IsTold pts named faces v
 IsJudgement pts named faces (Stranger n) = IsStrangeFace pts named faces n

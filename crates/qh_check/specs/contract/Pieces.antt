@@ -8,13 +8,13 @@ use Rattle.qh_model.specs.headline.Polygons.{IsFacePolygon}
 abbrev pub BeginsWith : List ℕ → ℕ → ℕ → ℕ → Type 0
 BeginsWith q i j k = (rest : List ℕ) × (q ≡ i ∷ j ∷ k ∷ rest)
 
--- who goes along the second list comes by the members of the first, one after the other
+-- the members of the first list occur in the second list in this order
 abbrev pub IsMetAlong : List ℕ → List ℕ → Type 0
 IsMetAlong [] q = Unit {0}
 IsMetAlong (u ∷ p) [] = ⊥
 IsMetAlong (u ∷ p) (v ∷ q) = ((u ≡ v) × IsMetAlong p q) ⊎ IsMetAlong (u ∷ p) q
 
--- at position k of the face stands u, and who goes round from there comes by the others of the list
+-- the face has u at position k, and the others of the list occur in order on the way round from there
 abbrev pub IsMetFrom : ℕ → List ℕ → List ℕ → ℕ → Type 0
 IsMetFrom u p face k =
     (k < length face) × (slice_index_or face k 0 ≡ u) × IsMetAlong p (drop (k + 1) face ++ take k face)

@@ -1,4 +1,4 @@
--- Surfaces of triangles that have an angle at each edge, and are the hull of the points at their corners.
+-- Surfaces of triangles with an angle at each edge that are the hull of the points at their corners.
 -- This project's own.
 use Rattle.std.specs.Prelude.{ℕ, ◌≡◌, ◌<◌, ◌≤◌, List, [], ◌∷◌, length}
 use Rattle.qh_model.specs.headline.Vector.{Vector}
@@ -10,7 +10,7 @@ use Rattle.qh_model.specs.contract.ClosedSurface.{Triple}
 use Rattle.qh_model.specs.contract.ClosedPolygons.{AreClosed, step_count}
 use Rattle.qh_laws.specs.contract.LocallyConvex.{IsRound}
 
--- the polygon is a face of the set, a triangle, from any of its corners on
+-- the polygon is a triangular face of the set, and begins at any of its corners
 pub record IsTriangleFace (at : ℕ → Vector) (A : ℕ → Type 0) (q : List ℕ) : Type 0 where
   pub t : Triple
   pub corners : q ≡ t.i ∷ t.j ∷ t.k ∷ []
@@ -21,8 +21,7 @@ pub record IsTriangleFace (at : ℕ → Vector) (A : ℕ → Type 0) (q : List �
   pub round : IsRound t u v w
   pub face : IsFacePolygon at A t.i t.j t.k (u ∷ v ∷ w ∷ [])
 
--- the set is a solid, and the polygons, one at least, are faces of it that are triangles; they close up, and no step
--- from corner to corner is taken twice
+-- the set is a solid, and the polygons, at least one, are triangular faces of it; they close up, and no step from corner to corner is taken twice
 pub record IsSharpSurface (at : ℕ → Vector) (A : ℕ → Type 0) (qs : List (List ℕ)) : Type 0 where
   pub solid : IsDimension at A 3
   pub some : 0 < length qs

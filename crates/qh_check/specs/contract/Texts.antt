@@ -1,4 +1,4 @@
--- What a judgement says for a person, in one line. This project's own.
+-- The text of a judgement for a person, in one line. This project's own.
 use Rattle.std.specs.Prelude.{ℕ, List, ◌++◌, codes, decimal}
 use Rattle.qh_check.specs.declared.fault.FaceFault.{FaceFault}
 use Rattle.qh_check.specs.declared.fault.FaceFault.TheVariants.{NoPlane, Above, OtherFace}
@@ -7,13 +7,13 @@ use Rattle.qh_check.specs.declared.flaw.SurfaceVerdict.TheVariants.{Right, Other
 use Rattle.qh_check.specs.declared.judgement.Judgement.{Judgement}
 use Rattle.qh_check.specs.declared.judgement.Judgement.TheVariants.{Told, Stranger}
 
--- what is wrong with a face
+-- the text of a fault of a face
 abbrev pub face_fault_text : FaceFault → List ℕ
 face_fault_text NoPlane = codes "its first three corners are no points in a plane"
 face_fault_text (Above id) = codes "point " ++ (decimal id ++ codes " is above its plane")
 face_fault_text OtherFace = codes "the polygon of its plane is another"
 
--- the verdict on a surface
+-- the text of the verdict on a surface
 abbrev pub verdict_text : SurfaceVerdict → List ℕ
 verdict_text Right = codes "all right"
 verdict_text OtherPolygons = codes "the polygons are others"
@@ -22,7 +22,7 @@ verdict_text (Open u v) = codes "the side from point " ++ (decimal u ++ (codes "
 verdict_text (Twice u v) =
     codes "the side from point " ++ (decimal u ++ (codes " to point " ++ (decimal v ++ codes " belongs to more than two faces")))
 
--- the judgement
+-- the text of the judgement
 abbrev pub judgement_text : Judgement → List ℕ
 judgement_text (Told verdict) = verdict_text verdict
 judgement_text (Stranger n) = codes "face " ++ (decimal n ++ codes ": one of its corners is not a point of the set")

@@ -29,7 +29,7 @@ abbrev pub IsFaceAt : List Vector → List ℕ → Three → List ℕ → Type 0
 IsFaceAt pts ids t q = BeginsWith q t.i t.j t.k → HasDistinctPoints (place pts) (Members ids)
     → IsSupportingTriple (place pts) (Members ids) t.i t.j t.k × IsOfPlane (place pts) (Members ids) t.i t.j t.k q
 
--- what is wrong with q as a polygon of the plane of the three
+-- a fault of q as a polygon of the plane of the three
 abbrev pub IsFaultAt : List Vector → List ℕ → Three → List ℕ → FaceFault → Type 0
 IsFaultAt pts ids t q NoPlane =
     In t.i ids → In t.j ids → In t.k ids → AreInLine (place pts t.i) (place pts t.j) (place pts t.k)

@@ -1,4 +1,4 @@
--- Polygons of a list that are no pieces of faces of a set.
+-- Polygons of a list that are not pieces of faces of a set.
 use Rattle.std.specs.Prelude.{ℕ, ◌<◌, ◌⊎◌, List, [], length, slice_index_or}
 use Rattle.qh_model.specs.headline.Vector.{Vector}
 use Rattle.qh_check.specs.declared.findings.Finding.{Finding}

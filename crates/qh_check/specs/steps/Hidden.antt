@@ -11,14 +11,14 @@ use Rattle.qh_check.specs.steps.StepKeys.{step_in}
 abbrev pub id_in : ℕ → ℕ
 id_in key = key % ROOM
 
--- p lies in the cone from z over the triangle of a step, and not above it
+-- p lies in the cone from z over the triangle of a step, and not above the triangle
 pub record IsUnderStep (at : ℕ → Vector) (z : Vector) (s : Triple) (p : Vector) : Type 0 where
   pub first : pos 0 ≤ℤ vol z (at s.i) (at s.j) p
   pub second : pos 0 ≤ℤ vol z (at s.j) (at s.k) p
   pub third : pos 0 ≤ℤ vol z (at s.k) (at s.i) p
   pub below : vol (at s.i) (at s.j) (at s.k) p ≤ℤ pos 0
 
--- so for one of the keys
+-- p lies under the triangle of one of the keys
 abbrev pub IsUnderOne : (ℕ → Vector) → List ℕ → Vector → Vector → Type 0
 IsUnderOne at up z p = (k : ℕ) × (k < length up) × IsUnderStep at z (step_in (slice_index up k)) p
 

@@ -6,7 +6,7 @@ use Rattle.qh_model.specs.headline.Predicates.{place, cross}
 use Rattle.qh_pred.specs.contract.Turns.{sign, first_product}
 use Rattle.qh_check.specs.contract.Pieces.{BeginsWith, IsMetRound}
 
--- the first three corners of q turn left in the plane of those of the face, as far as one component of its normal tells
+-- the first three corners of q turn left in the plane of those of the face, as one component of its normal shows
 pub record TurnsAlike (pts : List Vector) (face q : List ℕ) : Type 0 where
   pub u : ℕ
   pub v : ℕ
@@ -18,7 +18,7 @@ pub record TurnsAlike (pts : List Vector) (face q : List ℕ) : Type 0 where
   pub begins : BeginsWith q i j k
   pub turn : IsTrue (is_gt (sign (first_product (cross (place pts u) (place pts v) (place pts w)) (cross (place pts i) (place pts j) (place pts k)))))
 
--- the polygon goes round corners of the face at a position, and turns as it does
+-- the polygon goes round corners of the face at a position, and turns as the face does
 abbrev pub IsPieceOfFace : List Vector → List (List ℕ) → ℕ → List ℕ → Type 0
 IsPieceOfFace pts faces k q =
     (k < length faces) × IsMetRound q (slice_index_or faces k []) × TurnsAlike pts (slice_index_or faces k []) q

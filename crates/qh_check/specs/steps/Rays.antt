@@ -1,4 +1,4 @@
--- Triangles seen from a place, and those that a ray from there meets.
+-- Triangles seen from a place, and the triangles that a ray from the place meets.
 use Rattle.std.specs.Prelude.{ℕ, pos, ◌≡◌, ◌⊎◌, ◌<ℤ◌, List, count_by, false, true}
 use Rattle.qh_model.specs.headline.Vector.{Vector}
 use Rattle.qh_model.specs.headline.Predicates.{vol}
@@ -18,7 +18,7 @@ pub record IsMetOnce (at : ℕ → Vector) (ts : List Triple) (z d : Vector) : T
   pub told : (t : Triple) → In t ts → (is_met at z d t ≡ true) ⊎ IsMissed at z d t
   pub once : count_by (is_met at z d) ts ≡ 1
 
--- what is said of a triangle: z is strictly below it, and the ray meets it, or misses it
+-- the meaning of a passage: z is strictly below the triangle, and the ray meets the triangle, or misses it
 abbrev pub IsPassage : (ℕ → Vector) → Vector → Vector → Triple → Passage → Type 0
 IsPassage at z d t Met = IsInside at z t × (is_met at z d t ≡ true)
 IsPassage at z d t Missed = IsInside at z t × (is_met at z d t ≡ false) × IsMissed at z d t

@@ -1,4 +1,4 @@
--- What a look at each edge and each hidden id finds.
+-- The result of a test of each edge and each hidden id.
 use Rattle.std.specs.Prelude.{ℕ, List}
 use Rattle.qh_model.specs.headline.Vector.{Vector}
 use Rattle.qh_model.specs.headline.Sets.{In}
@@ -8,8 +8,8 @@ use Rattle.qh_check.specs.steps.Hidden.{IsUnderOne}
 use Rattle.qh_check.specs.steps.Rays.{IsMetOnce}
 use Rattle.qh_check.specs.steps.StepKeys.{AreSharpPairs, AreSteps, EdgesRise}
 
--- a ray from z meets the triangles once; each step is taken once, beside the step back with the corner past it strictly
--- below; and the ids are the corners and hidden ones, each of which lies under a triangle
+-- a ray from z meets the triangles once; each step is taken once, as is the step back, with the corner past it strictly below; and the ids are the corners and
+-- hidden ids, each of which lies under a triangle
 pub record AreSharp (at : ℕ → Vector) (ids : List ℕ) (ts : List Triple) : Type 0 where
   pub z : Vector
   pub d : Vector

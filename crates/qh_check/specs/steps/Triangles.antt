@@ -1,4 +1,4 @@
--- Triangles as data of the program, and the polygons that they are.
+-- Triangles as data of the program, and their polygons.
 use Rattle.std.specs.Prelude.{ℕ, ◌≡◌, ◌<◌, List, [], ◌∷◌, All, length, map, refl}
 use Rattle.std.specs.Coded.{Coded, code_by, coded×, coded_ℕ}
 use Rattle.qh_model.specs.headline.Vector.{Vector}
@@ -19,7 +19,7 @@ pub record IsBelow (count : ℕ) (t : Triple) : Type 0 where
   pub j : t.j < count
   pub k : t.k < count
 
--- each polygon is one of the triangles, in order, and each corner the index of a point
+-- each polygon is one of the triangles, in order, and each corner is the index of a point
 pub record AreTriangles (pts : List Vector) (qs : List (List ℕ)) (ts : List Triple) : Type 0 where
   pub polygons : qs ≡ map corners ts
   pub indices : All (IsBelow (length pts)) ts

@@ -1,4 +1,4 @@
-//! The corners of triangles among the ids of a set, and the ids that are no corner.
+//! The corners of triangles among the ids of a set, and the ids that are not corners.
 ghost use Rattle.std.specs.Prelude.{◌≡◌, ◌<◌, ℕ, All, IfOk, IfSome, IsTrue, filter, length};
 ghost use Rattle.qh_model.specs.headline.Sets.{In};
 ghost use Rattle.qh_model.specs.contract.IdSets.{AreIndices};
@@ -10,7 +10,7 @@ use crate::convex::triangles::Triangle;
 use qh_model::{Id, Point};
 use std::alloc::{AllocError, Global};
 
-/// Returns a mark for each point, set where its index is one of some ids.
+/// Returns a mark for each point, set if its index is one of some ids.
 fn marks_of_ids(alloc: Global, pts: &[Point], ids: &[Id]) -> Result<Vec<bool>, AllocError>
     requires { AreIndices pts.now ids.now }
     ensures count { IfOk result (λ m. length m.items ≡ length pts.now) }
@@ -23,7 +23,7 @@ fn marks_of_ids(alloc: Global, pts: &[Point], ids: &[Id]) -> Result<Vec<bool>, A
     Ok(marks)
 }
 
-/// Returns a mark for each point, set where its index is a corner of one of some triangles.
+/// Returns a mark for each point, set if its index is a corner of one of some triangles.
 fn marks_of_corners(
     alloc: Global,
     pts: &[Point],
@@ -77,7 +77,7 @@ fn unmarked(alloc: Global, marks: &[bool], ids: &[Id]) -> Result<Vec<Id>, AllocE
     Ok(left)
 }
 
-/// Returns the ids that are no corner of a triangle, or `None` where some corner is not one of the ids.
+/// Returns the ids that are not a corner of a triangle, or `None` if some corner is not one of the ids.
 pub fn hidden_ids(
     alloc: Global,
     pts: &[Point],

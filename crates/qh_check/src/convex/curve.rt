@@ -1,4 +1,4 @@
-//! Ids in the order of a curve through their points, so that each is near the one before.
+//! Ids in the order of a curve through their points, so that each is near the previous one.
 ghost use Rattle.std.specs.Prelude.{◌≡◌, ◌<◌, ◌≤◌, IfOk, IsPermutation, length, map};
 ghost use Rattle.qh_model.specs.contract.IdSets.{AreIndices};
 ghost use Rattle.qh_check.specs.declared.convex.steps.TheConstants.{ROOM};
@@ -13,7 +13,7 @@ use std::alloc::{AllocError, Global};
 /// The number of cells along the curve: 2^30.
 const CELLS: u64 = 1073741824;
 
-/// Returns the number of bits of the greatest coordinate of some points, either way.
+/// Returns the number of bits of the greatest absolute value of a coordinate of some points.
 fn reach(pts: &[Point], ids: &[Id]) -> u32 {
     let mut all: u32 = 0;
     for id in ids {
@@ -31,7 +31,7 @@ fn slice_of(coordinate: i32, bits: u32) -> u32 {
     slice as u32
 }
 
-/// Returns the number of a point's cell in Morton order, the highest bit that of its slice along the third axis.
+/// Returns the number of a point's cell in Morton order. The highest bit is that of its slice along the third axis.
 fn cell_of(p: Point, bits: u32) -> u64
     ensures { result < CELLS }
 {
@@ -48,7 +48,7 @@ pub fn id_of(key: u64) -> Id
     Id::new((key % ROOM) as u32)
 }
 
-/// Returns the keys along the curve of some ids: the cell of the point, and the id in the lowest bits.
+/// Returns the keys along the curve of some ids. A key has the cell of the point, and the id in the lowest bits.
 fn listed_keys(alloc: Global, pts: &[Point], ids: &[Id]) -> Result<Vec<u64>, AllocError>
     requires indices { AreIndices pts.now ids.now }
     requires few { length pts.now ≤ ROOM }

@@ -1,7 +1,8 @@
-//! Points under a surface: each lies in the cone from a place inside over one of its triangles, and not above it.
+//! Points under a surface: each lies in the cone from a place inside through one of its triangles, and not above the
+//! triangle.
 //!
-//! The triangle is found by a walk over the surface from that of the point before, along a curve. The walk is a guess,
-//! and the triangle where it ends is tested.
+//! A walk over the surface finds the triangle. It starts at the triangle of the previous point along a curve. The walk
+//! is a guess, and the triangle at its end is tested.
 ghost use Rattle.std.specs.Prelude.{◌<◌, ◌≤◌, ℕ, All, IfOk, IfSome, IsTrue, length};
 ghost use Rattle.qh_model.specs.headline.Predicates.{place};
 ghost use Rattle.qh_model.specs.headline.Sets.{In};
@@ -18,10 +19,11 @@ use qh_model::{Id, Point};
 use qh_pred::{Plane, point_at};
 use std::alloc::{AllocError, Global};
 
-/// The greatest number of triangles on all walks for each step to a higher id. With more the surface is given up.
+/// The greatest number of triangles on all walks for each step to a higher id. Beyond it the check of the surface ends
+/// without success.
 const WALKED_FOR_EACH: usize = 16;
 
-/// A surface around a place, by the steps round its triangles.
+/// A surface around a place, stored as the steps round its triangles.
 #[derive(Clone, Copy, Drop)]
 pub struct Surroundings<'a> {
     pub pts: &'a [Point],
@@ -59,7 +61,7 @@ fn rising(step: &Step) -> Step
 }
 
 impl Surroundings<'_> {
-    /// Returns the step from `u` to `v` round a triangle. Where the steps along the edges do not pair off, the third
+    /// Returns the step from `u` to `v` round a triangle. If the steps along the edges do not pair off, the third
     /// corner may be any id.
     fn step(&self, u: Id, v: Id) -> Option<Step>
         requires from { u < length self.now.pts.now }
@@ -85,7 +87,7 @@ impl Surroundings<'_> {
         is_below(self.middle, point_at(self.pts, u), point_at(self.pts, v), p)
     }
 
-    /// Returns the step back along a side of a triangle that a point is past, if there is one.
+    /// Returns the step back along a side of a triangle that has a point past it, if there is one.
     fn next(&self, step: &Step, p: Point) -> Option<Step>
         requires { IsStepBelow (length self.now.pts.now) step.now }
         ensures { IfSome result (IsStepBelow (length self.now.pts.now)) }
@@ -102,8 +104,8 @@ impl Surroundings<'_> {
         None
     }
 
-    /// Returns a step round the triangle at which a walk to a point ends, after at most `budget` triangles, and takes
-    /// these from the budget.
+    /// Returns a step round the triangle at which a walk to a point ends. The walk visits at most `budget` triangles,
+    /// and subtracts their number from the budget.
     fn walk(&self, start: Step, p: Point, budget: &mut usize) -> Step
         requires { IsStepBelow (length self.now.pts.now) start }
         ensures { IsStepBelow (length self.now.pts.now) result }

@@ -8,7 +8,7 @@ use crate::convex::steps::{ROOM, Step};
 use qh_model::Point;
 use qh_pred::{Plane, point_at};
 
-/// Returns true if `p` is strictly below the triangle `a`, `b`, `c`, seen from the side from which it goes
+/// Returns true if `p` is strictly below the triangle `a`, `b`, `c`, seen from the side from which it is
 /// counterclockwise.
 pub fn is_below(a: Point, b: Point, c: Point, p: Point) -> bool
     ensures { IsTrue result ↔ (vol a b c p <ℤ pos 0) }
@@ -16,7 +16,7 @@ pub fn is_below(a: Point, b: Point, c: Point, p: Point) -> bool
     Plane::through(b, a, c).sees(p)
 }
 
-/// Returns true if two keys are those of the steps of one edge, with the corner past it strictly below.
+/// Returns true if two keys are those of the steps of one edge, and the corner past it is strictly below.
 fn is_sharp_pair(pts: &[Point], up: u64, down: u64) -> bool
     requires up { IsBelow (length pts.now) (step_in up) }
     requires down { IsBelow (length pts.now) (step_in down) }
@@ -34,7 +34,7 @@ fn is_sharp_pair(pts: &[Point], up: u64, down: u64) -> bool
     )
 }
 
-/// Returns true if the keys at each position are those of the steps of one edge, with the corner past it strictly
+/// Returns true if the keys at each position are those of the steps of one edge, and the corner past it is strictly
 /// below.
 pub fn are_sharp_pairs(pts: &[Point], up: &[u64], down: &[u64]) -> bool
     requires up { All (λ key. IsBelow (length pts.now) (step_in key)) up.now }

@@ -17,14 +17,14 @@ pub struct Ray {
     pub through: Point,
 }
 
-/// How a ray passes a triangle that the place where it begins is strictly below.
+/// How a ray passes a triangle. The ray begins strictly below the triangle.
 #[derive(Clone, Copy, Debug, PartialEq, Eq)]
 enum Passage {
-    /// It meets the inside of the triangle.
+    /// The ray meets the inside of the triangle.
     Met,
-    /// It misses the triangle with its edges.
+    /// The ray misses the triangle and its edges.
     Missed,
-    /// It meets an edge, or the place is not strictly below.
+    /// The ray meets an edge, or does not begin strictly below the triangle.
     Unclear,
 }
 
@@ -36,7 +36,7 @@ fn nearest_coordinate(number: i64) -> i32
     number.clamp(-limit, limit) as i32
 }
 
-/// Returns the middle of the points of some ids, rounded. Ids without a point count as the origin.
+/// Returns the middle of the points of some ids, rounded. An id without a point counts as the origin.
 fn middle(pts: &[Point], ids: &[Id]) -> Point {
     let (mut x, mut y, mut z): (i64, i64, i64) = (0, 0, 0);
     for id in ids {
@@ -57,7 +57,7 @@ fn middle(pts: &[Point], ids: &[Id]) -> Point {
 impl Ray {
     /// Returns a ray from the middle of some ids through the middle of a triangle.
     ///
-    /// Nothing is proved of it: both are guesses, and a wrong one finds no surface sharp.
+    /// The ray is not proved: it is a guess, and a wrong guess makes no surface count as sharp.
     pub fn guess(pts: &[Point], ids: &[Id], t: Triangle) -> Ray {
         Ray {
             from: middle(pts, ids),

@@ -17,7 +17,7 @@ use crate::convex::triangles::{Triangle, triangles_of};
 use qh_model::{Id, Memory, POINT_LIMIT, Point, Polygon};
 use std::alloc::Global;
 
-/// Returns true if triangles are the hull of a set, by a look at each edge and each hidden id.
+/// Returns true if triangles are the hull of a set, by a test of each edge and each hidden id.
 fn are_sharp(
     alloc: Global,
     pts: &[Point],
@@ -52,17 +52,17 @@ fn are_sharp(
     Ok(surroundings.has_under(alloc, &hidden)?)
 }
 
-/// Checks whether polygons are the hull of a set, all of them triangles with an angle at each edge, in any order and
-/// each from any corner on. Ids that are no corners may lie under triangles.
+/// Checks if polygons are the hull of a set, all of them triangles with an angle at each edge. They may have any order
+/// and begin at any corner. Ids that are not corners may lie under triangles.
 ///
-/// Each id is the index of one of the points. That the ids have distinct points (`IsIdSet`) is the caller's condition.
-/// `false` tells nothing: the polygons may be the hull all the same, where two triangles lie in one plane, there are
-/// fewer polygons than ids (the hull is then small, and soon made) or more than `POINT_LIMIT` points, or the middle of
-/// the points, rounded, is not strictly inside.
+/// Each id is the index of one of the points. The caller ensures that the ids have distinct points (`IsIdSet`). If the
+/// result is `false`, the polygons may be the hull nevertheless: two triangles may lie in one plane, there may be fewer
+/// polygons than ids (the hull is then small, and computed fast) or more than `POINT_LIMIT` points, or the middle of
+/// the points, rounded, may not be strictly inside.
 ///
 /// # Errors
 ///
-/// `Memory` where an allocation failed.
+/// `Memory` if an allocation failed.
 ///
 /// Source: Mehlhorn, Naeher, Seel, Seidel, Schilz, Schirra and Uhrig 1999 (checking geometric programs).
 pub fn is_sharp_surface(

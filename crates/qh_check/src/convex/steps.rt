@@ -1,4 +1,4 @@
-//! The steps round triangles, sorted, so that the two along an edge stand at one position.
+//! The steps round triangles, sorted, so that the two along an edge are at the same position.
 ghost use Rattle.std.specs.Prelude.{◌≡◌, ◌<◌, ◌++◌, [], ◌∷◌, ℕ, All, IfOk, OnOk, filter, map};
 ghost use Rattle.std.specs.List.{flat_map};
 ghost use Rattle.qh_check.specs.steps.Triangles.{IsBelow};
@@ -8,11 +8,11 @@ use crate::convex::triangles::Triangle;
 use qh_model::Id;
 use std::alloc::{AllocError, Global};
 
-/// The room of an id in the key of a step: 2^20, the greatest number of points.
+/// The range of an id in the key of a step: 2^20, the greatest number of points.
 pub const ROOM: u64 = 1048576;
 
-/// The keys of the steps round triangles: of those to a higher id, and of those to a lower one, turned back. A key
-/// has the ids of both ends and of the third corner of the triangle, from the highest bits on.
+/// The keys of the steps round triangles: of the steps to a higher id, and of the reversed steps to a lower one. A key
+/// has the ids of both ends and of the third corner of the triangle, beginning with the highest bits.
 #[derive(Drop)]
 pub struct Steps {
     pub up: Vec<u64>,

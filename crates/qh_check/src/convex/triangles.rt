@@ -71,7 +71,7 @@ impl Triangle {
     }
 }
 
-/// Returns the triangles that polygons are, or `None` where one is no triangle of indices of points.
+/// Returns the triangles of polygons, or `None` if one is no triangle of indices of points.
 pub fn triangles_of(
     alloc: Global,
     pts: &[Point],

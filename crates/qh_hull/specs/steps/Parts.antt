@@ -1,4 +1,4 @@
--- Parts of a set that have all its extreme ids. Only private functions speak of them.
+-- Parts of a set that contain all its extreme ids. Only private functions cite them.
 use Rattle.std.specs.Prelude.{ℕ, ◌⊎◌, List}
 use Rattle.qh_model.specs.headline.Vector.{Vector}
 use Rattle.qh_model.specs.headline.Predicates.{place}
@@ -6,7 +6,7 @@ use Rattle.qh_model.specs.headline.Sets.{In, Members}
 use Rattle.qh_model.specs.headline.Extreme.{Extreme}
 use Rattle.qh_model.specs.contract.IdSets.{IsIdSet}
 
--- ids of a set that have all its extreme ids with the rest of the ids, which was not looked at yet
+-- ids of a set that contain all its extreme ids, together with the rest of the ids, which was not processed yet
 pub record HasExtremesBefore (pts : List Vector) (ids rest kept : List ℕ) : Type 0 where
   pub set : IsIdSet pts rest
   pub later : (i : ℕ) → In i rest → In i ids

@@ -13,11 +13,11 @@ pub record Matrix : Type 0 where
   pub second : Vector
   pub third : Vector
 
--- the determinant of the nine
+-- the determinant of a matrix
 abbrev pub determinant : Matrix → ℤ
 determinant m = dot (cross_product m.first m.second) m.third
 
--- the image, then a shift
+-- the image of a vector, then shifted
 abbrev pub moved : Matrix → Vector → Vector → Vector
 moved m s v = record { x = dot m.first v +ℤ s.x; y = dot m.second v +ℤ s.y; z = dot m.third v +ℤ s.z }
 
@@ -26,14 +26,14 @@ pub record AreImages (m : Matrix) (s : Vector) (pts images : List Vector) : Type
   pub count : length images ≡ length pts
   pub each : (i : ℕ) → i < length pts → place images i ≡ moved m s (place pts i)
 
--- so under some map that keeps orientation
+-- the second list has the images of the first under some map that keeps orientation
 pub record IsMapped (pts images : List Vector) : Type 0 where
   pub matrix : Matrix
   pub shift : Vector
   pub oriented : pos 0 <ℤ determinant matrix
   pub each : AreImages matrix shift pts images
 
--- so of the points of a solid
+-- the points are mapped in this way, and the ids are those of a solid if they rise and have distinct points
 pub record IsReduced (pts : List Vector) (ids : List ℕ) (images : List Vector) : Type 0 where
   pub mapped : IsMapped pts images
   pub solid : IsIdSet pts ids → IsDimension (place pts) (Members ids) 3

@@ -1,10 +1,10 @@
--- What the rows of a map of the program are, as a matrix and a shift.
+-- The matrix and the shift of the rows of a map of the program.
 use Rattle.std.specs.Prelude.{ℤ, pos, ◌*ℤ◌, ◌-ℤ◌}
 use Rattle.qh_model.specs.headline.Vector.{Vector, dot}
 use Rattle.qh_lattice.specs.contract.LatticeMaps.{Matrix}
 use Rattle.qh_lattice.specs.declared.row.Row.{Row}
 
--- a vector with a factor
+-- a vector multiplied by a factor
 abbrev pub times : ℤ → Vector → Vector
 times k v = record { x = k *ℤ v.x; y = k *ℤ v.y; z = k *ℤ v.z }
 
@@ -16,7 +16,7 @@ along_row r p = (dot r.by p -ℤ r.centre) *ℤ r.scale
 abbrev pub matrix_of : Row → Row → Row → Matrix
 matrix_of a b c = record { first = times a.scale a.by; second = times b.scale b.by; third = times c.scale c.by }
 
--- the shift that brings the centres to the origin
+-- the shift that moves the centres to the origin
 abbrev pub shift_of : Row → Row → Row → Vector
 shift_of a b c = record {
   x = pos 0 -ℤ a.centre *ℤ a.scale;

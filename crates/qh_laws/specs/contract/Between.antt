@@ -1,4 +1,4 @@
--- Points between a facet and a place inside the surface: by the signs of a few volumes.
+-- Points between a facet and a place inside the surface, determined by the signs of a few volumes.
 -- This project's own.
 use Rattle.std.specs.Prelude.{ℕ, pos, ◌+ℤ◌, ◌≤ℤ◌, ◌<ℤ◌}
 use Rattle.qh_model.specs.headline.Vector.{Vector}
@@ -14,13 +14,13 @@ pub record IsWithin (at : ℕ → Vector) (m : Surface) (o : Weighted) (f : ℕ)
   pub below : height_over at m f p ≤ℤ pos 0
   pub sides : (s : Side) → above (weighted (at (start m f s))) (weighted (at (end m f s))) (weighted p) o ≤ℤ pos 0
 
--- the same with the point of an id
+-- the same, with the point of an id as o
 pub record IsBetween (at : ℕ → Vector) (m : Surface) (c f : ℕ) (p : Vector) : Type 0 where
   pub inner : height_over at m f (at c) <ℤ pos 0
   pub below : height_over at m f p ≤ℤ pos 0
   pub sides : (s : Side) → vol (at (start m f s)) (at (end m f s)) p (at c) ≤ℤ pos 0
 
--- the same with the middle of four ids, of which f is above in any case
+-- the same, with the middle of four ids as o; f is always above that middle
 pub record IsBetweenFour (at : ℕ → Vector) (m : Surface) (s t u v f : ℕ) (p : Vector) : Type 0 where
   pub below : height_over at m f p ≤ℤ pos 0
   pub sides : (e : Side) → let a = at (start m f e) in let b = at (end m f e) in

@@ -1,4 +1,4 @@
--- Locally convex surfaces: closed surfaces that turn outwards at no edge and go round a place just once.
+-- Locally convex surfaces: closed surfaces that turn outwards at no edge and go round a place exactly once.
 -- Source: Mehlhorn, Naeher, Seel, Seidel, Schilz, Schirra and Uhrig 1999 (checking geometric programs).
 use Rattle.std.specs.Prelude.{ℕ, ◌≡◌, ◌≤◌, ◌⊎◌, ◌&&◌, Bool, true, List, length, count_by, pos, int_lt, ◌≤ℤ◌, ◌<ℤ◌}
 use Rattle.qh_model.specs.headline.Vector.{Vector}
@@ -8,7 +8,7 @@ use Rattle.qh_model.specs.headline.Polygon.{Follows, TurnsLeft}
 use Rattle.qh_model.specs.contract.ClosedSurface.{Triple, IsClosed}
 use Rattle.qh_model.specs.laws.ClosedSurfaceLaws.{IsCornerOf}
 
--- the triangle is u, v, w, from one of its corners on
+-- the triangle is u, v, w, beginning at any of its corners
 abbrev pub IsRound : Triple → ℕ → ℕ → ℕ → Type 0
 IsRound t u v w =
     ((t.i ≡ u) × (t.j ≡ v) × (t.k ≡ w)) ⊎ ((t.j ≡ u) × (t.k ≡ v) × (t.i ≡ w)) ⊎ ((t.k ≡ u) × (t.i ≡ v) × (t.j ≡ w))
@@ -21,13 +21,13 @@ pub record HasLowNeighbour (at : ℕ → Vector) (ts : List Triple) (t : Triple)
   pub round : IsRound next v u third
   pub below : vol (at t.i) (at t.j) (at t.k) (at third) ≤ℤ pos 0
 
--- t has a low neighbour over each edge
+-- t has a low neighbour across each edge
 pub record IsConvexAround (at : ℕ → Vector) (ts : List Triple) (t : Triple) : Type 0 where
   pub over_ij : HasLowNeighbour at ts t t.i t.j
   pub over_jk : HasLowNeighbour at ts t t.j t.k
   pub over_ki : HasLowNeighbour at ts t t.k t.i
 
--- over each edge of t is a neighbour with its third corner strictly below t
+-- across each edge of t is a neighbour with its third corner strictly below t
 pub record IsSharpAround (at : ℕ → Vector) (ts : List Triple) (t : Triple) : Type 0 where
   pub around : IsConvexAround at ts t
   pub over_ij : vol (at t.i) (at t.j) (at t.k) (at around.over_ij.third) <ℤ pos 0
@@ -44,7 +44,7 @@ pub record IsSharpEdge (at : ℕ → Vector) (ts : List Triple) (t : Triple) (u 
   pub over : HasLowNeighbour at ts side u v
   pub below : vol (at side.i) (at side.j) (at side.k) (at over.third) <ℤ pos 0
 
--- a convex polygon in the plane of t, from its least id on, along such edges
+-- a convex polygon in the plane of t along sharp edges, beginning with its least id
 pub record IsSharpPolygon (at : ℕ → Vector) (ts : List Triple) (t : Triple) (q : List ℕ) : Type 0 where
   pub three : 3 ≤ length q
   pub once : Once q
@@ -67,12 +67,12 @@ abbrev pub is_met : (ℕ → Vector) → Vector → Vector → Triple → Bool
 is_met at z d t =
     int_lt (pos 0) (vol z (at t.i) (at t.j) d) && (int_lt (pos 0) (vol z (at t.j) (at t.k) d) && int_lt (pos 0) (vol z (at t.k) (at t.i) d))
 
--- the ray misses t with its edges: it is strictly outside of one of them
+-- the ray misses t and its edges: it is strictly outside one of them
 abbrev pub IsMissed : (ℕ → Vector) → Vector → Vector → Triple → Type 0
 IsMissed at z d t = (vol z (at t.i) (at t.j) d <ℤ pos 0) ⊎ (vol z (at t.j) (at t.k) d <ℤ pos 0) ⊎ (vol z (at t.k) (at t.i) d <ℤ pos 0)
 
--- a closed surface that turns outwards at no edge, with z strictly below all its triangles, of which the ray from z
--- through d meets the inside of one, and misses all others
+-- a closed surface that turns outwards at no edge, with z strictly below all its triangles; the ray from z through d meets the inside of one triangle, and
+-- misses all others
 pub record IsLocallyConvex (at : ℕ → Vector) (ts : List Triple) (z d : Vector) : Type 0 where
   pub closed : IsClosed ts
   pub inside : (t : Triple) → In t ts → vol (at t.i) (at t.j) (at t.k) z <ℤ pos 0

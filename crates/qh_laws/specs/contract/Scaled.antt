@@ -1,4 +1,4 @@
--- Points at a larger scale, where the middle of some of them is a whole vector.
+-- Points at a larger scale, at which the middle of some of them is a whole vector.
 -- This project's own.
 use Rattle.std.specs.Prelude.{ℕ, pos, ◌*ℤ◌}
 use Rattle.qh_model.specs.headline.Vector.{Vector}

@@ -1,4 +1,4 @@
--- Seams: which facets of the finished surface of a part of a set stay where the other points come in.
+-- Seams: the facets of the finished surface of a part of a set that stay when the other points are added.
 -- This project's own.
 use Rattle.std.specs.Prelude.{ℕ, ◌≡◌, ◌⊎◌, List, Bool, true, false, ℤ, pos, ◌≤ℤ◌, ◌<ℤ◌}
 use Rattle.qh_model.specs.headline.Vector.{Vector}
@@ -7,7 +7,7 @@ use Rattle.qh_model.specs.headline.Sets.{In}
 use Rattle.qh_model.specs.headline.SupportingPlane.{Supports}
 use Rattle.qh_model.specs.contract.Surface.{Side, Surface}
 
--- how far a point is above the plane of facet f
+-- the height of a point above the plane of facet f
 abbrev pub height_over : (ℕ → Vector) → Surface → ℕ → Vector → ℤ
 height_over at m f p = vol (at (m.i f)) (at (m.j f)) (at (m.k f)) p
 
@@ -29,7 +29,7 @@ pub record IsRing (m : Surface) (stay : ℕ → Bool) (f : ℕ) : Type 0 where
   pub side : Side
   pub gone : stay (m.over f side) ≡ false
 
--- each point of A is above no facet or above one that does not stay, and none is above a facet of the ring
+-- each point of A is above no facet, or above a facet that does not stay; no point of A is above a facet of the ring
 pub record IsSeam (at : ℕ → Vector) (m : Surface) (stay : ℕ → Bool) (A : ℕ → Type 0) : Type 0 where
   pub answer : (l : ℕ) → A l → IsBelowAll at m (at l) ⊎ SeesGone at m stay (at l)
   pub ring : (f : ℕ) → IsRing m stay f → Supports at A (m.i f) (m.j f) (m.k f)

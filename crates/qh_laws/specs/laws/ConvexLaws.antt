@@ -20,31 +20,31 @@ abbrev pub LocalIsConvex : Type 0
 LocalIsConvex = (at : ℕ → Vector) (ts : List Triple) (z d : Vector) → IsLocallyConvex at ts z d
     → (l : ℕ) → IsCornerOf ts l → (t : Triple) → In t ts → vol (at t.i) (at t.j) (at t.k) (at l) ≤ℤ pos 0
 
--- nor is a point above one that lies under a triangle
+-- a point that lies under a triangle of the surface is above no triangle
 abbrev pub UnderIsBelow : Type 0
 UnderIsBelow = (at : ℕ → Vector) (ts : List Triple) (z d : Vector) → IsLocallyConvex at ts z d
     → (p : Vector) → IsUnder at ts z p → (t : Triple) → In t ts → vol (at t.i) (at t.j) (at t.k) p ≤ℤ pos 0
 
--- so the triangles support a set that has all corners, and each other member under a triangle
+-- the triangles support a set that has all corners, and each other member under a triangle
 abbrev pub LocalSupports : Type 0
 LocalSupports = (at : ℕ → Vector) (ids : List ℕ) (ts : List Triple) (z d : Vector) → IsLocallyConvex at ts z d
     → HasAllUnder at ids ts z → IsClosedSurface at ts × AreSupporting at (Members ids) ts
 
--- and a triangle with its neighbours strictly below it is a face, from its least id on
+-- a triangle with its neighbours strictly below it is a face, beginning with its least id
 abbrev pub SharpIsFace : Type 0
 SharpIsFace = (at : ℕ → Vector) (ids : List ℕ) (ts : List Triple) (z d : Vector) → IsLocallyConvex at ts z d
     → HasAllUnder at ids ts z → HasDistinctPoints at (Members ids)
     → (t : Triple) → In t ts → IsSharpAround at ts t → (u v w : ℕ) → IsRound t u v w → u < v → u < w
     → IsFacePolygon at (Members ids) t.i t.j t.k (u ∷ v ∷ w ∷ [])
 
--- so is a convex polygon along edges with what is past them strictly below
+-- a convex polygon along sharp edges is a face
 abbrev pub SharpPolygonIsFace : Type 0
 SharpPolygonIsFace = (at : ℕ → Vector) (ids : List ℕ) (ts : List Triple) (z d : Vector) → IsLocallyConvex at ts z d
     → HasAllUnder at ids ts z → HasDistinctPoints at (Members ids)
     → (t : Triple) → In t ts → (q : List ℕ) → IsSharpPolygon at ts t q → IsFacePolygon at (Members ids) t.i t.j t.k q
 
 -- ---- hulls
--- where sharp polygons, one at least, close up, they are all faces
+-- sharp polygons, at least one, that close up are all faces
 abbrev pub SharpPolygonsAreFaces : Type 0
 SharpPolygonsAreFaces = (at : ℕ → Vector) (ids : List ℕ) (ts : List Triple) (z d : Vector) → IsLocallyConvex at ts z d
     → HasAllUnder at ids ts z → HasDistinctPoints at (Members ids)
@@ -57,14 +57,14 @@ TrianglePolygonsAreFaces = (at : ℕ → Vector) (ids : List ℕ) (ts : List Tri
     → HasAllUnder at ids ts z → HasDistinctPoints at (Members ids)
     → (qs : List (List ℕ)) → ArePolygonsOf at ts qs → RiseStrictly qs → AreFaces at (Members ids) qs
 
--- and their corners are the extreme ids
+-- the corners of the polygons of all triangles are the extreme ids
 abbrev pub TrianglePolygonsHaveExtremes : Type 0
 TrianglePolygonsHaveExtremes = (at : ℕ → Vector) (ids : List ℕ) (ts : List Triple) (z d : Vector) → IsLocallyConvex at ts z d
     → HasAllUnder at ids ts z → HasDistinctPoints at (Members ids)
     → (qs : List (List ℕ)) → ArePolygonsOf at ts qs
     → (l : ℕ) → Extreme at (Members ids) l ↔ ((q : List ℕ) × In q qs × In l q)
 
--- and the set is a solid
+-- a set that has all corners is a solid, if there is a sharp polygon
 abbrev pub SharpIsSolid : Type 0
 SharpIsSolid = (at : ℕ → Vector) (ids : List ℕ) (ts : List Triple) → ((l : ℕ) → IsCornerOf ts l → In l ids)
     → (t : Triple) → (q : List ℕ) → IsSharpPolygon at ts t q → IsDimension at (Members ids) 3

@@ -1,4 +1,4 @@
--- Laws of existence: what the definitions ask for can always be met.
+-- Laws of existence: the definitions can always be satisfied.
 use Rattle.std.specs.Prelude.{ℕ, ◌<◌, List, length}
 use Rattle.qh_model.specs.declared.out.Out.{Out}
 use Rattle.qh_model.specs.headline.Vector.{Vector}
@@ -9,6 +9,6 @@ use Rattle.qh_model.specs.headline.Text.{IsText}
 abbrev pub EveryListHasAHull : Type 0
 EveryListHasAHull = (pts : List Vector) → 0 < length pts → (h : HullValue) × IsHull pts h
 
--- and a text for each list of outputs
+-- each list of points that is not empty has a text for each list of outputs
 abbrev pub EveryListHasAText : Type 0
 EveryListHasAText = (pts : List Vector) (outs : List Out) → 0 < length pts → (text : List ℕ) × IsText pts outs text

@@ -1,4 +1,4 @@
--- Laws of scales: what holds of points at a larger scale, where a middle is a whole vector, holds of the points.
+-- Laws of scales: facts about points at a larger scale, at which a middle is a whole vector, hold for the points.
 use Rattle.std.specs.Prelude.{ℕ, ◌≡◌, ◌<◌, ◌↔◌, List, pos, ◌*ℤ◌}
 use Rattle.qh_model.specs.headline.Vector.{Vector}
 use Rattle.qh_model.specs.headline.Predicates.{vol}
@@ -20,7 +20,7 @@ abbrev pub ScaleKeepsDistinct : Type 0
 ScaleKeepsDistinct = (m : ℕ) → 0 < m → (at : ℕ → Vector) (ids : List ℕ)
     → HasDistinctPoints at (Members ids) → HasDistinctPoints (at_scale m at) (Members ids)
 
--- a surface that turns outwards at no edge of t turns outwards at none at the scale
+-- a surface that turns outwards at no edge of t turns outwards at no edge of t at the scale
 abbrev pub ScaleKeepsConvex : Type 0
 ScaleKeepsConvex = (m : ℕ) → 0 < m → (at : ℕ → Vector) (ts : List Triple) (t : Triple)
     → IsConvexAround at ts t → IsConvexAround (at_scale m at) ts t
@@ -35,7 +35,7 @@ abbrev pub ScaleKeepsExtremes : Type 0
 ScaleKeepsExtremes = (m : ℕ) → 0 < m → (at : ℕ → Vector) (ids : List ℕ) (l : ℕ)
     → Extreme (at_scale m at) (Members ids) l ↔ Extreme at (Members ids) l
 
--- and so are the faces
+-- the faces at the scale are those of the points
 abbrev pub ScaleKeepsFaces : Type 0
 ScaleKeepsFaces = (m : ℕ) → 0 < m → (at : ℕ → Vector) (ids : List ℕ) (qs : List (List ℕ))
     → AreFaces (at_scale m at) (Members ids) qs → AreFaces at (Members ids) qs

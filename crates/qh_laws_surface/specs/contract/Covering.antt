@@ -21,11 +21,11 @@ way_to u s = record {
   z = s.point.z -ℤ pos s.scale *ℤ u.z;
 }
 
--- above 0 where the spot lies above the plane of i, j and k, and 0 in the plane
+-- above 0 if the spot lies above the plane of i, j and k, and 0 in the plane
 unfoldable pub spot_height : (ℕ → Vector) → ℕ → ℕ → ℕ → Spot → ℤ
 spot_height at i j k s = dot (cross (at i) (at j) (at k)) (way_to (at i) s)
 
--- above 0 where the spot lies to the left of the way from u to v, seen from the side that n points to
+-- above 0 if the spot lies to the left of the line from u to v, seen from the side to which n points
 unfoldable pub spot_turn : Vector → (ℕ → Vector) → ℕ → ℕ → Spot → ℤ
 spot_turn n at u v s = dot (cross_product (minus (at v) (at u)) (way_to (at u) s)) n
 

@@ -1,4 +1,4 @@
--- Laws of surfaces in pieces: a surface covers each face of a solid once, and pieces that do so are a surface.
+-- Laws of surfaces in pieces: a surface covers each face of a solid once, and pieces that cover each face once are a surface.
 -- This project's own.
 use Rattle.std.specs.Prelude.{ℕ, ◌≡◌, ◌≤◌, List, count_by, true}
 use Rattle.qh_model.specs.headline.Vector.{Vector}

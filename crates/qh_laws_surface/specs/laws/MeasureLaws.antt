@@ -1,4 +1,4 @@
--- Laws of surfaces in pieces: the pieces measure as much as the faces.
+-- Laws of surfaces in pieces: the pieces have the same measures as the faces.
 -- This project's own.
 use Rattle.std.specs.Prelude.{ℕ, ◌≡◌, List, filter}
 use Rattle.qh_model.specs.headline.Vector.{Vector}

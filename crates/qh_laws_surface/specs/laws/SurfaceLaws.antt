@@ -14,7 +14,7 @@ abbrev pub BodyIsSurface : Type 0
 BodyIsSurface = (at : ℕ → Vector) (ids : List ℕ) (b : BodyValue) → HasDistinctPoints at (Members ids)
     → IsBody at (Members ids) b → IsHullSurface at (Members ids) b.polygons
 
--- in a solid, so are their fans
+-- in a solid, the fans of the polygons are a surface of the hull
 abbrev pub FansAreSurface : Type 0
 FansAreSurface = (at : ℕ → Vector) (ids : List ℕ) (b : BodyValue) → HasDistinctPoints at (Members ids)
     → IsDimension at (Members ids) 3 → IsBody at (Members ids) b → IsHullSurface at (Members ids) (fans b.polygons)

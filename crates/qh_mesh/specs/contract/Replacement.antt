@@ -1,4 +1,4 @@
--- What `replace` leaves of a stored surface, place by place.
+-- The result of `replace` on a stored surface, place by place.
 -- Source: Barber, Dobkin and Huhdanpaa 1996 (the cone of new facets over the horizon).
 use Rattle.std.specs.Prelude.{◌≡◌, ℕ, ◌<◌, ◌⊎◌, List, All, [], ◌∷◌, length, slice_index, filter, not, Bool, true, false, cond, nat_eq}
 use Rattle.qh_model.specs.headline.Sets.{In, Once}
@@ -25,7 +25,7 @@ abbrev pub sides_of : List ℕ → List ℕ
 sides_of [] = []
 sides_of (v ∷ vs) = edge_of v first ∷ edge_of v second ∷ edge_of v third ∷ sides_of vs
 
--- those across which the facet is not listed
+-- the edges across which the facet is not listed
 abbrev pub horizon : List StoredFacet → List ℕ → List ℕ
 horizon fs vs = filter (λ e. not (is_listed vs (facet_of (twin_of fs e)))) (sides_of vs)
 
@@ -51,8 +51,8 @@ pub record StaysFacet (old new : List StoredFacet) (vs : List ℕ) (f : ℕ) : T
   pub k_is : (facet_at new f).k ≡ (facet_at old f).k
   pub twins : (e : ℕ) → facet_of e ≡ f → is_listed vs (facet_of (twin_of old e)) ≡ false → twin_of new e ≡ twin_of old e
 
--- the facets of vs made way for the cone over their horizon: facet j of those made stands over edge j of the
--- horizon, and the one over the edge where edge j ends is its neighbour
+-- the facets of vs are replaced by the cone over their horizon: facet j of the cone is over edge j of the horizon, and its neighbour is the facet over the edge
+-- that begins where edge j ends
 pub record IsReplacement (old new : List StoredFacet) (vs : List ℕ) (apex : ℕ) (made : List ℕ) : Type 0 where
   pub len : length made ≡ length (horizon old vs)
   pub once : Once made

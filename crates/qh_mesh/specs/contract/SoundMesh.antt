@@ -1,4 +1,4 @@
--- What a mesh keeps for the points of a call, and what its steps are told of them.
+-- The invariant of a mesh for the points of a call, and the precondition of its steps.
 use Rattle.std.specs.Prelude.{◌≡◌, ℕ, ◌<◌, List, [], ◌∷◌, length, true, false, ℤ, pos, ◌<ℤ◌, ◌≤ℤ◌}
 use Rattle.qh_model.specs.headline.Vector.{Vector}
 use Rattle.qh_model.specs.headline.Predicates.{vol}
@@ -10,15 +10,15 @@ use Rattle.qh_model.specs.contract.StoredSurface.{StoredFacet, facet_at, surface
 use Rattle.qh_model.specs.contract.ClosedSurface.{IsClosedSurface, signed_volume, triples_of}
 use Rattle.qh_mesh.specs.contract.Replacement.{IsLive, is_listed}
 
--- six times the volume of facet f and p: above 0 where the facet strictly sees p
+-- six times the volume of facet f and p: above 0 if the facet strictly sees p
 abbrev pub facet_vol : (ℕ → Vector) → List StoredFacet → ℕ → Vector → ℤ
 facet_vol at fs f p = vol (at (facet_at fs f).i) (at (facet_at fs f).j) (at (facet_at fs f).k) p
 
--- the surface is whole, and sound around o
+-- the surface is complete, and sound around o
 abbrev pub IsSoundMesh : (ℕ → Vector) → List StoredFacet → Weighted → Type 0
 IsSoundMesh at fs o = IsWhole (surface_of fs) × IsSound (surface_of fs) (weighted_at at) o
 
--- the list has the live facets that strictly see p and no other, and there is one
+-- the list has exactly the live facets that strictly see p, and there is one
 pub record AreVisible (at : ℕ → Vector) (fs : List StoredFacet) (vs : List ℕ) (p : ℕ) : Type 0 where
   pub some : 0 < length vs
   pub seen : (f : ℕ) → IsLive fs f → is_listed vs f ≡ true → pos 0 <ℤ facet_vol at fs f (at p)
@@ -33,7 +33,7 @@ simplex_facets a b c d =
     ∷ record { i = b; j = d; k = c; ij = 4; jk = 7; ki = 1; live = true }
     ∷ []
 
--- the live facets are a closed surface, none of them in line, with signed volume below 0
+-- the live facets are a closed surface, none of them has its corners in line, and its signed volume is below 0
 pub record IsClosedMesh (at : ℕ → Vector) (fs : List StoredFacet) : Type 0 where
   pub surface : IsClosedSurface at (triples_of (surface_of fs))
   pub volume : (p : Vector) → signed_volume at (triples_of (surface_of fs)) p <ℤ pos 0

@@ -1,4 +1,4 @@
--- What the steps of a replacement write: the twins across the horizon, and the facets of the cone.
+-- The writes of the steps of a replacement: the twins across the horizon, and the facets of the cone.
 use Rattle.std.specs.Prelude.{◌≡◌, ◌≢◌, ℕ, ◌<◌, List, length, slice_index}
 use Rattle.qh_model.specs.contract.Surface.Side.{first, second, third}
 use Rattle.qh_model.specs.contract.StoredSurface.{StoredFacet, facet_at, no_facet}
@@ -22,7 +22,7 @@ pub record Joined (old new : List StoredFacet) (hs : List FacetSide) (made : Lis
   pub outer : (j : ℕ) → j < k → twin_of new (side_at hs j).outer ≡ edge_of (slice_index made j) first
   pub others : (e : ℕ) → ((j : ℕ) → j < k → (side_at hs j).outer ≢ e) → twin_of new e ≡ twin_of old e
 
--- the facet of the cone over a side of the horizon, beside those over the sides that meet it
+-- the facet of the cone over a side of the horizon, linked to those over the adjacent sides
 pub record IsOver (hs : List FacetSide) (made : List ℕ) (apex j : ℕ) (t : StoredFacet) : Type 0 where
   pub next : ℕ
   pub next_is : IsMate hs Finish j next

@@ -1,4 +1,4 @@
--- A facet as a mesh keeps it, its sides, and what the steps make of it.
+-- A facet as a mesh stores it, its sides, and the effect of the steps on it.
 use Rattle.std.specs.Prelude.{ℕ, Bool, true, false}
 use Rattle.qh_model.specs.contract.Simplex.{by_side}
 use Rattle.qh_model.specs.contract.Surface.{Side}
@@ -13,7 +13,7 @@ facet_from i j k ij jk ki = record { i = i; j = j; k = k; ij = ij; jk = jk; ki =
 abbrev pub removed : StoredFacet → StoredFacet
 removed t = record { i = t.i; j = t.j; k = t.k; ij = t.ij; jk = t.jk; ki = t.ki; live = false }
 
--- its mark
+-- the mark of a facet
 abbrev pub is_live : StoredFacet → Bool
 is_live t = t.live
 

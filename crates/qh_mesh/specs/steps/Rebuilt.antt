@@ -1,4 +1,4 @@
--- What the steps of a replacement leave, one after the other.
+-- The results of the steps of a replacement, one after the other.
 use Rattle.std.specs.Prelude.{All, ◌≡◌, ◌≢◌, ℕ, ◌*◌, ◌<◌, ◌≤◌, ◌^◌, List, ◌++◌, length, reverse, map, max, ◌<ℤ◌}
 use Rattle.qh_model.specs.headline.Sets.{Once}
 use Rattle.qh_model.specs.headline.Vector.{Vector}
@@ -16,12 +16,12 @@ use Rattle.qh_mesh.specs.steps.Horizons.{edge_side, side_at, IsBalanced}
 use Rattle.qh_mesh.specs.steps.Places.{IsPool, Removed}
 use Rattle.qh_mesh.specs.steps.Surfaces.{IsSurface}
 
--- the listed facets are gone, and their horizon is noted
+-- the listed facets are removed, and their horizon is recorded
 pub record IsCleared (old cleared : List StoredFacet) (vs : List ℕ) (hs : List FacetSide) : Type 0 where
   pub removed : Removed old cleared vs (length vs)
   pub noted : hs ≡ map (edge_side old) (horizon old vs)
 
--- the places of the cone are chosen, and no facet changed
+-- the places of the cone are chosen, and no facet is changed
 pub record IsChosen (cleared chosen : List StoredFacet) (hs : List FacetSide) (made free : List ℕ) : Type 0 where
   pub cells : (f : ℕ) → facet_at chosen f ≡ facet_at cleared f
   pub pool : IsPool chosen (made ++ reverse free)
@@ -36,14 +36,14 @@ pub record IsPrepared (old chosen : List StoredFacet) (left vs : List ℕ) (hs :
   pub longer : length old ≤ length chosen
   pub again : 0 < length left → length chosen ≡ length old
 
--- the cone is joined to the facets across the horizon, and written
+-- the cone is linked to the facets across the horizon, and written
 pub record IsConed (chosen new : List StoredFacet) (hs : List FacetSide) (made : List ℕ) (apex : ℕ) : Type 0 where
   pub joined_to : List StoredFacet
   pub joined : Joined chosen joined_to hs made (length hs)
   pub written : Written joined_to new hs made apex (length made)
   pub pool : (places : List ℕ) → IsPool chosen (made ++ places) → IsPool new places
 
--- what the last steps need: a balanced horizon, facets across it, and places for the cone
+-- the precondition of the last steps: a balanced horizon, facets across it, and places for the cone
 pub record IsReady (chosen : List StoredFacet) (hs : List FacetSide) (made : List ℕ) : Type 0 where
   pub places : length made ≤ length chosen
   pub small : 3 * length chosen < 2 ^ 32
@@ -54,7 +54,7 @@ pub record IsReady (chosen : List StoredFacet) (hs : List FacetSide) (made : Lis
   pub made_in : All (λ f. f < length chosen) made
   pub once : Once made
 
--- a replacement that leaves a surface, with no more places than it needs
+-- a replacement whose result is a surface, with no more places than it needs
 pub record IsRebuilt (old new : List StoredFacet) (left vs : List ℕ) (apex : ℕ) (made : List ℕ) : Type 0 where
   pub surface : IsSurface new left
   pub replaced : IsReplacement old new vs apex made

@@ -1,4 +1,4 @@
--- Room for a replacement, which is made before the mesh changes.
+-- Room for a replacement, which is reserved before the mesh changes.
 use Rattle.std.specs.Prelude.{◌≡◌, ℕ, ◌+◌, ◌*◌, ◌-◌, ◌<◌, ◌≤◌, ◌^◌, [], Vec, vec_len, vec_capacity}
 use Rattle.std.specs.declared.alloc.Global.{Global}
 use Rattle.qh_model.specs.contract.StoredSurface.{StoredFacet}
@@ -9,7 +9,7 @@ pub record IsBlank (s : Scratch) : Type 0 where
   pub horizon : s.horizon.items ≡ []
   pub made : s.made.items ≡ []
 
--- the lists have room for what a replacement of `count` facets can need, and the half-edges of all places numbers that fit 32 bits
+-- the lists have room for any replacement of `count` facets, and the half-edges of all places have numbers that fit 32 bits
 pub record HasRoom (facets : Vec StoredFacet Global) (free : Vec ℕ Global) (s : Scratch) (count : ℕ) : Type 0 where
   pub horizon_room : 3 * count ≤ vec_capacity s.horizon
   pub made_room : 3 * count ≤ vec_capacity s.made

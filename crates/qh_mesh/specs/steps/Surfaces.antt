@@ -1,4 +1,4 @@
--- What a mesh keeps.
+-- The invariant of a mesh.
 use Rattle.std.specs.Prelude.{ℕ, ◌*◌, ◌<◌, ◌^◌, List, length, reverse}
 use Rattle.qh_model.specs.contract.StoredSurface.{StoredFacet}
 use Rattle.qh_mesh.specs.steps.Places.{IsPool}

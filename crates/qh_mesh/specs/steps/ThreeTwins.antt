@@ -1,4 +1,4 @@
--- A list of three is its members: so a facet keeps the half-edges across its sides as an array.
+-- A list of length three is the list of its members; so a facet stores the half-edges across its sides as an array.
 use Rattle.std.specs.Prelude.{ℕ, zero, suc, ◌≡◌, List, [], ◌∷◌, length, slice_index, refl}
 use Rattle.std.proofs.Common.{sym, subst}
 

@@ -1,4 +1,4 @@
--- Signs of products. In a signature brackets are needed: `≤ℤ` binds tighter than `+ℤ` and `*ℤ`.
+-- Signs of products. A signature needs brackets, since `≤ℤ` binds tighter than `+ℤ` and `*ℤ`.
 use Rattle.std.proofs.Common.{◌≡◌, zero, suc, ◌*◌, ◌≤◌, arith, ap, sym, ◌∙◌, refl, ◌⊎◌, inl, inr, ⊎_elim}
 use Rattle.std.proofs.{Math.IntN.*ℤ-zero, Math.Nat.mul-le-mul, lemmas.Int.ints, lemmas.Int.by_lt_z}
 use Rattle.std.specs.Prelude.{ℤ, pos, negsuc, ◌+ℤ◌, ◌-ℤ◌, ◌*ℤ◌, neg_ℤ, ◌≤ℤ◌, ◌<ℤ◌}
@@ -6,23 +6,23 @@ use lib.IntN.{ℤ_discrete}
 use borrow.Author.Differences.{product_is}
 use Rattle.qh_model.proofs.algebra.{Integers.mul_add, Integers.mul_comm, Integers.mul_neg, Signs.not_less}
 
--- two numbers not below 0
+-- the product of two numbers not below 0
 pub mul-nonneg : (a b : ℤ) → pos 0 ≤ℤ a → pos 0 ≤ℤ b → pos 0 ≤ℤ (a *ℤ b)
 mul-nonneg a b h k = grind (arith, ints)
 
--- one not below 0, one not above
+-- the product of a number not below 0 and one not above 0
 pub mul-nonneg_nonpos : (a b : ℤ) → pos 0 ≤ℤ a → b ≤ℤ pos 0 → (a *ℤ b) ≤ℤ pos 0
 mul-nonneg_nonpos a b h k = grind (arith, ints)
 
--- the other way round
+-- the product of a number not above 0 and one not below 0
 pub mul-nonpos_nonneg : (a b : ℤ) → a ≤ℤ pos 0 → pos 0 ≤ℤ b → (a *ℤ b) ≤ℤ pos 0
 mul-nonpos_nonneg a b h k = grind (arith, ints)
 
--- two numbers not above 0
+-- the product of two numbers not above 0
 pub mul-nonpos : (a b : ℤ) → a ≤ℤ pos 0 → b ≤ℤ pos 0 → pos 0 ≤ℤ (a *ℤ b)
 mul-nonpos a b h k = grind (arith, ints)
 
--- two positive numbers
+-- the product of two positive numbers
 pub mul-pos : (a b : ℤ) → pos 0 <ℤ a → pos 0 <ℤ b → pos 0 <ℤ (a *ℤ b)
 mul-pos (pos a) (pos b) h k =
     let p : 1 ≤ a = omega (arith, ints) in
@@ -40,19 +40,19 @@ mul-le a b c h k =
     let e : a *ℤ c ≡ a *ℤ b +ℤ a *ℤ (c -ℤ b) = sym (sym (mul_add a b (c -ℤ b)) ∙ ap (λ v. a *ℤ v) s) in
     omega (arith, ints, p, e)
 
--- a positive factor goes, the sign stays
+-- cancelling a positive factor keeps the sign
 pub cancel-nonneg : (a b : ℤ) → pos 0 <ℤ a → pos 0 ≤ℤ (a *ℤ b) → pos 0 ≤ℤ b
 cancel-nonneg a b h k = grind (arith, ints)
 
--- the same of a product not above 0
+-- the same for a product not above 0
 pub cancel-nonpos : (a b : ℤ) → pos 0 <ℤ a → (a *ℤ b) ≤ℤ pos 0 → b ≤ℤ pos 0
 cancel-nonpos a b h k = by_lt_z (pos 0) b (λ q. absurd (not_less (pos 0) (a *ℤ b) (mul-pos a b h q) k)) (λ q. q)
 
--- of a positive product
+-- the same for a positive product
 pub cancel-pos : (a b : ℤ) → pos 0 <ℤ a → pos 0 <ℤ (a *ℤ b) → pos 0 <ℤ b
 cancel-pos a b h k = grind (arith, ints, mul-nonneg_nonpos)
 
--- a positive number and a negative one
+-- the product of a positive number and a negative one
 pub mul-pos_neg : (a b : ℤ) → pos 0 <ℤ a → b <ℤ pos 0 → (a *ℤ b) <ℤ pos 0
 mul-pos_neg a b h k = grind (arith, ints, cancel-nonneg)
 
@@ -75,19 +75,19 @@ zero_product (negsuc n) b k =
 pub cancel-zero_neg : (a b : ℤ) → a <ℤ pos 0 → a *ℤ b ≡ pos 0 → b ≡ pos 0
 cancel-zero_neg a b h k = ⊎_elim (λ e. absurd (omega (arith, ints, h, e))) (λ e. e) (zero_product a b k)
 
--- a negative number and a positive one
+-- the product of a negative number and a positive one
 pub mul-neg_pos : (a b : ℤ) → a <ℤ pos 0 → pos 0 <ℤ b → (a *ℤ b) <ℤ pos 0
 mul-neg_pos a b h k = rw (mul_comm a b) (mul-pos_neg b a k h)
 
--- not above and not below is equal
+-- a number that is not above and not below another is equal to it
 pub le_antisym : (a b : ℤ) → a ≤ℤ b → b ≤ℤ a → a ≡ b
 le_antisym a b h k = omega (arith, ints)
 
--- what is at most as much and not equal is less
+-- a number that is at most another and not equal to it is less
 pub le_less : (a b : ℤ) → a ≤ℤ b → (a ≡ b → ⊥) → a <ℤ b
 le_less a b h k = by_lt_z a b (λ l. l) (λ l. absurd (k (le_antisym a b h l)))
 
--- a number is 0 or not
+-- decides whether a number is 0
 pub zero_or_not : (v : ℤ) → (v ≡ pos 0) ⊎ (¬ (v ≡ pos 0))
 zero_or_not v = elim (ℤ_discrete v (pos 0)) [ yes e ↦ inl e | no n ↦ inr n ]
 
@@ -99,7 +99,7 @@ neg-positive x h = omega (arith, ints)
 pub neg-nonneg : (x : ℤ) → x ≤ℤ pos 0 → pos 0 ≤ℤ neg_ℤ x
 neg-nonneg x h = omega (arith, ints)
 
--- two negative numbers
+-- the product of two negative numbers
 pub mul-neg_neg : (a b : ℤ) → a <ℤ pos 0 → b <ℤ pos 0 → pos 0 <ℤ (a *ℤ b)
 mul-neg_neg a b h k = omega (arith, ints, mul_neg a b, mul-neg_pos a (neg_ℤ b) h (neg-positive b k))
 
@@ -111,7 +111,7 @@ positive_le x h = omega (arith, ints)
 pub negative_le : (x : ℤ) → x <ℤ pos 0 → x ≤ℤ pos 0
 negative_le x h = omega (arith, ints)
 
--- a square
+-- a square is not below 0
 pub square-nonneg : (x : ℤ) → pos 0 ≤ℤ (x *ℤ x)
 square-nonneg (pos n) = omega (arith, ints)
 square-nonneg (negsuc n) = omega (arith, ints)

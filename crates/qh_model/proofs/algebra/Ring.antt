@@ -1,4 +1,4 @@
--- A normal form of whole-number polynomials, by which an identity is proved by computing.
+-- A normal form of polynomials of whole numbers. An identity is proved by computing it.
 use Rattle.std.proofs.Common.{◌≡◌, ℕ, arith, ap, sym, ◌∙◌, refl, List, [], ◌∷◌, Bool, true, false, eqb, ltb, get_or}
 use Rattle.std.proofs.{Math.IntN.+ℤ_assoc, Math.IntN.+ℤ_idl, Math.IntN.+ℤ_idr, Math.IntN.*ℤ-zero, Math.IntN.neg_ℤ-+ℤ, lemmas.Bool.eqb-true, lemmas.Int.ints}
 use Rattle.std.specs.Prelude.{ℤ, pos, negsuc, ◌+ℤ◌, ◌-ℤ◌, ◌*ℤ◌, neg_ℤ}
@@ -13,7 +13,7 @@ pub data Expr : Type 0 where
   mul : Expr → Expr → Expr
   neg : Expr → Expr
 
--- its value where variable i is the i-th of env
+-- the value of an expression, where variable i is the i-th of env
 abbrev pub value : List ℤ → Expr → ℤ
 value env (var i) = get_or env i (pos 0)
 value env (con c) = c
@@ -22,7 +22,7 @@ value env (sub a b) = value env a -ℤ value env b
 value env (mul a b) = value env a *ℤ value env b
 value env (neg a) = neg_ℤ (value env a)
 
--- a monomial is its variables, sorted; a polynomial its terms, sorted by monomial
+-- a monomial is the sorted list of its variables; a polynomial is the list of its terms, sorted by monomial
 abbrev pub Mono : Type 0
 Mono = List ℕ
 
@@ -40,21 +40,21 @@ abbrev pub value_p : List ℤ → Poly → ℤ
 value_p env [] = pos 0
 value_p env (t ∷ p) = t.0 *ℤ value_m env t.1 +ℤ value_p env p
 
--- are two monomials the same?
+-- true if two monomials are the same
 abbrev pub eq_m : Mono → Mono → Bool
 eq_m [] [] = true
 eq_m [] (j ∷ n) = false
 eq_m (i ∷ m) [] = false
 eq_m (i ∷ m) (j ∷ n) = elim (eqb i j) [ true ↦ eq_m m n | false ↦ false ]
 
--- does the first come before the second?
+-- true if the first monomial comes before the second
 abbrev pub lt_m : Mono → Mono → Bool
 lt_m [] [] = false
 lt_m [] (j ∷ n) = true
 lt_m (i ∷ m) [] = false
 lt_m (i ∷ m) (j ∷ n) = elim (ltb i j) [ true ↦ true | false ↦ elim (eqb i j) [ true ↦ lt_m m n | false ↦ false ] ]
 
--- a variable put into a monomial
+-- inserts a variable into a monomial
 abbrev pub ins_m : ℕ → Mono → Mono
 ins_m i [] = i ∷ []
 ins_m i (j ∷ m) = elim (ltb i j) [ true ↦ i ∷ j ∷ m | false ↦ j ∷ ins_m i m ]
@@ -64,7 +64,7 @@ abbrev pub mul_m : Mono → Mono → Mono
 mul_m [] n = n
 mul_m (i ∷ m) n = ins_m i (mul_m m n)
 
--- is a coefficient 0?
+-- true if a coefficient is 0
 abbrev pub is_zero : ℤ → Bool
 is_zero (pos n) = eqb n 0
 is_zero (negsuc n) = false
@@ -106,7 +106,7 @@ norm (sub a b) = add_p (norm a) (neg_p (norm b))
 norm (mul a b) = mul_p (norm a) (norm b)
 norm (neg a) = neg_p (norm a)
 
--- are all coefficients 0?
+-- true if all coefficients are 0
 abbrev pub zeros : Poly → Bool
 zeros [] = true
 zeros (t ∷ p) = elim (is_zero t.0) [ true ↦ zeros p | false ↦ false ]
@@ -118,14 +118,14 @@ eq_m-split : (i j : ℕ) (m n : Mono) (b : Bool) → eqb i j ≡ b → (eq_m m n
 eq_m-split i j m n true f h e = cc (eqb-true i j f, h e)
 eq_m-split i j m n false f h e = cc
 
--- the test of monomials is right
+-- the test of monomials is correct
 eq_m-is : (m n : Mono) → eq_m m n ≡ true → m ≡ n
 eq_m-is [] [] e = refl
 eq_m-is [] (j ∷ n) e = cc
 eq_m-is (i ∷ m) [] e = cc
 eq_m-is (i ∷ m) (j ∷ n) e = eq_m-split i j m n (eqb i j) refl (eq_m-is m n) e
 
--- each operation has the value that it stands for: a variable put in
+-- each operation has the right value: inserting a variable
 ins_m-value : (env : List ℤ) (i : ℕ) (m : Mono) → value_m env (ins_m i m) ≡ get_or env i (pos 0) *ℤ value_m env m
 ins_m-value env i [] = refl
 ins_m-value env i (j ∷ m) =
@@ -135,19 +135,19 @@ ins_m-value env i (j ∷ m) =
       | false ↦ ap (λ v. get_or env j (pos 0) *ℤ v) (ins_m-value env i m) ∙ mul_swap (get_or env j (pos 0)) (get_or env i (pos 0)) (value_m env m)
     ]
 
--- a product of monomials
+-- the product of monomials
 mul_m-value : (env : List ℤ) (m n : Mono) → value_m env (mul_m m n) ≡ value_m env m *ℤ value_m env n
 mul_m-value env [] n = sym (one_mul (value_m env n))
 mul_m-value env (i ∷ m) n =
     ins_m-value env i (mul_m m n) ∙ ap (λ v. get_or env i (pos 0) *ℤ v) (mul_m-value env m n)
     ∙ sym (mul_assoc (get_or env i (pos 0)) (value_m env m) (value_m env n))
 
--- the test of coefficients is right
+-- the test of coefficients is correct
 is_zero-is : (c : ℤ) → is_zero c ≡ true → c ≡ pos 0
 is_zero-is (pos n) e = ap pos (eqb-true n 0 e)
 is_zero-is (negsuc n) e = cc
 
--- a term that may have vanished
+-- a term whose coefficient may be 0
 zero_term : (env : List ℤ) (c : ℤ) (m : Mono) (p : Poly) (b : Bool) → is_zero c ≡ b
     → value_p env (elim b [ true ↦ p | false ↦ (c, m) ∷ p ]) ≡ c *ℤ value_m env m +ℤ value_p env p
 zero_term env c m p true e = rw (is_zero-is c e, zero_mul (value_m env m)) (sym (+ℤ_idl (value_p env p)))
@@ -166,12 +166,12 @@ ins_p-split env c m t p q true b' e h =
 ins_p-split env c m t p q false true e h = refl
 ins_p-split env c m t p q false false e h = omega (arith, ints)
 
--- a term put in
+-- inserting a term
 ins_p-value : (env : List ℤ) (c : ℤ) (m : Mono) (p : Poly) → value_p env (ins_p c m p) ≡ c *ℤ value_m env m +ℤ value_p env p
 ins_p-value env c m [] = refl
 ins_p-value env c m (t ∷ p) = ins_p-split env c m t p (ins_p c m p) (eq_m m t.1) (lt_m m t.1) refl (ins_p-value env c m p)
 
--- a sum
+-- the sum of polynomials
 add_p-value : (env : List ℤ) (p q : Poly) → value_p env (add_p p q) ≡ value_p env p +ℤ value_p env q
 add_p-value env [] q = sym (+ℤ_idl (value_p env q))
 add_p-value env (t ∷ p) q =
@@ -182,7 +182,7 @@ add_p-value env (t ∷ p) q =
 four_swap : (c d m n : ℤ) → c *ℤ d *ℤ (m *ℤ n) ≡ c *ℤ m *ℤ (d *ℤ n)
 four_swap c d m n = mul_assoc c d (m *ℤ n) ∙ ap (λ v. c *ℤ v) (mul_swap d m n) ∙ sym (mul_assoc c m (d *ℤ n))
 
--- a term times a polynomial
+-- the product of a term and a polynomial
 mul_t-value : (env : List ℤ) (c : ℤ) (m : Mono) (q r : Poly) → value_p env (mul_t c m q r) ≡ c *ℤ value_m env m *ℤ value_p env q +ℤ value_p env r
 mul_t-value env c m [] r = sym (ap (λ v. v +ℤ value_p env r) (*ℤ-zero (c *ℤ value_m env m)) ∙ +ℤ_idl (value_p env r))
 mul_t-value env c m (t ∷ q) r =
@@ -191,14 +191,14 @@ mul_t-value env c m (t ∷ q) r =
     ∙ ap (λ v. v +ℤ value_p env (mul_t c m q r)) (four_swap c t.0 (value_m env m) (value_m env t.1))
     ∙ rw (mul_t-value env c m q r, mul_add (c *ℤ value_m env m) (t.0 *ℤ value_m env t.1) (value_p env q)) (omega (arith, ints))
 
--- a product
+-- the product of polynomials
 mul_p-value : (env : List ℤ) (p q : Poly) → value_p env (mul_p p q) ≡ value_p env p *ℤ value_p env q
 mul_p-value env [] q = sym (zero_mul (value_p env q))
 mul_p-value env (t ∷ p) q =
     mul_t-value env t.0 t.1 q (mul_p p q) ∙ ap (λ v. t.0 *ℤ value_m env t.1 *ℤ value_p env q +ℤ v) (mul_p-value env p q)
     ∙ sym (add_mul (t.0 *ℤ value_m env t.1) (value_p env p) (value_p env q))
 
--- an opposite
+-- the opposite polynomial
 neg_p-value : (env : List ℤ) (p : Poly) → value_p env (neg_p p) ≡ neg_ℤ (value_p env p)
 neg_p-value env [] = refl
 neg_p-value env (t ∷ p) =
@@ -206,7 +206,7 @@ neg_p-value env (t ∷ p) =
     ∙ ap (λ v. neg_ℤ (t.0 *ℤ value_m env t.1) +ℤ v) (neg_p-value env p)
     ∙ sym (neg_ℤ-+ℤ (t.0 *ℤ value_m env t.1) (value_p env p))
 
--- the polynomial of an expression has its value
+-- the polynomial of an expression has the value of the expression
 norm-value : (env : List ℤ) (e : Expr) → value_p env (norm e) ≡ value env e
 norm-value env (var i) = +ℤ_idr (pos 1 *ℤ (get_or env i (pos 0) *ℤ pos 1)) ∙ one_mul (get_or env i (pos 0) *ℤ pos 1) ∙ mul_one (get_or env i (pos 0))
 norm-value env (con c) = +ℤ_idr (c *ℤ pos 1) ∙ mul_one c
@@ -221,19 +221,19 @@ zeros-split : (env : List ℤ) (c m v : ℤ) (b z : Bool) → is_zero c ≡ b �
 zeros-split env c m v true z e h f = rw (is_zero-is c e) (rw (h f) (rw (zero_mul m) refl))
 zeros-split env c m v false z e h f = cc
 
--- a polynomial with no coefficient but 0 is 0
+-- a polynomial whose coefficients are all 0 is 0
 zeros-value : (env : List ℤ) (p : Poly) → zeros p ≡ true → value_p env p ≡ pos 0
 zeros-value env [] e = refl
 zeros-value env (t ∷ p) e = zeros-split env t.0 (value_m env t.1) (value_p env p) (is_zero t.0) (zeros p) refl (zeros-value env p) e
 
--- what differ by 0 are equal
+-- two numbers whose difference is 0 are equal
 pub equal_from_zero : (a b : ℤ) → a -ℤ b ≡ pos 0 → a ≡ b
 equal_from_zero a b e = omega (arith, ints)
 
--- the two sides are equal where the normal form of their difference is zero
+-- two sides are equal if the normal form of their difference is zero
 pub ring : (env : List ℤ) (a b : Expr) → zeros (norm (sub a b)) ≡ true → value env a ≡ value env b
 ring env a b e = equal_from_zero (value env a) (value env b) (sym (norm-value env (sub a b)) ∙ zeros-value env (norm (sub a b)) e)
 
--- the same, of an expression that is zero
+-- the same for an expression that is zero
 pub ring_zero : (env : List ℤ) (a : Expr) → zeros (norm a) ≡ true → value env a ≡ pos 0
 ring_zero env a e = sym (norm-value env a) ∙ zeros-value env (norm a) e

@@ -1,8 +1,8 @@
--- Orders of whole numbers, of equal ones and of opposites.
+-- Orders of whole numbers, of equal numbers and of opposites.
 use Rattle.std.proofs.{Common.◌≡◌, Common.arith, lemmas.Int.ints, lemmas.Int.by_lt_z}
 use Rattle.std.specs.Prelude.{ℤ, pos, ◌+ℤ◌, ◌-ℤ◌, neg_ℤ, ◌≤ℤ◌, ◌<ℤ◌}
 
--- what is less is not as much
+-- a number that is less than another is not at least as great
 pub not_less : (a b : ℤ) → a <ℤ b → b ≤ℤ a → ⊥
 not_less a b h k = omega (arith, ints)
 
@@ -10,15 +10,15 @@ not_less a b h k = omega (arith, ints)
 pub less_one_way : (a b : ℤ) → a <ℤ b → b <ℤ a → ⊥
 less_one_way a b h k = omega (arith, ints)
 
--- what is less is not equal
+-- a number that is less than another is not equal to it
 pub less_differ : (a b : ℤ) → a <ℤ b → a ≡ b → ⊥
 less_differ a b h e = omega (arith, ints)
 
--- what is less is at most as much
+-- a number that is less than another is at most the other
 pub less_le : (a b : ℤ) → a <ℤ b → a ≤ℤ b
 less_le a b h = omega (arith, ints)
 
--- what is not above 0 is at most 0
+-- a number that is not above 0 is at most 0
 pub at_most_zero : (v : ℤ) → (pos 0 <ℤ v → ⊥) → v ≤ℤ pos 0
 at_most_zero v never = by_lt_z (pos 0) v (λ above. absurd (never above)) (λ below. below)
 
@@ -26,28 +26,28 @@ at_most_zero v never = by_lt_z (pos 0) v (λ above. absurd (never above)) (λ be
 pub equal_le : (a b : ℤ) → a ≡ b → a ≤ℤ b
 equal_le a b e = omega (arith, ints)
 
--- what is less has a positive gap
+-- a number that is less than another has a positive difference to it
 pub gap_positive : (a b : ℤ) → a <ℤ b → pos 0 <ℤ (b -ℤ a)
 gap_positive a b h = omega (arith, ints)
 
 -- ---- sums
--- of three numbers not above 0
+-- the sum of three numbers not above 0
 pub sum_nonpos : (x a b c : ℤ) → x ≡ a +ℤ b +ℤ c → a ≤ℤ pos 0 → b ≤ℤ pos 0 → c ≤ℤ pos 0 → x ≤ℤ pos 0
 sum_nonpos x a b c e h k l = omega (arith, ints)
 
--- where that is not below 0, all three are 0
+-- if that sum is not below 0, all three are 0
 pub sum_parts : (x a b c : ℤ) → x ≡ a +ℤ b +ℤ c → a ≤ℤ pos 0 → b ≤ℤ pos 0 → c ≤ℤ pos 0 → pos 0 ≤ℤ x → (a ≡ pos 0) × (b ≡ pos 0) × (c ≡ pos 0)
 sum_parts x a b c e h k l p = (omega (arith, ints), omega (arith, ints), omega (arith, ints))
 
--- of three zeros
+-- the sum of three zeros
 pub sum_zero : (x a b c : ℤ) → x ≡ a +ℤ b +ℤ c → a ≡ pos 0 → b ≡ pos 0 → c ≡ pos 0 → x ≡ pos 0
 sum_zero x a b c e h k l = omega (arith, ints)
 
--- four numbers not above 0 have no sum above 0
+-- the sum of four numbers not above 0 is not above 0
 pub no_sum : (x a b c d : ℤ) → x ≡ a +ℤ b +ℤ c +ℤ d → pos 0 <ℤ x → a ≤ℤ pos 0 → b ≤ℤ pos 0 → c ≤ℤ pos 0 → d ≤ℤ pos 0 → ⊥
 no_sum x a b c d e p h i j k = omega (arith, ints)
 
--- ---- the sign of a number, told of one that is equal
+-- ---- the sign of a number, from that of an equal number
 -- not above 0
 pub equal_nonpos : (x r : ℤ) → x ≡ r → x ≤ℤ pos 0 → r ≤ℤ pos 0
 equal_nonpos x r e h = omega (arith, ints)
@@ -61,28 +61,28 @@ pub equal_positive : (x r : ℤ) → x ≡ r → pos 0 <ℤ x → pos 0 <ℤ r
 equal_positive x r e h = omega (arith, ints)
 
 -- ---- the sign of an opposite
--- of a number not above 0
+-- the sign of the opposite of a number not above 0
 pub opposite_nonneg : (x r : ℤ) → x ≡ neg_ℤ r → x ≤ℤ pos 0 → pos 0 ≤ℤ r
 opposite_nonneg x r e h = omega (arith, ints)
 
--- of a negative number
+-- the sign of the opposite of a negative number
 pub opposite_positive : (x r : ℤ) → x ≡ neg_ℤ r → x <ℤ pos 0 → pos 0 <ℤ r
 opposite_positive x r e h = omega (arith, ints)
 
--- of a positive number
+-- the sign of the opposite of a positive number
 pub opposite_negative : (x r : ℤ) → x ≡ neg_ℤ r → pos 0 <ℤ x → r <ℤ pos 0
 opposite_negative x r e h = omega (arith, ints)
 
--- of 0
+-- the sign of the opposite of 0
 pub opposite_zero : (x r : ℤ) → x ≡ neg_ℤ r → r ≡ pos 0 → x ≡ pos 0
 opposite_zero x r e h = omega (arith, ints)
 
--- ---- the sign of a number that is told as an opposite
--- of a negative number
+-- ---- the sign of a number, from that of its opposite
+-- the sign of a number whose opposite is negative
 pub negated_positive : (x r : ℤ) → x ≡ neg_ℤ r → r <ℤ pos 0 → pos 0 <ℤ x
 negated_positive x r e h = omega (arith, ints)
 
--- ---- where a and b are the opposites of x and y
+-- ---- a and b are the opposites of x and y
 -- equal numbers have equal opposites
 pub opposite_same : (a b x y : ℤ) → a ≡ neg_ℤ x → b ≡ neg_ℤ y → a ≡ b → x ≡ y
 opposite_same a b x y e f h = omega (arith, ints)
@@ -91,14 +91,14 @@ opposite_same a b x y e f h = omega (arith, ints)
 pub neg_le : (a b x y : ℤ) → a ≡ neg_ℤ x → b ≡ neg_ℤ y → a ≤ℤ b → y ≤ℤ x
 neg_le a b x y e f h = omega (arith, ints)
 
--- and back
+-- the converse
 pub le_neg : (a b x y : ℤ) → a ≡ neg_ℤ x → b ≡ neg_ℤ y → y ≤ℤ x → a ≤ℤ b
 le_neg a b x y e f h = omega (arith, ints)
 
--- the same, strictly
+-- strictly ordered opposites are in the opposite order
 pub neg_lt : (a b x y : ℤ) → a ≡ neg_ℤ x → b ≡ neg_ℤ y → a <ℤ b → y <ℤ x
 neg_lt a b x y e f h = omega (arith, ints)
 
--- and back
+-- the converse
 pub lt_neg : (a b x y : ℤ) → a ≡ neg_ℤ x → b ≡ neg_ℤ y → y <ℤ x → a <ℤ b
 lt_neg a b x y e f h = omega (arith, ints)

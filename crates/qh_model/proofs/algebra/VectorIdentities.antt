@@ -32,11 +32,11 @@ dotE p q = add (add (mul p.x q.x) (mul p.y q.y)) (mul p.z q.z)
 abbrev pub volE : VE → VE → VE → VE → Expr
 volE a b c d = dotE (crossE (subE b a) (subE c a)) (subE d a)
 
--- the same where the first is the origin
+-- the same if the first is the origin
 abbrev pub detE : VE → VE → VE → Expr
 detE b c d = dotE (crossE b c) d
 
--- three numbers before the rest
+-- three numbers in front of the rest
 abbrev pub put : Vector → List ℤ → List ℤ
 put p env = p.x ∷ p.y ∷ p.z ∷ env
 
@@ -48,17 +48,17 @@ edge_product u v a b p y =
     (less (mul (detE (vec 0) (vec 1) (vec 3)) (detE (vec 0) (vec 2) (vec 4))) (mul (detE (vec 0) (vec 1) (vec 4)) (detE (vec 0) (vec 2) (vec 3))))
     (mul (detE (vec 0) (vec 1) (vec 2)) (detE (vec 0) (vec 3) (vec 4))) refl
 
--- signed volume: vol of the fourth point: antisymmetric, cyclic
+-- signed volume: the volume with the fourth point is antisymmetric and cyclic
 pub vol-flip : (u v o p : Vector) → vol u v o p ≡ neg_ℤ (vol v u o p)
 unfolding vol cross
 vol-flip u v o p = ring (put u (put v (put o (put p [])))) (volE (vec 0) (vec 1) (vec 2) (vec 3)) (neg (volE (vec 1) (vec 0) (vec 2) (vec 3))) refl
 
--- and changes its sign where two points change places
+-- the volume changes its sign if two points swap
 pub vol-swap_last : (a b c p : Vector) → vol a b c p ≡ neg_ℤ (vol a b p c)
 unfolding vol cross
 vol-swap_last a b c p = ring (put a (put b (put c (put p [])))) (volE (vec 0) (vec 1) (vec 2) (vec 3)) (neg (volE (vec 0) (vec 1) (vec 3) (vec 2))) refl
 
--- the volume with p is that with o and those of the three edges with o and p
+-- the volume with p is the volume with o plus those of the three edges with o and p
 pub vol-boundary : (a b c o p : Vector) → vol a b c p ≡ vol a b c o +ℤ (vol a b o p +ℤ vol b c o p +ℤ vol c a o p)
 unfolding vol cross
 vol-boundary a b c o p =
@@ -69,7 +69,7 @@ vol-boundary a b c o p =
 unfoldable pub depth : Vector → Vector → Vector → ℤ
 depth w p x = dot w (minus p x)
 
--- one triangle's part in the cancellation
+-- the contribution of one triangle to the cancellation
 pub vol-depths : (w a b c r p : Vector) → vol a b c p *ℤ depth w p r ≡ vol a b r p *ℤ depth w p c +ℤ vol b c r p *ℤ depth w p a +ℤ vol c a r p *ℤ depth w p b
 unfolding vol cross depth
 vol-depths w a b c r p =
@@ -86,7 +86,7 @@ no_term c l r e = let z : l -ℤ r ≡ pos 0 = omega (arith, ints) in ap (λ v. 
 pub combine3 : (l r c₁ l₁ r₁ c₂ l₂ r₂ c₃ l₃ r₃ : ℤ) → l -ℤ r ≡ c₁ *ℤ (l₁ -ℤ r₁) +ℤ c₂ *ℤ (l₂ -ℤ r₂) +ℤ c₃ *ℤ (l₃ -ℤ r₃) → l₁ ≡ r₁ → l₂ ≡ r₂ → l₃ ≡ r₃ → l ≡ r
 combine3 l r c₁ l₁ r₁ c₂ l₂ r₂ c₃ l₃ r₃ e e₁ e₂ e₃ = omega (arith, ints, no_term c₁ l₁ r₁ e₁, no_term c₂ l₂ r₂ e₂, no_term c₃ l₃ r₃ e₃)
 
--- vectors are equal by their coordinates
+-- vectors are equal if their coordinates are
 pub vector_path : (p q : Vector) → p.x ≡ q.x → p.y ≡ q.y → p.z ≡ q.z → p ≡ q
 vector_path p q e f g = λ i. record { x = e i; y = f i; z = g i }
 
@@ -99,36 +99,36 @@ pub vol-dot : (a b c q : Vector) → vol a b c q ≡ dot (cross a b c) (minus q 
 unfolding vol cross
 vol-dot a b c q = refl
 
--- it is linear in its last point
+-- a volume is linear in its last point
 pub vol-linear : (a b c q : Vector) → vol a b c q ≡ dot (cross a b c) q +ℤ neg_ℤ (dot (cross a b c) a)
 vol-linear a b c q = vol-dot a b c q ∙ dot-minus (cross a b c) q a
 
--- a volume with a point twice
+-- a volume in which a point occurs twice
 pub vol-first : (a b c : Vector) → vol a b c a ≡ pos 0
 unfolding vol cross
 vol-first a b c = ring_zero (put a (put b (put c []))) (volE (vec 0) (vec 1) (vec 2) (vec 0)) refl
 
--- so with the second
+-- the same for the second point
 pub vol-second : (a b c : Vector) → vol a b c b ≡ pos 0
 unfolding vol cross
 vol-second a b c = ring_zero (put a (put b (put c []))) (volE (vec 0) (vec 1) (vec 2) (vec 1)) refl
 
--- so with the third
+-- the same for the third point
 pub vol-third : (a b c : Vector) → vol a b c c ≡ pos 0
 unfolding vol cross
 vol-third a b c = ring_zero (put a (put b (put c []))) (volE (vec 0) (vec 1) (vec 2) (vec 2)) refl
 
--- each point of a volume can be brought to its end
+-- each point of a volume can be moved to the last place
 pub vol-first_last : (a b c d : Vector) → vol a b c d ≡ vol d c b a
 unfolding vol cross
 vol-first_last a b c d = ring (put a (put b (put c (put d [])))) (volE (vec 0) (vec 1) (vec 2) (vec 3)) (volE (vec 3) (vec 2) (vec 1) (vec 0)) refl
 
--- the second, to the end
+-- the second point moved to the last place
 pub vol-second_last : (a b c d : Vector) → vol a b c d ≡ vol c d a b
 unfolding vol cross
 vol-second_last a b c d = ring (put a (put b (put c (put d [])))) (volE (vec 0) (vec 1) (vec 2) (vec 3)) (volE (vec 2) (vec 3) (vec 0) (vec 1)) refl
 
--- the third, to the end
+-- the third point moved to the last place
 pub vol-third_last : (a b c d : Vector) → vol a b c d ≡ vol b a d c
 unfolding vol cross
 vol-third_last a b c d = ring (put a (put b (put c (put d [])))) (volE (vec 0) (vec 1) (vec 2) (vec 3)) (volE (vec 1) (vec 0) (vec 3) (vec 2)) refl
@@ -137,15 +137,15 @@ vol-third_last a b c d = ring (put a (put b (put c (put d [])))) (volE (vec 0) (
 abbrev pub opposite : Vector → Vector
 opposite u = record { x = neg_ℤ u.x; y = neg_ℤ u.y; z = neg_ℤ u.z }
 
--- the same of expressions
+-- the same for expressions
 abbrev pub oppositeE : VE → VE
 oppositeE u = record { x = neg u.x; y = neg u.y; z = neg u.z }
 
--- its scalar products change their sign
+-- the scalar products of the opposite direction change their sign
 pub dot-opposite : (u p : Vector) → dot (opposite u) p ≡ neg_ℤ (dot u p)
 dot-opposite u p = ring (put u (put p [])) (dotE (oppositeE (vec 0)) (vec 1)) (neg (dotE (vec 0) (vec 1))) refl
 
--- the origin has none
+-- the scalar products of the origin are 0
 pub dot-origin : (p : Vector) → dot origin p ≡ pos 0
 dot-origin p = omega (arith, ints)
 
@@ -154,7 +154,7 @@ pub left-dot : (n a b c : Vector) → left n a b c ≡ dot (cross a b c) n
 unfolding left cross
 left-dot n a b c = refl
 
--- it is a linear form of its last point
+-- a turn is a linear form of its last point
 pub left-linear : (n a b q : Vector) → left n a b q ≡ dot (cross_product n (minus b a)) q +ℤ neg_ℤ (dot (cross_product n (minus b a)) a)
 unfolding left cross
 left-linear n a b q =
@@ -165,25 +165,25 @@ left-linear n a b q =
 abbrev pub leftE : VE → VE → VE → VE → Expr
 leftE n u v w = dotE (crossE (subE v u) (subE w u)) n
 
--- a turn goes round, and the other way round is the other turn
+-- a turn is cyclic, and the reversed turn is the opposite one
 pub left-turn : (n a b c : Vector) → left n a b c ≡ left n b c a
 unfolding left cross
 left-turn n a b c = ring (put n (put a (put b (put c [])))) (leftE (vec 0) (vec 1) (vec 2) (vec 3)) (leftE (vec 0) (vec 2) (vec 3) (vec 1)) refl
 
--- and changes its sign the other way round
+-- a reversed turn changes its sign
 pub left-flip : (n a b c : Vector) → left n a b c ≡ neg_ℤ (left n a c b)
 unfolding left cross
 left-flip n a b c = ring (put n (put a (put b (put c [])))) (leftE (vec 0) (vec 1) (vec 2) (vec 3)) (neg (leftE (vec 0) (vec 1) (vec 3) (vec 2))) refl
 
--- three points in line have no volume with a fourth, and no turn
+-- three points in line have no volume with a fourth point
 pub in_line-vol : (a b c d : Vector) → AreInLine a b c → vol a b c d ≡ pos 0
 in_line-vol a b c d e = vol-dot a b c d ∙ ap (λ v. dot v (minus d a)) e ∙ dot-origin (minus d a)
 
--- nor a turn
+-- three points in line have no turn
 pub in_line-left : (n a b c : Vector) → AreInLine a b c → left n a b c ≡ pos 0
 in_line-left n a b c e = left-dot n a b c ∙ ap (λ v. dot v n) e ∙ dot-origin n
 
--- a point twice is in line with any third
+-- a point that occurs twice is in line with any third
 pub in_line-twice : (a c : Vector) → AreInLine a a c
 unfolding cross
 in_line-twice a c = vector_path (cross a a c) origin (flat a.y c.z a.z c.y) (flat a.z c.x a.x c.z) (flat a.x c.y a.y c.x)
@@ -192,7 +192,7 @@ in_line-twice a c = vector_path (cross a a c) origin (flat a.y c.z a.z c.y) (fla
     flat p q r s = ring (p ∷ q ∷ r ∷ s ∷ [])
         (less (mul (less (var 0) (var 0)) (less (var 1) (var 2))) (mul (less (var 2) (var 2)) (less (var 3) (var 0)))) (con (pos 0)) refl
 
--- and a point with one that stands twice
+-- a point is in line with another that occurs twice
 pub in_line-last : (a b : Vector) → AreInLine a b b
 unfolding cross
 in_line-last a b = vector_path (cross a b b) origin (none (b.y -ℤ a.y) (b.z -ℤ a.z)) (none (b.z -ℤ a.z) (b.x -ℤ a.x)) (none (b.x -ℤ a.x) (b.y -ℤ a.y))
@@ -204,7 +204,7 @@ in_line-last a b = vector_path (cross a b b) origin (none (b.y -ℤ a.y) (b.z -�
 pub dot_comm : (n p : Vector) → dot n p ≡ dot p n
 dot_comm n p = omega (arith, ints)
 
--- the triangle the other way round
+-- the reversed triangle
 pub vol-flip_last : (a b c d : Vector) → vol a c b d ≡ neg_ℤ (vol a b c d)
 unfolding vol cross
 vol-flip_last a b c d = ring (put a (put b (put c (put d [])))) (volE (vec 0) (vec 2) (vec 1) (vec 3)) (neg (volE (vec 0) (vec 1) (vec 2) (vec 3))) refl

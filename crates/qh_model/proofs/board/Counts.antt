@@ -1,4 +1,4 @@
--- Each event is counted once: by a claim, a delivered node or a mark.
+-- Each event is counted once: as a claim, a delivered node or a mark.
 use Rattle.std.proofs.Common.{◌≡◌, ℕ, ◌+◌, ◌-◌, ◌*◌, ◌<◌, ◌≤◌, Bool, true, false, List, [], ◌∷◌, length, sym, refl, ap, ◌∙◌, subst, arith}
 use Rattle.qh_model.specs.contract.BoardMachine.{Place, untouched, held, parked, used, published, Mark, none, left, gave_up, Machine, start, put, parent}
 use Rattle.qh_model.specs.contract.BoardMachine.{sibling, Event, claim_got, claim_over, arrive_first, arrive_second, publish, leave, give_up, Can, after, run}
@@ -112,7 +112,7 @@ module _ (B W : ℕ) (some : 0 < B) where
       let o = sum_most (λ w. one_if (m.over w)) W (λ w. one_if_small (m.over w)) in
       let k = sum_most (λ w. ended (m.mark w)) W (λ w. ended_small (m.mark w)) in omega arith
 
-  -- the number of claims, by those that were told that all blocks are claimed
+  -- the number of claims, from the passes that have learned that all blocks are claimed
   pub few_claims : (m : Machine) (n : ℕ) → Counts m n → m.claims ≤ B + W
   unfolding over_sum
   few_claims m n c = let a = c.drawn in let o = sum_most (λ w. one_if (m.over w)) W (λ w. one_if_small (m.over w)) in omega arith

@@ -1,11 +1,11 @@
--- What every reachable state of the board keeps, at each event but the second arrival.
+-- The invariant of every reachable state of the board, for each event except the second arrival.
 use Rattle.std.proofs.Common.{◌≡◌, ◌≢◌, ◌⊎◌, inl, inr, ⊎_elim, ℕ, ◌+◌, ◌*◌, ◌<◌, ◌≤◌, true, sym, refl, ap, ◌∙◌, subst, arith}
 use mathlib.Core.Logic.{dite}
 use native.Mathlib.Decide.{ℕ_discrete, dec_le}
 use Rattle.qh_model.specs.contract.BoardMachine.{Place, untouched, held, parked, used, published, Machine, start, put, parent, sibling, claim_got, Can, after}
 use Rattle.qh_model.proofs.board.{Siblings.near, Updates.put_here, Updates.put_else, Updates.at_put}
 
--- of the claims and the nodes of B blocks and W passes
+-- the claims and the nodes of B blocks and W passes
 pub record Grown (B W claims : ℕ) (node : ℕ → Place) : Type 0 where
   pub late : (i : ℕ) → B + claims ≤ i → node i ≡ untouched
   pub out : (i : ℕ) → 2 * B ≤ i → node i ≡ untouched
@@ -37,7 +37,7 @@ module _ (B W : ℕ) (some : 0 < B) where
     dite (dec_le (2 * B) i) (λ e. absurd (h (g.out i e))) (λ ne. omega arith),
   )
 
-  -- one node gets another value, neither of them untouched or used, and the parent's children are as before
+  -- a node gets another value, neither value is untouched or used, and the children of its parent do not change
   pub changes : (m : Machine) → Consistent B W m → (i : ℕ) (x : Place) → m.node i ≢ untouched → m.node i ≢ used
       → x ≢ untouched → ((w : ℕ) → x ≢ held w) → x ≢ used
       → (i ≡ 1 → x ≢ parked) → (x ≡ published → i ≡ 1) → (x ≡ parked → m.node (sibling i) ≢ parked)

@@ -1,4 +1,4 @@
--- What no later event undoes, and what a pass that gave up still has.
+-- Facts that no later event changes, and the node that a pass holds after it gave up.
 use Rattle.std.proofs.Common.{◌≡◌, ◌≢◌, ◌⊎◌, inl, inr, ⊎_elim, ℕ, ◌+◌, ◌<◌, ◌≤◌, true, false, List, [], ◌∷◌, ◌++◌, sym, refl, ap, ◌∙◌, subst, arith}
 use mathlib.Core.Logic.{dite}
 use native.Mathlib.Decide.{ℕ_discrete}
@@ -12,7 +12,7 @@ never_both : (n : ℕ) → n ≡ 0 → n ≡ 1 → ⊥
 never_both n a b = omega arith
 
 module _ (B W : ℕ) (some : 0 < B) where
-  -- a node that was delivered stays so
+  -- a node that was delivered stays delivered
   settled_stays : (m : Machine) (e : Event) → Consistent B W m → Can B W m e → (j : ℕ) → settled (m.node j) ≡ 1 → settled ((after B W m e).node j) ≡ 1
   settled_stays m (claim_got w) g can j h =
       let i : ℕ = B + m.claims in
@@ -32,7 +32,7 @@ module _ (B W : ℕ) (some : 0 < B) where
   settled_stays m (leave w) g can j h = h
   settled_stays m (give_up w i) g can j h = h
 
-  -- a node that is held stays with its pass until it is delivered
+  -- a held node stays with its pass until it is delivered
   held_stays : (m : Machine) (e : Event) → Consistent B W m → Can B W m e → (j v : ℕ) → m.node j ≡ held v
       → ((after B W m e).node j ≡ held v) ⊎ (settled ((after B W m e).node j) ≡ 1)
   held_stays m (claim_got w) g can j v h =
@@ -75,7 +75,7 @@ module _ (B W : ℕ) (some : 0 < B) where
   held_on m (leave w) g can j v n h = h
   held_on m (give_up w i) g can j v n h = h
 
-  -- a pass that has ended comes to no node
+  -- a pass that has ended reaches no node
   held_before : (m : Machine) (e : Event) → Can B W m e → (j v : ℕ) → m.mark v ≢ none → (after B W m e).node j ≡ held v → m.node j ≡ held v
   held_before m (claim_got w) can j v n h = ⊎_elim
       (λ (t : (j ≡ B + m.claims) × (held w ≡ held v)). let f = t.1 in let z : w ≡ v = cc in
@@ -114,7 +114,7 @@ module _ (B W : ℕ) (some : 0 < B) where
   can_append m [] fs can = (tt, can)
   can_append m (e ∷ es) fs can = let t = can_append (after B W m e) es fs can.1 in ((can.0, t.0), t.1)
 
-  -- a node is held by one pass alone, and in one stretch
+  -- a node is held by only one pass, and without interruption
   pub held_once : (m : Machine) → Consistent B W m → (es fs : List Event) → CanRun B W m (es ++ fs) → (i w v : ℕ)
       → m.node i ≡ held w → (run B W m (es ++ fs)).node i ≡ held v
       → ((run B W m es).node i ≡ held w) × (v ≡ w)

@@ -1,4 +1,4 @@
--- The second arrival at a node keeps it.
+-- The second arrival at a node keeps the invariant.
 use Rattle.std.proofs.Common.{◌≡◌, ◌≢◌, ◌⊎◌, inl, inr, ℕ, ◌+◌, ◌*◌, ◌<◌, sym, ap, ◌∙◌, subst, arith, ⊎_elim}
 use mathlib.Core.Logic.{dite}
 use native.Mathlib.Decide.{ℕ_discrete}
@@ -6,7 +6,7 @@ use Rattle.qh_model.specs.contract.BoardMachine.{Place, untouched, held, parked,
 use Rattle.qh_model.proofs.board.{Grown.Consistent, Grown.place_dec, Grown.ranged, Siblings.ArePair, Siblings.Near, Siblings.near, Siblings.of_pair}
 use Rattle.qh_model.proofs.board.Updates.{put_here, put_else, at_put}
 
--- what a node is after the second arrival from the node i
+-- the state of a node after the second arrival from the node i
 pub data Cases (f : ℕ → Place) (w i j : ℕ) (y : Place) : Type 0 where
   same : j ≢ i → j ≢ sibling i → j ≢ parent i → f j ≡ y → Cases f w i j y
   spent : (j ≡ i) ⊎ (j ≡ sibling i) → used ≡ y → Cases f w i j y

@@ -1,4 +1,4 @@
--- Each event keeps what every reachable state keeps.
+-- Each event keeps the invariant of the reachable states.
 use Rattle.std.proofs.Common.{◌≡◌, ℕ, ◌<◌, List, [], ◌∷◌, sym, refl, ◌∙◌}
 use Rattle.qh_model.specs.contract.BoardMachine.{untouched, held, parked, used, published, Machine, Event, claim_got, claim_over, arrive_first, arrive_second}
 use Rattle.qh_model.specs.contract.BoardMachine.{publish, leave, give_up, Can, after, run, CanRun}

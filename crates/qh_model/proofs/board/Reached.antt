@@ -26,7 +26,7 @@ module _ (B W : ℕ) where
   pub reach_ended : (some : 0 < B) (m : Machine) → Reachable B W m → Ended B W some m
   reach_ended some m r = subst (Ended B W some) r.2 (run_ended B W some r.0 (starts B W some) r.1)
 
-  -- how many events there were
+  -- the number of events so far
   pub reach_steps : (some : 0 < B) (m : Machine) (r : Reachable B W m)
       → length r.0 ≡ m.claims + sum_to (λ i. settled (m.node i)) (2 * B) + sum_to (λ w. ended (m.mark w)) W
   reach_steps some m r = counted B W some m (length r.0) (reach_counts some m r)

@@ -1,4 +1,4 @@
--- Where the root is published.
+-- The states in which the root is published.
 use Rattle.std.proofs.Common.{◌≡◌, ◌≢◌, inl, inr, ℕ, zero, suc, ◌+◌, ◌*◌, ◌<◌, ◌≤◌, sym, refl, ap, ◌∙◌, subst, arith}
 use mathlib.Core.Logic.{dite}
 use native.Mathlib.Decide.{ℕ_discrete, dec_le}
@@ -6,7 +6,7 @@ use Rattle.qh_model.specs.contract.BoardMachine.{Place, untouched, held, parked,
 use Rattle.qh_model.proofs.board.{Grown.Consistent, Grown.ranged, Siblings.ArePair, Siblings.near, Siblings.of_pair, Siblings.sibling_even}
 
 module _ (B W : ℕ) (some : 0 < B) where
-  -- where the root is published, each other node is used
+  -- if the root is published, each other node is used
   all_used : (m : Machine) → Consistent B W m → m.node 1 ≡ published → (n i : ℕ) → i < n → 1 < i → i < 2 * B → m.node i ≡ used
   all_used m g pub_ zero i h a b = absurd (omega arith)
   all_used m g pub_ (suc n) i h a b = let near_ = near i a in let up_ = near_.above in let low = near_.positive in
@@ -28,7 +28,7 @@ module _ (B W : ℕ) (some : 0 < B) where
           dite (ℕ_discrete i 1) (λ q. let f : published ≡ untouched = sym pub_ ∙ (ap m.node (sym q) ∙ e) in cc)
           (λ ne. let f : used ≡ untouched = sym (all_used m g pub_ (i + 1) i (omega arith) (omega arith) (omega arith)) ∙ e in cc)
 
-  -- an inner node is reached where both its children are delivered
+  -- an inner node is reached if both its children are delivered
   pub both_up : (m : Machine) → Consistent B W m → (i : ℕ) → 0 < i → settled (m.node (2 * i)) ≡ 1 → settled (m.node (2 * i + 1)) ≡ 1 → m.node i ≢ untouched
   both_up m g i lo a b = by_place (m.node (2 * i)) refl (m.node (2 * i + 1)) refl a b
     where
@@ -50,7 +50,7 @@ module _ (B W : ℕ) (some : 0 < B) where
       by_place parked ex published ey p q = let t = g.top (2 * i + 1) ey in absurd (omega arith)
       by_place parked ex parked ey p q = absurd (g.pair (2 * i) ex (ap m.node sib ∙ ey))
 
-  -- where no pass holds a node, one that is not untouched was delivered
+  -- if no pass holds a node, a node that is not untouched was delivered
   delivered : (m : Machine) → ((i w : ℕ) → m.node i ≢ held w) → (x : Place) (i : ℕ) → m.node i ≡ x → m.node i ≢ untouched → settled (m.node i) ≡ 1
   delivered m idle_ untouched i e p = absurd (p e)
   delivered m idle_ (held w) i e p = absurd (idle_ i w e)
@@ -58,7 +58,7 @@ module _ (B W : ℕ) (some : 0 < B) where
   delivered m idle_ used i e p = ap settled e
   delivered m idle_ published i e p = ap settled e
 
-  -- where all blocks are claimed and no pass holds a node, each node was delivered; from the leaves up
+  -- if all blocks are claimed and no pass holds a node, each node was delivered; the proof goes from the leaves up
   all_reached : (m : Machine) → Consistent B W m → B ≤ m.claims → ((i w : ℕ) → m.node i ≢ held w) → (n i : ℕ)
       → 2 * B ≤ i + n → 0 < i → i < 2 * B → m.node i ≢ untouched
   all_reached m g full idle_ zero i h a b = absurd (omega arith)
@@ -76,7 +76,7 @@ module _ (B W : ℕ) (some : 0 < B) where
       by_place used e = absurd (g.root_used e)
       by_place published e = e
 
-  -- the children of a parked node's parent: it alone was delivered
+  -- of the children of a parked node's parent, only that node was delivered
   pub parked_alone : (m : Machine) → Consistent B W m → (i : ℕ) → m.node i ≡ parked
       → (1 < i) × (i < 2 * B) × (settled (m.node (2 * parent i)) + settled (m.node (2 * parent i + 1)) ≡ 1)
   parked_alone m g i e = let r = ranged B W some m g i (λ q. let f : parked ≡ untouched = sym e ∙ q in cc) in

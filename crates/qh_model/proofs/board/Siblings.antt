@@ -10,11 +10,11 @@ sibling_even i e = rw (eq-eqb (i % 2) 0 e) refl
 pub sibling_odd : (i : ℕ) → i % 2 ≢ 0 → sibling i ≡ i - 1
 sibling_odd i e = rw (ne_eqb (i % 2) 0 e) refl
 
--- a node and its sibling are the children of their parent, one way round or the other
+-- a node and its sibling are the children of their parent, in one order or the other
 abbrev pub ArePair : ℕ → Type 0
 ArePair i = ((2 * parent i ≡ i) × (2 * parent i + 1 ≡ sibling i)) ⊎ ((2 * parent i ≡ sibling i) × (2 * parent i + 1 ≡ i))
 
--- what both children of its parent have a node has
+-- a fact about both children of a node's parent holds for the node
 pub of_pair : {X : Type 0} (f : ℕ → X) (x : X) (i : ℕ) → ArePair i → (f (2 * parent i) ≡ x) × (f (2 * parent i + 1) ≡ x) → f i ≡ x
 of_pair f x i (inl t) k = ap f (sym t.0) ∙ k.0
 of_pair f x i (inr t) k = ap f (sym t.1) ∙ k.1

@@ -5,22 +5,22 @@ use native.Mathlib.Decide.{ℕ_discrete, dec_le}
 use Rattle.qh_model.specs.contract.BoardMachine.{parent, ancestor, InSpan}
 use Rattle.qh_model.specs.laws.BoardLaws.{SpanOfLeaf, SpanOfNode, SpansApart, SpanOfRoot}
 
--- a node's ancestor is not greater, and above it at most half
+-- a node's ancestor is not greater, and a higher ancestor is at most half of the node
 no_greater : (k n : ℕ) → ancestor k n ≤ n
 no_greater zero n = omega arith
 no_greater (suc k) n = let h = no_greater k n in omega arith
 
--- the steps in two parts
+-- a number of steps in two parts
 ancestor_more : (d k n : ℕ) → ancestor (d + k) n ≡ ancestor d (ancestor k n)
 ancestor_more zero k n = ap (λ (z : ℕ). ancestor z n) (omega arith)
 ancestor_more (suc d) k n = let e : suc d + k ≡ suc (d + k) = omega arith in ap (λ (z : ℕ). ancestor z n) e ∙ ap parent (ancestor_more d k n)
 
--- the first step apart
+-- the first step separately
 ancestor_first : (k n : ℕ) → ancestor (suc k) n ≡ ancestor k (parent n)
 ancestor_first zero n = refl
 ancestor_first (suc k) n = ap parent (ancestor_first k n)
 
--- the ancestor of one that is an ancestor further down is at most half of it
+-- the parent of an ancestor is at most half of it
 half_below : (k l n : ℕ) → k < l → 2 * ancestor l n ≤ ancestor k n
 half_below k l n h =
     let d : ℕ = l - suc k in
@@ -28,7 +28,7 @@ half_below k l n h =
     let m : ancestor l n ≡ parent (ancestor d (ancestor k n)) = ap (λ (z : ℕ). ancestor z n) e ∙ ancestor_more (suc d) k n in
     let s = no_greater d (ancestor k n) in omega arith
 
--- each node but 0 has the root above it
+-- the root is above each node except 0
 to_root : (n m : ℕ) → m ≤ n → 0 < m → (k : ℕ) × (ancestor k m ≡ 1)
 to_root zero m h lo = absurd (omega arith)
 to_root (suc n) m h lo = dite (ℕ_discrete m 1)

@@ -33,13 +33,13 @@ pub sum_zero : (f : ℕ → ℕ) (n : ℕ) → ((i : ℕ) → f i ≡ 0) → sum
 sum_zero f zero small = refl
 sum_zero f (suc n) small = let r = sum_zero f n small in let t = small n in omega arith
 
--- the same where f 0 is 0
+-- the same if f 0 is 0
 pub sum_less : (f : ℕ → ℕ) (n : ℕ) → f 0 ≡ 0 → ((i : ℕ) → f i ≤ 1) → 0 < n → sum_to f n ≤ n - 1
 sum_less f zero z small h = absurd (omega arith)
 sum_less f (suc zero) z small h = omega (arith, z)
 sum_less f (suc (suc n)) z small h = let r = sum_less f (suc n) z small (omega arith) in let t = small (suc n) in omega arith
 
--- the elements two by two
+-- the elements in pairs
 pub sum_pairs : (f : ℕ → ℕ) (n : ℕ) → sum_to f (2 * n) ≡ sum_to (λ i. f (2 * i) + f (2 * i + 1)) n
 sum_pairs f zero = refl
 sum_pairs f (suc n) = let r = sum_pairs f n in let e : 2 * suc n ≡ suc (suc (2 * n)) = omega arith in

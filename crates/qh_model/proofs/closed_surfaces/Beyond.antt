@@ -1,4 +1,4 @@
--- Points at a larger scale, and a point a little beyond the middle of three of them.
+-- Points at a larger scale, and a point slightly beyond the middle of three of them.
 use Rattle.std.proofs.Common.{◌≡◌, refl, ap, sym, ◌∙◌, [], ◌∷◌}
 use Rattle.std.specs.Prelude.{ℤ, pos, ◌+ℤ◌, ◌-ℤ◌, ◌*ℤ◌}
 use Rattle.qh_model.specs.headline.{Predicates.cross, Predicates.vol, Vector.Vector, Vector.minus, Vector.dot}
@@ -9,11 +9,11 @@ use Rattle.qh_model.proofs.algebra.VectorIdentities.{vec, put, dotE, crossE, sub
 abbrev pub scaled : ℤ → Vector → Vector
 scaled m p = record { x = m *ℤ p.x; y = m *ℤ p.y; z = m *ℤ p.z }
 
--- c times the sum of three points, and n
+-- c times the sum of three points, plus n
 abbrev pub beyond : ℤ → (i j k n : Vector) → Vector
 beyond c i j k n = record { x = c *ℤ (i.x +ℤ j.x +ℤ k.x) +ℤ n.x; y = c *ℤ (i.y +ℤ j.y +ℤ k.y) +ℤ n.y; z = c *ℤ (i.z +ℤ j.z +ℤ k.z) +ℤ n.z }
 
--- the same of expressions
+-- the same for expressions
 abbrev pub scaledE : Expr → VE → VE
 scaledE m p = record { x = mul m p.x; y = mul m p.y; z = mul m p.z }
 
@@ -46,7 +46,7 @@ dot-beyond c q a i j k n =
     ring (put q (put a (put i (put j (put k (put n (c ∷ []))))))) (dotE (scaledE (mul M M) Q) (subE (beyondE C I J K N) (scaledE M A)))
     (mul (mul M M) (add (mul C sum) (dotE Q N))) refl
 
--- so the volume with it
+-- so the volume with the point beyond
 pub vol-beyond : (c : ℤ) (a b d i j k n : Vector) → let m = pos 3 *ℤ c in
     vol (scaled m a) (scaled m b) (scaled m d) (beyond c i j k n)
     ≡ (m *ℤ m) *ℤ (c *ℤ (vol a b d i +ℤ vol a b d j +ℤ vol a b d k) +ℤ dot (cross a b d) n)
@@ -56,7 +56,7 @@ vol-beyond c a b d i j k n =
     ∙ dot-beyond c (cross a b d) a i j k n
     ∙ λ t. (m *ℤ m) *ℤ (c *ℤ (sym (vol-dot a b d i) t +ℤ sym (vol-dot a b d j) t +ℤ sym (vol-dot a b d k) t) +ℤ dot (cross a b d) n)
 
--- how far it is beyond a point l, along n
+-- how far the point is beyond a point l, along n
 pub dot-past : (c : ℤ) (n i j k l : Vector) → dot n (beyond c i j k n)
     ≡ dot n (scaled (pos 3 *ℤ c) l) +ℤ dot n n -ℤ c *ℤ (dot n (minus l i) +ℤ dot n (minus l j) +ℤ dot n (minus l k))
 dot-past c n i j k l =

@@ -17,11 +17,11 @@ use Rattle.qh_model.proofs.closed_surfaces.Sums.{sum_z, count, drop_first, Tests
 unfoldable pub shared : (at : ℕ → Vector) (w p : Vector) → (ℕ → ℤ) → ℕ → Triple → ℤ
 shared at w p co r t = vol_at at p t *ℤ depth w p (at r) *ℤ (co t.i *ℤ co t.j *ℤ co t.k)
 
--- an edge's part in the sum
+-- the contribution of an edge to the sum
 unfoldable pub edge_part : (at : ℕ → Vector) (p : Vector) → (ℕ → ℤ) → ℤ → ℕ → (ℕ × ℕ) → ℤ
 edge_part at p co m r e = m *ℤ (vol (at e.0) (at e.1) (at r) p *ℤ (co e.0 *ℤ co e.1))
 
--- it changes its sign with the edge
+-- the contribution changes its sign with the direction of the edge
 edge_part-back : (at : ℕ → Vector) (p : Vector) (co : ℕ → ℤ) (m : ℤ) (r : ℕ) (e : ℕ × ℕ) → edge_part at p co m r (back e) ≡ neg_ℤ (edge_part at p co m r e)
 unfolding edge_part
 edge_part-back at p co m r e =
@@ -29,7 +29,7 @@ edge_part-back at p co m r e =
     (mul (var 0) (mul (neg (var 1)) (mul (var 3) (var 2)))) (neg (mul (var 0) (mul (var 1) (mul (var 2) (var 3)))))
     refl)
 
--- one triangle
+-- the terms of one triangle
 shared-split : (at : ℕ → Vector) (w p : Vector) (co : ℕ → ℤ) (m : ℤ) (r : ℕ) (t : Triple)
     → depth w p (at t.i) *ℤ co t.i ≡ m → depth w p (at t.j) *ℤ co t.j ≡ m → depth w p (at t.k) *ℤ co t.k ≡ m
     → shared at w p co r t ≡ edge_part at p co m r (t.i, t.j) +ℤ edge_part at p co m r (t.j, t.k) +ℤ edge_part at p co m r (t.k, t.i)
@@ -56,18 +56,18 @@ abbrev pub ids : List Triple → List ℕ
 ids [] = []
 ids (t ∷ ts) = t.i ∷ t.j ∷ t.k ∷ ids ts
 
--- P holds of each corner
+-- P holds for each corner
 abbrev pub Corners : (ℕ → Type 0) → List Triple → Type 0
 Corners P ts = Each P (ids ts)
 
--- the triangles' parts are their edges' parts
+-- the contributions of the triangles are those of their edges
 shared-sum : (at : ℕ → Vector) (w p : Vector) (co : ℕ → ℤ) (m : ℤ) (r : ℕ) (ts : List Triple) → Corners (λ i. depth w p (at i) *ℤ co i ≡ m) ts
     → sum_z (shared at w p co r) ts ≡ sum_z (edge_part at p co m r) (edges ts)
 shared-sum at w p co m r [] h = refl
 shared-sum at w p co m r (t ∷ ts) h =
     rw (shared-split at w p co m r t h.0 h.1.0 h.1.1.0, shared-sum at w p co m r ts h.1.1.1) (omega (arith, ints))
 
--- so they add up to 0
+-- so the contributions add up to 0
 pub shared-zero : (at : ℕ → Vector) (w p : Vector) (co : ℕ → ℤ) (m : ℤ) (r : ℕ) (ts : List Triple) → IsClosed ts
     → Corners (λ i. depth w p (at i) *ℤ co i ≡ m) ts
     → sum_z (shared at w p co r) ts ≡ pos 0
@@ -81,7 +81,7 @@ shared-neg at w p co r t h hr hi hj hk =
     mul-neg_pos (vol_at at p t *ℤ depth w p (at r)) (co t.i *ℤ co t.j *ℤ co t.k) (mul-neg_pos (vol_at at p t) (depth w p (at r)) h hr)
     (mul-pos (co t.i *ℤ co t.j) (co t.k) (mul-pos (co t.i) (co t.j) hi hj) hk)
 
--- where p is strictly below all triangles the sum is not above 0
+-- if p is strictly below all triangles, the sum is not above 0
 sums-neg : (at : ℕ → Vector) (w p : Vector) (co : ℕ → ℤ) (r : ℕ) → pos 0 <ℤ depth w p (at r) → (ts : List Triple)
     → Corners (λ i. pos 0 <ℤ co i) ts → Each (λ t. vol_at at p t <ℤ pos 0) ts → sum_z (shared at w p co r) ts ≤ℤ pos 0
 sums-neg at w p co r hr [] h v = omega (arith, ints)
@@ -98,7 +98,7 @@ prod-pos : (f : ℕ → ℤ) (xs : List ℕ) → Each (λ x. pos 0 <ℤ f x) xs 
 prod-pos f [] h = omega (arith, ints)
 prod-pos f (x ∷ xs) h = mul-pos (f x) (prod_z f xs) h.0 (prod-pos f xs h.1)
 
--- what holds of each holds of all but the first
+-- a fact about each number holds for all but the first
 each-drop_first : (P : ℕ → Type 0) (q : ℕ → Bool) (xs : List ℕ) → Each P xs → Each P (drop_first q xs)
 each-drop_first P q [] h = tt
 each-drop_first P q (x ∷ xs) h = by_test (q x) (each-drop_first P q xs h.1)
@@ -111,11 +111,11 @@ each-drop_first P q (x ∷ xs) h = by_test (q x) (each-drop_first P q xs h.1)
 number_tests : Tests eqb
 number_tests = record { same = eqb-true; itself = eqb-refl }
 
--- a product with one factor taken out
+-- a product with one factor removed
 prod-drop_first : (f : ℕ → ℤ) (x : ℕ) (ys : List ℕ) → 0 < count (eqb x) ys → prod_z f ys ≡ f x *ℤ prod_z f (drop_first (eqb x) ys)
 prod-drop_first f = taken_out eqb number_tests (λ x s. f x *ℤ s) (λ x y s. mul_swap (f x) (f y) s) (prod_z f) (λ x xs. refl)
 
--- each member of a list stands in it
+-- each member of a list occurs in it
 all_there : (xs : List ℕ) → Each (λ x. 0 < count (eqb x) xs) xs
 all_there [] = tt
 all_there (x ∷ xs) = (
@@ -146,12 +146,12 @@ corners-of P (t ∷ ts) f = (
   (f t.j (t, inl refl, inr (inl refl)), (f t.k (t, inl refl, inr (inr (inl refl))), corners-of P ts (λ i c. f i (c.0, inr c.1, c.2)))),
 )
 
--- what is lower along w has a positive depth
+-- a point that is lower along w has a positive depth
 deep : (w p x : Vector) → dot w x <ℤ dot w p → pos 0 <ℤ depth w p x
 unfolding depth
 deep w p x h = rw (dot-minus w p x) (gap_positive (dot w x) (dot w p) h)
 
--- the law
+-- proof of the law `NoneBelowAndBeyond`
 pub none_below_and_beyond : NoneBelowAndBeyond
 none_below_and_beyond at [] c w p beyond below = absurd (omega (arith, c.some))
 none_below_and_beyond at (t ∷ ts) c w p beyond below =

@@ -1,4 +1,4 @@
--- The signed volume of a closed surface: what changes its sign with an edge's direction adds up to nothing.
+-- The signed volume of a closed surface: a function that changes its sign with an edge's direction adds up to 0.
 use Rattle.std.proofs.Common.{◌≡◌, ℕ, arith, ap, sym, ◌∙◌, refl, List, [], ◌∷◌, map, Bool, true, false, eqb, rules}
 use Rattle.std.proofs.lemmas.{Bool.and_parts, Bool.eqb-true, Int.ints}
 use Rattle.std.specs.Prelude.{ℤ, pos, ◌+ℤ◌, neg_ℤ, ◌&&◌}
@@ -7,11 +7,11 @@ use Rattle.qh_model.specs.{headline.Predicates.vol, headline.Vector.Vector, laws
 use Rattle.qh_model.proofs.algebra.VectorIdentities.{vol-boundary, vol-flip}
 use Rattle.qh_model.proofs.closed_surfaces.Sums.{sum_z, count, Tests, sum_z-same_counts, count-is}
 
--- an edge turned round
+-- a reversed edge
 abbrev pub back : (ℕ × ℕ) → (ℕ × ℕ)
 back e = (e.1, e.0)
 
--- a number is itself
+-- a number equals itself
 pub eqb-refl : (i : ℕ) → eqb i i ≡ true
 eqb-refl i = search rules
 
@@ -22,7 +22,7 @@ edge_tests = record {
   itself = λ e. rw (eqb-refl e.0, eqb-refl e.1) refl;
 }
 
--- turning one edge or the other
+-- reversing one edge or the other
 pub is_edge-back : (e f : ℕ × ℕ) → is_edge e (back f) ≡ is_edge (back e) f
 is_edge-back e f = swap (eqb e.0 f.1) (eqb e.1 f.0)
   where
@@ -32,17 +32,17 @@ is_edge-back e f = swap (eqb e.0 f.1) (eqb e.1 f.0)
     swap false true = refl
     swap false false = refl
 
--- the edges turned round
+-- the reversed edges
 count-back : (e : ℕ × ℕ) (es : List (ℕ × ℕ)) → count (is_edge e) (map back es) ≡ count (is_edge (back e)) es
 count-back e [] = refl
 count-back e (f ∷ es) = rw (is_edge-back e f, count-back e es) refl
 
--- a sum over the edges turned round
+-- a sum over the reversed edges
 sum-back : (g : (ℕ × ℕ) → ℤ) → ((e : ℕ × ℕ) → g (back e) ≡ neg_ℤ (g e)) → (es : List (ℕ × ℕ)) → sum_z g (map back es) ≡ neg_ℤ (sum_z g es)
 sum-back g h [] = refl
 sum-back g h (e ∷ es) = rw (h e, sum-back g h es) (omega (arith, ints))
 
--- what changes its sign with an edge's direction adds up to nothing
+-- a function that changes its sign with an edge's direction adds up to 0
 pub edges-cancel : (g : (ℕ × ℕ) → ℤ) → ((e : ℕ × ℕ) → g (back e) ≡ neg_ℤ (g e)) → (ts : List Triple) → IsClosed ts → sum_z g (edges ts) ≡ pos 0
 edges-cancel g h ts c =
     let opposite = sum_z-same_counts is_edge edge_tests g (edges ts) (map back (edges ts))
@@ -68,11 +68,11 @@ pub vols-same : (at : ℕ → Vector) (o p : Vector) (ts : List Triple) → IsCl
 vols-same at o p ts c =
     omega (arith, ints, vols-boundary at o p ts, edges-cancel (edge_vol at o p) (λ e. vol-flip (at e.1) (at e.0) o p) ts c)
 
--- the definition's sum
+-- the sum of the definition
 volume-is : (at : ℕ → Vector) (ts : List Triple) (p : Vector) → signed_volume at ts p ≡ sum_z (vol_at at p) ts
 volume-is at [] p = refl
 volume-is at (t ∷ ts) p = ap (λ v. vol (at t.i) (at t.j) (at t.k) p +ℤ v) (volume-is at ts p)
 
--- the law
+-- proof of the law `VolumeIsConstant`
 pub volume_is_constant : VolumeIsConstant
 volume_is_constant at ts c p q = volume-is at ts p ∙ vols-same at q p ts c.closed ∙ sym (volume-is at ts q)

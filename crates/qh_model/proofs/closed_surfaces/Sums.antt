@@ -1,4 +1,4 @@
--- Sums of whole numbers over a list, by how often each element is there.
+-- Sums of whole numbers over a list, determined by the number of times that each element occurs.
 use Rattle.std.proofs.Common.{◌≡◌, ℕ, ◌+◌, ◌<◌, arith, ap, sym, ◌∙◌, refl, List, [], ◌∷◌, Bool, true, false, cond, inl, inr}
 use Rattle.std.specs.Prelude.{ℤ, pos, ◌+ℤ◌, count_by, filter}
 use Rattle.std.proofs.lemmas.{Bool.cases_Bool, List.Sums.sum_by-cons}
@@ -9,12 +9,12 @@ abbrev pub sum_z : {X : Type 0} → (X → ℤ) → List X → ℤ
 sum_z f [] = pos 0
 sum_z f (x ∷ xs) = f x +ℤ sum_z f xs
 
--- how often p passes
+-- the number of elements that pass p
 abbrev pub count : {X : Type 0} → (X → Bool) → List X → ℕ
 count p [] = 0
 count p (x ∷ xs) = cond (p x) 1 0 + count p xs
 
--- without the first that passes
+-- the list without the first element that passes
 abbrev pub drop_first : {X : Type 0} → (X → Bool) → List X → List X
 drop_first p [] = []
 drop_first p (x ∷ xs) = cond (p x) xs (x ∷ drop_first p xs)
@@ -24,7 +24,7 @@ pub record Tests {X : Type 0} (eq : X → X → Bool) : Type 0 where
   pub same : (x y : X) → eq x y ≡ true → x ≡ y
   pub itself : (x : X) → eq x x ≡ true
 
--- a value of lists to which each element adds, in any order, with one element taken out
+-- a function of lists to which each element adds, in any order, with one element removed
 pub taken_out : {X S : Type 0} (eq : X → X → Bool) → Tests eq → (op : X → S → S) → ((x y : X) (s : S) → op x (op y s) ≡ op y (op x s))
     → (v : List X → S) → ((x : X) (xs : List X) → v (x ∷ xs) ≡ op x (v xs))
     → (x : X) (ys : List X) → 0 < count (eq x) ys → v ys ≡ op x (v (drop_first (eq x) ys))
@@ -37,7 +37,7 @@ taken_out eq t op swap v more x (y ∷ ys) h = elim (cases_Bool (eq x y)) [
       ))
 ]
 
--- the first of a list stands in it
+-- the first element of a list is in it
 pub one_there : {X : Type 0} (eq : X → X → Bool) → Tests eq → (x : X) (n : ℕ) → 0 < cond (eq x x) 1 0 + n
 one_there eq t x n = rw (t.itself x) (omega arith)
 
@@ -52,12 +52,12 @@ sum_z-same_counts eq t f (x ∷ xs) ys h =
     (λ z. omega (arith, h z ∙ taken_out eq t (λ y n. cond (eq z y) 1 0 + n) (λ a b n. omega arith) (count (eq z)) (λ y ys. refl) x ys there)) in
     rw ih (sym (taken_out eq t (λ y s. f y +ℤ s) (λ a b s. add_swap (f a) (f b) s) (sum_z f) (λ y ys. refl) x ys there))
 
--- the count is that of the definitions: std's
+-- the count of the definitions is that of std
 pub count-is : {X : Type 0} (p : X → Bool) (xs : List X) → count p xs ≡ count_by p xs
 count-is p [] = refl
 count-is p (x ∷ xs) = rw (count-is p xs) (sym (sum_by-cons (λ y. cond (p y) 1 0) x xs))
 
--- where all that count pass, a filter keeps the count
+-- a filter keeps the count if all counted elements pass
 pub count_kept : {X : Type 0} (f p : X → Bool) → ((k : X) → f k ≡ true → p k ≡ true) → (ks : List X) → count f (filter p ks) ≡ count f ks
 count_kept f p h [] = refl
 count_kept f p h (k ∷ ks) = elim (cases_Bool (p k)) [

@@ -1,5 +1,5 @@
--- Supporting triangles that close up miss no supporting plane and no extreme id: a point a little beyond the middle of
--- a plane that they missed would be strictly below all of them.
+-- Supporting triangles that close up include every supporting plane and every extreme id: otherwise a point slightly beyond the middle of a missing plane would
+-- be strictly below all of them.
 use Rattle.std.proofs.Common.{◌≡◌, ℕ, suc, arith, refl, sym, ap, subst, ◌∙◌, ◌⊎◌, inl, inr, List, [], ◌∷◌, ⊎_elim}
 use Rattle.std.proofs.lemmas.Int.{ints, by_lt_z}
 use Rattle.std.specs.Prelude.{ℤ, pos, ◌+ℤ◌, ◌-ℤ◌, ◌*ℤ◌, neg_ℤ, ◌≤ℤ◌, ◌<ℤ◌}
@@ -16,14 +16,14 @@ use Rattle.qh_model.proofs.extremes.Directions.{positive_along, dot_along, along
 use Rattle.qh_model.proofs.{Members.each_more, Members.each_of_three, extremes.ExtremeIds.separated, surfaces.PerturbedInwards.bound}
 use Rattle.qh_model.proofs.polygons.PlaneTurns.{level_parallel}
 
--- one of the list has P, or all have Q
+-- some element of the list satisfies P, or all satisfy Q
 one_or_all : {X : Type 0} (P Q : X → Type 0) (xs : List X) → ((x : X) → In x xs → P x ⊎ Q x) → ((x : X) × In x xs × P x) ⊎ ((x : X) → In x xs → Q x)
 one_or_all P Q [] f = inr (λ x i. absurd i)
 one_or_all P Q (x ∷ xs) f =
     ⊎_elim (λ p. inl (x, inl refl, p)) (λ q. ⊎_elim (λ r. inl (r.0, inr r.1, r.2)) (λ r. inr (each_more Q x xs q r))
     (one_or_all P Q xs (λ y i. f y (inr i)))) (f x (inl refl))
 
--- a number above all of a list
+-- a number above all numbers of a list
 pub ceiling : {X : Type 0} (g : X → ℤ) (xs : List X) → (c : ℕ) × ((x : X) → In x xs → g x <ℤ pos c)
 ceiling g xs = let b = bound g xs in (b.0, λ x i. (b.1 x i).0)
 
@@ -32,7 +32,7 @@ module _ (at : ℕ → Vector) (A : ℕ → Type 0) (i j k : ℕ) (plane : IsSup
   abbrev n : Vector
   n = cross (at i) (at j) (at k)
 
-  -- how far a point is above a triangle
+  -- the height of a point above a triangle
   abbrev rise : Triple → Vector → ℤ
   rise t p = vol (at t.i) (at t.j) (at t.k) p
 
@@ -43,11 +43,11 @@ module _ (at : ℕ → Vector) (A : ℕ → Type 0) (i j k : ℕ) (plane : IsSup
   abbrev tilt : Triple → ℤ
   tilt t = dot (cross (at t.i) (at t.j) (at t.k)) n
 
-  -- the three are not all in its plane, or it looks the other way
+  -- the three are not all in its plane, or its outside is the opposite one
   abbrev IsOther : Triple → Type 0
   IsOther t = (sink t <ℤ pos 0) ⊎ ((sink t ≡ pos 0) × (tilt t <ℤ pos 0))
 
-  -- it spans the plane, with the same side outside
+  -- the triangle spans the plane, with the same side outside
   abbrev Spans : Triple → Type 0
   Spans t = IsAlong (cross (at t.i) (at t.j) (at t.k)) n × (rise t (at i) ≡ pos 0)
 
@@ -64,7 +64,7 @@ module _ (at : ℕ → Vector) (A : ℕ → Type 0) (i j k : ℕ) (plane : IsSup
       square : dot (opposite n) (opposite n) ≡ dot n n
       square = ring (put n []) (dotE (oppositeE (vec 0)) (oppositeE (vec 0))) (dotE (vec 0) (vec 0)) refl
 
-      -- where it looks the other way
+      -- the case that its outside is the opposite one
       away : IsAlong m (opposite n) → dot m n <ℤ pos 0
       away h =
           let ahead = positive_along h.t h.s (dot (opposite n) (opposite n)) (dot m (opposite n)) h.some_t h.some_s
@@ -133,7 +133,7 @@ module _ (at : ℕ → Vector) (A : ℕ → Type 0) (i j k : ℕ) (plane : IsSup
           past : (l : ℕ) → IsCornerOf ts l → dot n (up l) <ℤ dot n p
           past l (t, r, h) = let s = supporting t r in further l (each_of_three A t.i t.j t.k s.has_i s.has_j s.has_k l h)
 
--- the law
+-- proof of the law `ClosedMissNoPlane`
 pub closed_miss_no_plane : ClosedMissNoPlane
 closed_miss_no_plane at ids ts closed supporting i j k plane =
     ⊎_elim (λ r. record { t = r.0; there = r.1; along = r.2.0; level = r.2.1 })
@@ -142,7 +142,7 @@ closed_miss_no_plane at ids ts closed supporting i j k plane =
     (λ t r. spans_or_other at (Members ids) i j k plane t (supporting t r)))
 
 -- ---- extreme ids
--- the law
+-- proof of the law `ClosedMissNoExtreme`
 pub closed_miss_no_extreme : ClosedMissNoExtreme
 closed_miss_no_extreme at ids ts closed supporting e extreme =
     ⊎_elim (λ r. (r.0, r.1, r.2)) (λ f. absurd (none f (separated at ids e extreme))) (one_or_all On Below ts (λ t r.
@@ -157,7 +157,7 @@ closed_miss_no_extreme at ids ts closed supporting e extreme =
     Below : Triple → Type 0
     Below t = height t <ℤ pos 0
 
-    -- the ids of the set but e
+    -- the ids of the set except e
     Rest : ℕ → Type 0
     Rest = Others (Members ids) e
 
@@ -171,6 +171,6 @@ closed_miss_no_extreme at ids ts closed supporting e extreme =
             own : IsSupportingTriple at (Members ids) t.i t.j t.k
             own = supporting t r
 
-            -- a corner is another id, since e is below the triangle
+            -- a corner is another id than e, since e is below the triangle
             other : (c : ℕ) → Members ids c → vol (at t.i) (at t.j) (at t.k) (at c) ≡ pos 0 → Rest c
             other c m z = (m, λ d. less_differ (height t) (pos 0) (below t r) (subst (λ a. vol (at t.i) (at t.j) (at t.k) (at a) ≡ pos 0) d z))

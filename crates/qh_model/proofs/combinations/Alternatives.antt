@@ -22,13 +22,13 @@ record Four {A : Type 0} (xs : List A) (ts : List (ℕ × A)) : Type 0 where
   weighs : weight ts ≡ p.0 + q.0 + r.0 + s.0
   sums : (g : A → ℤ) → total g ts ≡ pos p.0 *ℤ g p.1 +ℤ pos q.0 *ℤ g q.1 +ℤ pos r.0 *ℤ g r.1 +ℤ pos s.0 *ℤ g s.1
 
--- made of them
+-- the terms of the list
 four_of : {A : Type 0} {xs : List A} {ts : List (ℕ × A)} (p q r s : ℕ × A) → In p.1 xs → In q.1 xs → In r.1 xs → In s.1 xs
     → weight ts ≡ p.0 + q.0 + r.0 + s.0
     → ((g : A → ℤ) → total g ts ≡ pos p.0 *ℤ g p.1 +ℤ pos q.0 *ℤ g q.1 +ℤ pos r.0 *ℤ g r.1 +ℤ pos s.0 *ℤ g s.1) → Four xs ts
 four_of p q r s a b c d e f = record { p = p; q = q; r = r; s = s; has_p = a; has_q = b; has_r = c; has_s = d; weighs = e; sums = f }
 
--- at most four terms are four, with weights 0 for those that lack
+-- at most four terms are exactly four, with weights 0 for the missing ones
 four : {A : Type 0} (xs : List A) (ts : List (ℕ × A)) → Among xs ts → count ts ≤ 4 → 0 < weight ts → Four xs ts
 four xs [] m c h = absurd (omega arith)
 four xs (p ∷ []) m c h = four_of p (0, p.1) (0, p.1) (0, p.1) m.0 m.0 m.0 m.0 (omega arith) (λ g. omega (arith, ints))
@@ -37,11 +37,11 @@ four xs (p ∷ q ∷ r ∷ []) m c h = four_of p q r (0, p.1) m.0 m.1.0 m.1.1.0 
 four xs (p ∷ q ∷ r ∷ s ∷ []) m c h = four_of p q r s m.0 m.1.0 m.1.1.0 m.1.1.1.0 (omega arith) (λ g. omega (arith, ints))
 four xs (p ∷ q ∷ r ∷ s ∷ t ∷ ts) m c h = absurd (omega arith)
 
--- ---- differences to p
+-- ---- differences from p
 abbrev toward : (ℕ → Vector) → Vector → ℕ → V 3
 toward at p i = ((at i).x -ℤ p.x, ((at i).y -ℤ p.y, ((at i).z -ℤ p.z, tt)))
 
--- the total of differences to P
+-- the total of differences from P
 total_from : {A : Type 0} (d g : A → ℤ) (P : ℤ) → ((a : A) → d a ≡ g a -ℤ P) → (ts : List (ℕ × A)) → total d ts +ℤ pos (weight ts) *ℤ P ≡ total g ts
 total_from d g P e [] = omega (arith, ints)
 total_from d g P e (t ∷ ts) =
@@ -89,7 +89,7 @@ separator_of at ids p s = record {
   past = λ a m. past_from s.w.0 s.w.1.0 s.w.1.1.0 (at a).x (at a).y (at a).z p.x p.y p.z (every_at (λ i. vdot 3 s.w (toward at p i) <ℤ pos 0) ids a s.below m);
 }
 
--- the law
+-- proof of the law `CombinationOrSeparator`
 pub combination_or_separator : CombinationOrSeparator
 combination_or_separator at ids p =
     ⊎_elim (λ m. inl (combination_of at ids p m)) (λ s. inr (separator_of at ids p s)) (alternative 3 (toward at p) ids)
@@ -101,7 +101,7 @@ lower_weights : (k l m n : ℕ) (P A B C D : ℤ) → pos (k + l + m + n) *ℤ P
 lower_weights k l m n P A B C D e h a b c d =
     omega (arith, ints, mul-le-mul_left k (lt_out A P a), mul-le-mul_left l (lt_out B P b), mul-le-mul_left m (lt_out C P c), mul-le-mul_left n (lt_out D P d))
 
--- w puts no convex combination's members all below it
+-- w does not put all members of a convex combination below it
 pub all_lower : (at : ℕ → Vector) (A : ℕ → Type 0) (p w : Vector) (m : Combination at A p)
     → dot w (at m.a) <ℤ dot w p → dot w (at m.b) <ℤ dot w p → dot w (at m.c) <ℤ dot w p → dot w (at m.d) <ℤ dot w p → ⊥
 all_lower at A p w m = lower_weights m.w1 m.w2 m.w3 m.w4 (dot w p) (dot w (at m.a)) (dot w (at m.b)) (dot w (at m.c)) (dot w (at m.d))
@@ -118,6 +118,6 @@ all_lower at A p w m = lower_weights m.w1 m.w2 m.w3 m.w4 (dot w p) (dot w (at m.
     side : (Vector → ℤ) → ℤ
     side g = pos m.w1 *ℤ g (at m.a) +ℤ pos m.w2 *ℤ g (at m.b) +ℤ pos m.w3 *ℤ g (at m.c) +ℤ pos m.w4 *ℤ g (at m.d)
 
--- the law
+-- proof of the law `NeverBoth`
 pub never_both : NeverBoth
 never_both at ids p m s = all_lower at (Members ids) p s.w m (s.past m.a m.has_a) (s.past m.b m.has_b) (s.past m.c m.has_c) (s.past m.d m.has_d)

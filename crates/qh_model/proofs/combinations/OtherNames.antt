@@ -1,4 +1,4 @@
--- A convex combination of points is one of the same points by other names, among more of them too.
+-- A convex combination of points is a convex combination of the same points under other names, and of a set with more points.
 use Rattle.std.proofs.Common.{◌≡◌, ℕ, ap}
 use Rattle.std.specs.Prelude.{ℤ}
 use Rattle.qh_model.specs.headline.{Combination.Combination, Combination.IsBalanced, Vector.Vector}

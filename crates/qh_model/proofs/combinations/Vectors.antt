@@ -30,16 +30,16 @@ pub dot_lin : (n : ℕ) (a b : ℤ) (u v x : V n) → dot n (lin n a u b v) x �
 dot_lin zero a b u v x = omega (arith, ints)
 dot_lin (suc n) a b u v x = ap (λ t. (a *ℤ u.0 +ℤ b *ℤ v.0) *ℤ x.0 +ℤ t) (dot_lin n a b u.1 v.1 x.1) ∙ simp ring_rules
 
--- they commute
+-- scalar products commute
 pub dot_comm : (n : ℕ) (u x : V n) → dot n u x ≡ dot n x u
 dot_comm zero u x = refl
 dot_comm (suc n) u x = rw (dot_comm n u.1 x.1, *ℤ_comm u.0 x.0)
 
--- they are linear on the right
+-- scalar products are linear on the right
 pub dot_lin_right : (n : ℕ) (a b : ℤ) (x u v : V n) → dot n x (lin n a u b v) ≡ a *ℤ dot n x u +ℤ b *ℤ dot n x v
 dot_lin_right n a b x u v = dot_comm n x (lin n a u b v) ∙ dot_lin n a b u v x ∙ rw (dot_comm n u x, dot_comm n v x)
 
--- the zeros have none
+-- the scalar products of the zero vector are 0
 pub dot_nil : (n : ℕ) (x : V n) → dot n (nil n) x ≡ pos 0
 dot_nil zero x = refl
 dot_nil (suc n) x = rw (dot_nil n x.1, zero-*ℤ x.0)
@@ -61,7 +61,7 @@ pub record Cut (n : ℕ) (d : V (suc n)) : Type 0 where
   pub rest : V (suc n) → V n
   pub splits : (u x : V (suc n)) → pos (suc scale) *ℤ dot (suc n) u x ≡ dot (suc n) u d *ℤ dot (suc n) along x +ℤ dot n (rest u) (project x)
 
--- the cut along a vector whose head is not 0
+-- the projection along a vector whose head is not 0
 by_head : (n k : ℕ) (h : ℤ) (t : V n) → pos (suc k) ≡ h *ℤ h → Cut n (h, t)
 by_head n k h t e = record {
   project = λ x. lin n h x.1 (neg_ℤ x.0) t;
@@ -81,15 +81,15 @@ by_head n k h t e = record {
       (sym (dot_lin n h (pos 0) u.1 u.1 (lin n h x.1 (neg_ℤ x.0) t) ∙ (omega (arith, ints)) ∙ ap (λ s. h *ℤ s) (dot_lin_right n h (neg_ℤ x.0) u.1 x.1 t)));
 }
 
--- a head 0 adds nothing
+-- a head 0 contributes nothing
 flat_head : (u D : ℤ) → D ≡ pos 0 → u *ℤ pos 0 +ℤ D ≡ pos 0
 flat_head u D e = rw (e, *ℤ-zero u)
 
--- splitting goes by the tail
+-- splitting is by the tail
 split_tail : (a u x D Q E R : ℤ) → a *ℤ D ≡ E *ℤ Q +ℤ R → a *ℤ (u *ℤ x +ℤ D) ≡ (u *ℤ pos 0 +ℤ E) *ℤ (pos 0 *ℤ x +ℤ Q) +ℤ ((a *ℤ u) *ℤ x +ℤ R)
 split_tail a u x D Q E R e = rw (*ℤ-zero u, zero-*ℤ x, +ℤ_idl E, +ℤ_idl Q, mul_add a (u *ℤ x) D, e) (simp ring_rules)
 
--- the cut along a vector whose head is 0, by that along its tail
+-- the projection along a vector whose head is 0, by that along its tail
 by_tail : (n : ℕ) (t : V (suc n)) → Cut n t → Cut (suc n) (pos 0, t)
 by_tail n t c = record {
   project = λ x. (x.0, c.project x.1);
@@ -107,11 +107,11 @@ by_tail n t c = record {
 abbrev pub Flat : (n : ℕ) → V n → Type 0
 Flat n d = (u : V n) → dot n u d ≡ pos 0
 
--- so is a vector of head 0 and tail 0
+-- a vector of head 0 and tail 0 is 0
 flat_tail : (n : ℕ) (t : V n) → Flat n t → Flat (suc n) (pos 0, t)
 flat_tail n t f u = flat_head u.0 _ (f u.1)
 
--- a vector is zero, or the space can be cut along it
+-- a vector is zero, or there is a projection along it
 pub cut : (n : ℕ) (d : V (suc n)) → Flat (suc n) d ⊎ Cut n d
 cut zero (pos zero, t) = inl (flat_tail zero t (λ u. refl))
 cut (suc n) (pos zero, t) = ⊎_elim (λ f. inl (flat_tail (suc n) t f)) (λ c. inr (by_tail n t c)) (cut n t)

@@ -21,27 +21,27 @@ abbrev pub weight : {A : Type 0} → List (ℕ × A) → ℕ
 weight [] = 0
 weight (t ∷ ts) = t.0 + weight ts
 
--- how many there are
+-- the number of terms
 abbrev pub count : {A : Type 0} → List A → ℕ
 count [] = 0
 count (t ∷ ts) = suc (count ts)
 
--- each is a member of the list
+-- each term is a member of the list
 abbrev pub Among : {A : Type 0} → List A → List (ℕ × A) → Type 0
 Among xs [] = Unit {0}
 Among xs (t ∷ ts) = In t.1 xs × Among xs ts
 
--- also of a longer list
+-- the terms are also those of a longer list
 pub among_more : {A : Type 0} (a : A) (xs : List A) (ts : List (ℕ × A)) → Among xs ts → Among (a ∷ xs) ts
 among_more a xs [] h = tt
 among_more a xs (t ∷ ts) h = (inr h.0, among_more a xs ts h.1)
 
--- with weights k times as large
+-- the terms with weights k times as large
 abbrev pub scaled : {A : Type 0} → ℕ → List (ℕ × A) → List (ℕ × A)
 scaled k [] = []
 scaled k (t ∷ ts) = (k * t.0, t.1) ∷ scaled k ts
 
--- they are of the same members
+-- the scaled terms have the same members
 among_scaled : {A : Type 0} (k : ℕ) (xs : List A) (ts : List (ℕ × A)) → Among xs ts → Among xs (scaled k ts)
 among_scaled k xs [] h = tt
 among_scaled k xs (t ∷ ts) h = (h.0, among_scaled k xs ts h.1)
@@ -51,7 +51,7 @@ count_scaled : {A : Type 0} (k : ℕ) (ts : List (ℕ × A)) → count (scaled k
 count_scaled k [] = refl
 count_scaled k (t ∷ ts) = ap suc (count_scaled k ts)
 
--- with k times the total
+-- scaling multiplies the total by k
 total_scaled : {A : Type 0} (k : ℕ) (g : A → ℤ) (ts : List (ℕ × A)) → total g (scaled k ts) ≡ pos k *ℤ total g ts
 total_scaled k g [] = sym (*ℤ-zero (pos k))
 total_scaled k g (t ∷ ts) = ap (λ s. pos (k * t.0) *ℤ g t.1 +ℤ s) (total_scaled k g ts)
@@ -77,7 +77,7 @@ total_below g xs [] h k = omega (arith, ints)
 total_below g xs (t ∷ ts) h k =
     omega (arith, ints, mul-le-mul_left t.0 (lt_out (g t.1) (pos 0) (every_at (λ a. g a <ℤ pos 0) xs t.1 h k.0)), total_below g xs ts h k.1)
 
--- a number beyond -g at every member
+-- a number greater than -g at every member
 pub bound : {A : Type 0} (g : A → ℤ) (xs : List A) → (N : ℕ) × Every (λ a. neg_ℤ (g a) <ℤ pos N) xs
 bound g [] = (1, tt)
 bound g (a ∷ xs) =
@@ -92,7 +92,7 @@ pub record Balanced (A : Type 0) (n : ℕ) (f : A → V n) (xs : List A) : Type 
   pub heavy : 0 < weight terms
   pub sums : (u : V n) → total (λ a. dot n u (f a)) terms ≡ pos 0
 
--- along w all are strictly below 0
+-- all vectors are strictly below 0 along w
 pub record Separated (A : Type 0) (n : ℕ) (f : A → V n) (xs : List A) : Type 0 where
   pub w : V n
   pub below : Every (λ a. dot n w (f a) <ℤ pos 0) xs
@@ -105,15 +105,15 @@ alone n f a xs z = record { terms = (1, a) ∷ []; among = (inl refl, tt); few =
 lifted_below : (N : ℕ) (W g : ℤ) → W <ℤ pos 0 → neg_ℤ g <ℤ pos N → (pos N *ℤ W +ℤ negsuc 0 *ℤ g) <ℤ pos 0
 lifted_below N W g h k = omega (arith, ints, mul-le-mul_left N (lt_out W (pos 0) h))
 
--- and takes the vector of the cut below 0
+-- the scaled separator puts the vector of the projection below 0
 lifted_itself : (N : ℕ) (W g : ℤ) → W ≡ pos 0 → pos 0 <ℤ g → (pos N *ℤ W +ℤ negsuc 0 *ℤ g) <ℤ pos 0
 lifted_itself N W g e h = rw (e, *ℤ-zero (pos N)) (omega (arith, ints))
 
--- below 0, told otherwise
+-- another form of being below 0
 below_eq : (x y : ℤ) → y ≡ x → x <ℤ pos 0 → y <ℤ pos 0
 below_eq x y e h = omega (arith, ints)
 
--- a separator of the projected vectors, lifted and scaled, less the vector of the cut
+-- a separator of the projected vectors, lifted and scaled, minus the vector of the projection
 parted : {A : Type 0} (n : ℕ) (f : A → V (suc n)) (a : A) (xs : List A) (c : Cut n (f a))
     → Separated A n (λ b. c.project (f b)) xs → Separated A (suc n) f (a ∷ xs)
 parted {A} n f a xs c s = record {
@@ -133,7 +133,7 @@ parted {A} n f a xs c s = record {
     W : V (suc n)
     W = c.lift s.w
 
--- k T = D κ with T below zero and D not: κ is below zero
+-- if k T = D κ, with T below zero and D not below zero, κ is below zero
 sign : (k : ℕ) (T D κ : ℤ) → pos (suc k) *ℤ T ≡ D *ℤ κ → T <ℤ pos 0 → pos 0 ≤ℤ D → (m : ℕ) × (κ ≡ negsuc m)
 sign k T D (negsuc m) e h l = (m, refl)
 sign k (negsuc t) (pos d) (pos m) e h l = absurd (omega (arith, ints))
@@ -144,7 +144,7 @@ sign k (negsuc t) (negsuc d) (pos m) e h l = absurd (omega (arith, ints))
 two_cancel : (m : ℕ) (D : ℤ) → pos (suc m) *ℤ D +ℤ D *ℤ negsuc m ≡ pos 0
 two_cancel m D = omega (arith, ints)
 
--- a mix of the projected vectors, with the vector of the cut
+-- a combination of the projected vectors, with the vector of the projection
 mixed : {A : Type 0} (n : ℕ) (f : A → V (suc n)) (a : A) (xs : List A) (s : Separated A (suc n) f xs) → pos 0 ≤ℤ dot (suc n) s.w (f a)
     → (c : Cut n (f a)) → Balanced A n (λ b. c.project (f b)) xs → Balanced A (suc n) f (a ∷ xs)
 mixed {A} n f a xs s l c m = record {
@@ -170,18 +170,18 @@ mixed {A} n f a xs s l c m = record {
         (omega (arith, ints, m.heavy, total_below (λ b. dot (suc n) s.w (f b)) xs m.terms s.below m.among))
         l
 
--- one or the other
+-- the vectors balance, or they have a separator
 abbrev Claim : (A : Type 0) → ℕ → Type 0
 Claim A n = (f : A → V n) (xs : List A) → Balanced A n f xs ⊎ Separated A n f xs
 
--- one more vector: it is 0, or the space is cut along it, and the answer is the one in a dimension less
+-- one more vector: it is 0, or there is a projection along it, and the theorem in a lower dimension applies
 flat_or_cut : {A : Type 0} (n : ℕ) → Claim A n → (f : A → V (suc n)) (a : A) (xs : List A) (s : Separated A (suc n) f xs) → pos 0 ≤ℤ dot (suc n) s.w (f a)
     → Flat (suc n) (f a) ⊎ Cut n (f a) → Balanced A (suc n) f (a ∷ xs) ⊎ Separated A (suc n) f (a ∷ xs)
 flat_or_cut n low f a xs s l (inl z) = inl (alone (suc n) f a xs z)
 flat_or_cut n low f a xs s l (inr c) =
     ⊎_elim (λ m. inl (mixed n f a xs s l c m)) (λ p. inr (parted n f a xs c p)) (low (λ b. c.project (f b)) xs)
 
--- it is below 0 as well, or not
+-- the vector is below 0 as well, or not
 one_more : {A : Type 0} (n : ℕ) → Claim A n → (f : A → V (suc n)) (a : A) (xs : List A) → Balanced A (suc n) f xs ⊎ Separated A (suc n) f xs
     → Balanced A (suc n) f (a ∷ xs) ⊎ Separated A (suc n) f (a ∷ xs)
 one_more n low f a xs (inl m) =
@@ -189,12 +189,12 @@ one_more n low f a xs (inl m) =
 one_more n low f a xs (inr s) =
     by_lt_z (dot (suc n) s.w (f a)) (pos 0) (λ h. inr (record { w = s.w; below = (h, s.below) })) (λ l. flat_or_cut n low f a xs s l (cut n (f a)))
 
--- the answer in dimension n + 1 from that in n
+-- the theorem in dimension n + 1 from that in n
 step : {A : Type 0} (n : ℕ) → Claim A n → Claim A (suc n)
 step n low f [] = inr (record { w = nil (suc n); below = tt })
 step n low f (a ∷ xs) = one_more n low f a xs (step n low f xs)
 
--- dimension 0
+-- the theorem in dimension 0
 base : {A : Type 0} → Claim A 0
 base f [] = inr (record { w = tt; below = tt })
 base f (a ∷ xs) = inl (alone 0 f a xs (λ u. refl))

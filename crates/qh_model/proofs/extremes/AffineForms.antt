@@ -1,4 +1,4 @@
--- Affine forms: one that is not zero at a convex combination is not zero at some of what is combined.
+-- Affine forms: a form that is not zero at a convex combination is not zero at some of the combined members.
 use Rattle.std.proofs.{Common.◌≡◌, Common.◌≢◌, Common.ℕ, Common.arith, Common.◌∙◌, Common.◌⊎◌, Common.inl, Common.inr, lemmas.Int.ints, lemmas.Int.by_lt_z}
 use Rattle.std.specs.Prelude.{ℤ, pos, ◌+ℤ◌, ◌<ℤ◌}
 use Rattle.qh_model.specs.headline.{Combination.Combination, Vector.Vector, Vector.dot}
@@ -11,7 +11,7 @@ pub record Form (g : Vector → ℤ) : Type 0 where
   pub c : ℤ
   pub is : (q : Vector) → g q ≡ dot u q +ℤ c
 
--- a form by an equal one
+-- replacing a form by an equal one
 pub form_as : (g h : Vector → ℤ) → Form h → ((q : Vector) → g q ≡ h q) → Form g
 form_as g h f e = record { u = f.u; c = f.c; is = λ q. e q ∙ f.is q }
 

@@ -10,7 +10,7 @@ pub record Differ (p q : Vector) : Type 0 where
   pub axis : Vector
   pub differs : dot axis p ≢ dot axis q
 
--- the axis
+-- the axis along which they differ
 pub differ : (p q : Vector) → p ≢ q → Differ p q
 differ p q n = along (ℤ_discrete p.x q.x) (ℤ_discrete p.y q.y) (ℤ_discrete p.z q.z)
   where

@@ -1,4 +1,4 @@
--- A set has one dimension, and what combines to a set has its tetrahedra, triangles and segments.
+-- A set has one dimension. A set whose convex combinations include another set has its tetrahedra, triangles and segments.
 use Rattle.std.proofs.{Common.◌≡◌, Common.◌≢◌, Common.ℕ, Common.arith, Common.ap, Common.sym, Common.subst, Common.◌∙◌, Common.inl, Common.inr, lemmas.Int.ints}
 use Rattle.std.specs.Prelude.{pos, ◌-ℤ◌, neg_ℤ}
 use Rattle.qh_model.specs.{contract.IdSets.HasDistinctPoints, headline.Combination.Combination}
@@ -19,7 +19,7 @@ AreCombinations at A E = (i : ℕ) → A i → Combination at E (at i)
 vol_form : (a b c : Vector) → Form (vol a b c)
 vol_form a b c = record { u = cross a b c; c = neg_ℤ (dot (cross a b c) a); is = λ q. vol-linear a b c q }
 
--- a set with a tetrahedron has one of what combines to it
+-- if A has a tetrahedron, E has one
 pub tetrahedron_of : (at : ℕ → Vector) (A E : ℕ → Type 0) → AreCombinations at A E → HasTetrahedron at A → HasTetrahedron at E
 tetrahedron_of at A E m h =
     fourth (non_zero_member at E (at h.l) (m h.l h.has_l) (vol (at h.i) (at h.j) (at h.k)) (vol_form (at h.i) (at h.j) (at h.k)) h.volume)
@@ -67,7 +67,7 @@ triangle_about at A E m h n d = third (non_zero_member at E (at h.k) (m h.k h.ha
         (non_zero_member at E (at h.j) (m h.j h.has_j) (λ q. left n (at h.i) q (at r.e)) (form_as _ _ (left_form n (at r.e) (at h.i))
         (λ q. left-turn n (at h.i) q (at r.e) ∙ left-turn n q (at r.e) (at h.i))) r.differs)
 
--- a set with a triangle has one of what combines to it
+-- if A has a triangle, E has one
 pub triangle_of : (at : ℕ → Vector) (A E : ℕ → Type 0) → AreCombinations at A E → HasTriangle at A → HasTriangle at E
 triangle_of at A E m h =
     let d = differ (cross (at h.i) (at h.j) (at h.k)) origin h.area in
@@ -75,7 +75,7 @@ triangle_of at A E m h =
     ∙ sym (left-dot d.axis (at h.i) (at h.j) (at h.k)) ∙ e ∙ sym (omega (arith, ints))))
 
 -- ---- two points
--- a set of two has two of what combines to it
+-- if A has two members, E has two
 pub segment_of : (at : ℕ → Vector) (A E : ℕ → Type 0) → HasDistinctPoints at A → AreCombinations at A E → HasSegment A → HasSegment E
 segment_of at A E d m h =
     first k.axis (non_zero_member at E (at h.i) (m h.i h.has_i) (λ q. dot k.axis q -ℤ dot k.axis (at h.j))
@@ -107,7 +107,7 @@ triangle_of_tetrahedron at A h =
       area = λ e. h.volume (in_line-vol (at h.i) (at h.j) (at h.k) (at h.l) e);
     }
 
--- two corners of a triangle
+-- two corners of a triangle differ
 pub segment_of_triangle : (at : ℕ → Vector) (A : ℕ → Type 0) → HasTriangle at A → HasSegment A
 segment_of_triangle at A h =
     record {
@@ -118,7 +118,7 @@ segment_of_triangle at A h =
       differ = λ e. h.area (subst (λ t. AreInLine (at h.i) (at t) (at h.k)) e (in_line-twice (at h.i) (at h.k)));
     }
 
--- the dimension is one
+-- the dimension is unique
 pub one_dimension : (at : ℕ → Vector) (A : ℕ → Type 0) (k l : ℕ) → IsDimension at A k → IsDimension at A l → k ≡ l
 one_dimension at A k l (inl (e, t)) (inl (f, u)) = e ∙ sym f
 one_dimension at A k l (inl (e, t)) (inr (inl (f, u, n))) = absurd (n t)
@@ -137,6 +137,6 @@ one_dimension at A k l (inr (inr (inr (e, o)))) (inr (inl (f, u, n))) = absurd (
 one_dimension at A k l (inr (inr (inr (e, o)))) (inr (inr (inl (f, u, n)))) = absurd (o u)
 one_dimension at A k l (inr (inr (inr (e, o)))) (inr (inr (inr (f, n)))) = e ∙ sym f
 
--- the law
+-- proof of the law `DimensionIsUnique`
 pub dimension_is_unique : DimensionIsUnique
 dimension_is_unique at ids k l d e = one_dimension at (Members ids) k l d e

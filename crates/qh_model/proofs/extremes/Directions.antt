@@ -11,7 +11,7 @@ use Rattle.qh_model.proofs.algebra.{Signs.equal_positive, VectorIdentities.vec, 
 use Rattle.qh_model.proofs.algebra.VectorIdentities.{dotE, crossE, subE, combine3, opposite, vector_path, dot-minus, vol-dot, vol-linear, left-dot, dot_comm}
 
 -- ---- signs under a positive scale
--- where s v = t w with positive s and t, v and w have one sign
+-- if s v = t w with positive s and t, v and w have the same sign
 pub at_most_along : (s t : ℕ) (v w : ℤ) → 0 < s → 0 < t → pos s *ℤ v ≡ pos t *ℤ w → v ≤ℤ pos 0 → w ≤ℤ pos 0
 at_most_along s t v w h k e l = cancel-nonpos (pos t) w (omega (arith, ints)) (subst (λ x. x ≤ℤ pos 0) e (mul-nonneg_nonpos (pos s) v (omega (arith, ints)) l))
 
@@ -47,7 +47,7 @@ left_along n m h u v w =
     ap (λ x. pos h.s *ℤ x) (left-dot n u v w ∙ dot_comm (cross u v w) n) ∙ dot_along n m h (cross u v w)
     ∙ ap (λ x. pos h.t *ℤ x) (dot_comm m (cross u v w) ∙ sym (left-dot m u v w))
 
--- the other way round
+-- IsAlong is symmetric
 pub along_back : (n m : Vector) → IsAlong n m → IsAlong m n
 along_back n m h = record { s = h.t; t = h.s; some_s = h.some_t; some_t = h.some_s; x = sym h.x; y = sym h.y; z = sym h.z }
 
@@ -83,14 +83,14 @@ pub parallel_normal : (n a b c : Vector) → dot n (minus b a) ≡ pos 0 → dot
 unfolding cross
 parallel_normal n a b c h k = parallel_product n (minus b a) (minus c a) h k
 
--- ---- one direction or the opposite one
+-- ---- the same direction or the opposite one
 -- a positive number as a successor
 positive_number : (z : ℤ) → pos 0 <ℤ z → (m : ℕ) × (z ≡ pos (suc m))
 positive_number (pos zero) h = absurd (omega (arith, ints))
 positive_number (pos (suc m)) h = (m, refl)
 positive_number (negsuc m) h = absurd (omega (arith, ints))
 
--- one direction by whole factors
+-- the same direction, with whole factors
 pub along_by : (n m : Vector) (s t : ℤ) → pos 0 <ℤ s → pos 0 <ℤ t → s *ℤ n.x ≡ t *ℤ m.x → s *ℤ n.y ≡ t *ℤ m.y → s *ℤ n.z ≡ t *ℤ m.z → IsAlong n m
 along_by n m s t h k x y z = let a = positive_number s h in let b = positive_number t k in record {
   s = suc a.0;
@@ -142,7 +142,7 @@ along_or_opposite n r h k e = by_lt_z (pos 0) s (λ l. inl (along_by n r s t l p
     flat z = vector_path r origin (none n.x r.x e.x z) (none n.y r.y e.y z) (none n.z r.z e.z z)
 
 -- ---- the normals of triangles in one plane
--- the other way round a normal is opposite
+-- the normal of a reversed triangle is the opposite one
 pub cross-flip : (a b c : Vector) → cross a c b ≡ opposite (cross a b c)
 unfolding cross
 cross-flip a b c =
@@ -150,7 +150,7 @@ cross-flip a b c =
     vector_path (cross a c b) (opposite (cross a b c)) (ring env (crossE Q P).x (neg (crossE P Q).x) refl) (ring env (crossE Q P).y (neg (crossE P Q).y) refl)
     (ring env (crossE Q P).z (neg (crossE P Q).z) refl)
 
--- three points are in line either way
+-- three points are in line in any order
 pub in_line-flip : (a b c : Vector) → AreInLine a c b → AreInLine a b c
 in_line-flip a b c e =
     vector_path (cross a b c) origin (omega (arith, ints, ap (λ v. v.x) back))
@@ -159,13 +159,13 @@ in_line-flip a b c e =
     back : opposite (cross a b c) ≡ origin
     back = sym (cross-flip a b c) ∙ e
 
--- a triangle at right angles to n has the direction of n, one way round or the other
+-- a triangle at right angles to n has the direction of n, or the reversed triangle has it
 pub normal_along : (n a b c : Vector) → n ≢ origin → ¬ (AreInLine a b c) → dot n (minus b a) ≡ pos 0 → dot n (minus c a) ≡ pos 0
     → IsAlong n (cross a b c) ⊎ IsAlong n (cross a c b)
 normal_along n a b c h k e f =
     ⊎_elim (λ l. inl l) (λ l. inr (subst (λ v. IsAlong n v) (sym (cross-flip a b c)) l)) (along_or_opposite n (cross a b c) h k (parallel_normal n a b c e f))
 
--- the difference of two points from one of them in the plane
+-- the difference of two points, from one point in the plane
 pub from_plane : (a b c p l : Vector) → vol a b c p ≡ pos 0 → dot (cross a b c) (minus l p) ≡ vol a b c l
 from_plane a b c p l z = rw (dot-minus (cross a b c) l p) (omega (arith, ints, vol-linear a b c l, vol-linear a b c p, z))
 
@@ -174,6 +174,6 @@ pub vol_along : (a b c u v w l : Vector) (h : IsAlong (cross a b c) (cross u v w
 vol_along a b c u v w l h z = ap (λ t. pos h.s *ℤ t) (sym (from_plane a b c u l z))
     ∙ dot_along (cross a b c) (cross u v w) h (minus l u) ∙ ap (λ t. pos h.t *ℤ t) (sym (vol-dot u v w l))
 
--- each direction is its own
+-- each direction is the same as itself
 pub along_itself : (n : Vector) → IsAlong n n
 along_itself n = record { s = 1; t = 1; some_s = omega arith; some_t = omega arith; x = refl; y = refl; z = refl }

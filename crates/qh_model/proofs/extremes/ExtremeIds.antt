@@ -1,4 +1,4 @@
--- The greatest member in a direction is extreme, members are mixes of extremes, and extremes of a union.
+-- The greatest member in a direction is extreme, members are convex combinations of extremes, and extremes of a union.
 use Rattle.std.proofs.Common.{◌≡◌, ◌≢◌, ℕ, arith, refl, sym, subst, ◌⊎◌, inl, inr, ◌↔◌, List, [], ◌∷◌, ⊎_elim}
 use Rattle.std.proofs.lemmas.Int.{ints}
 use Rattle.std.specs.{List.AllByRecursion as Every, List.flat_map, List.range_with_len, Prelude.filter, Prelude.ℤ, Prelude.◌+ℤ◌, Prelude.◌*ℤ◌, Prelude.◌<ℤ◌}
@@ -14,7 +14,7 @@ use Rattle.qh_model.specs.headline.{Combination.Combination, Extreme.Others, Ext
 use Rattle.qh_model.specs.laws.ExtremeLaws.{IsLower, InBlocks, GreatestIsExtreme, MembersAreCombinations, UnionOfExtremes}
 use Rattle.qh_model.specs.laws.Separator.{Separator}
 
--- what the order goes by
+-- the key of the order
 abbrev key : Vector → Vector → V 4
 key w p = (dot w p, (p.x, (p.y, (p.z, tt))))
 
@@ -33,11 +33,11 @@ same_vector w p q s = vector_path p q s.1.0 s.1.1.0 s.1.1.1.0
 abbrev bent : Vector → V 4 → Vector
 bent w u = record { x = u.0 *ℤ w.x +ℤ u.1.0; y = u.0 *ℤ w.y +ℤ u.1.1.0; z = u.0 *ℤ w.z +ℤ u.1.1.1.0 }
 
--- its scalar product
+-- the scalar product with this direction
 bent_is : (w : Vector) (u : V 4) (p : Vector) → dot (bent w u) p ≡ vdot 4 u (key w p)
 bent_is w u p = simp ring_rules (omega (arith, ints))
 
--- what comes strictly before p, by keys of which each functional is one of the points, does not mix to p
+-- points strictly before p, by keys of which each functional is one of the points, do not combine to p
 pub no_combination_by : (n : ℕ) (key : Vector → V n) (bend : V n → Vector) → ((u : V n) (p : Vector) → dot (bend u) p ≡ vdot n u (key p))
     → (at : ℕ → Vector) (A : ℕ → Type 0) (p : Vector) → ((j : ℕ) → A j → Less n (key (at j)) (key p)) → ¬ (Combination at A p)
 no_combination_by n key bend e at A p h m = from_witness (collapse n (λ j. ⊥) (λ j. key (at j)) (key p) (m.a ∷ m.b ∷ m.c ∷ m.d ∷ [])
@@ -50,24 +50,24 @@ no_combination_by n key bend e at A p h m = from_witness (collapse n (λ j. ⊥)
         less j (inl b) = absurd b
         less j (inr l) = omega (arith, ints, e r.0 (at j), e r.0 p)
 
--- what is lower does not combine
+-- lower points do not combine to a point
 pub no_combination : (at : ℕ → Vector) (A : ℕ → Type 0) (w p : Vector) → ((j : ℕ) → A j → Less 4 (key w (at j)) (key w p)) → ¬ (Combination at A p)
 no_combination at A w p h = no_combination_by 4 (key w) (bent w) (bent_is w) at A p h
 
--- the law
+-- proof of the law `GreatestIsExtreme`
 pub greatest_is_extreme : GreatestIsExtreme
 greatest_is_extreme at ids w e c h = (c, no_combination at (Others (Members ids) e) w (at e) (λ j o. less_of w (at j) (at e) (h j o)))
 
--- ---- sets that a list gives
--- the list has just the members of A
+-- ---- sets of the members of a list
+-- the list has exactly the members of A
 abbrev pub Listed : (ℕ → Type 0) → List ℕ → Type 0
 Listed A xs = (j : ℕ) → A j ↔ In j xs
 
--- a list has its own
+-- a list has exactly its own members
 pub listed_itself : (xs : List ℕ) → Listed (Members xs) xs
 listed_itself xs j = (λ h. h, λ h. h)
 
--- a convex combination of a part
+-- a convex combination of a part of a set is one of the set
 pub combination_within : (at : ℕ → Vector) (A B : ℕ → Type 0) (p : Vector) → Combination at A p → ((j : ℕ) → A j → B j) → Combination at B p
 combination_within at A B p m f = combination_by_names at at A B (λ j. j) f (λ j a. refl) p m
 
@@ -86,7 +86,7 @@ listed_part A P D xs l = (
   ),
 )
 
--- two ids are one or not
+-- equality of two ids is decided
 pub apart : (i j : ℕ) → (j ≢ i) ⊎ (¬ (j ≢ i))
 apart i j = contrary (j ≡ i) (same_id j i)
 
@@ -96,7 +96,7 @@ separated at ids l e =
     let others = listed_part (Members ids) (λ j. j ≢ l) (apart l) ids (listed_itself ids) in
     ⊎_elim (λ c. absurd (e.1 c)) (λ s. s) (alternative_in at (Others (Members ids) l) others.0 others.1 (at l))
 
--- whether a member is extreme can be told
+-- decides whether a member is extreme
 extreme_or_not : (at : ℕ → Vector) (A : ℕ → Type 0) (xs : List ℕ) → Listed A xs → (i : ℕ)
     → (¬ (Combination at (Others A i) (at i))) ⊎ (¬ (¬ (Combination at (Others A i) (at i))))
 extreme_or_not at A xs l i =
@@ -105,7 +105,7 @@ extreme_or_not at A xs l i =
     (λ s. inl (λ m. all_lower at (Others A i) (at i) s.w m (s.past m.a m.has_a) (s.past m.b m.has_b) (s.past m.c m.has_c) (s.past m.d m.has_d)))
     (alternative_in at (Others A i) ys k (at i))
 
--- ---- each member is a mix of extremes
+-- ---- each member is a convex combination of extremes
 -- the greatest member is extreme
 top_is_extreme : (at : ℕ → Vector) (A : ℕ → Type 0) (xs : List ℕ) → Listed A xs → HasDistinctPoints at A
     → (w : Vector) (g : Greatest 4 (λ j. key w (at j)) xs) → Extreme at A g.top
@@ -118,7 +118,7 @@ top_is_extreme at A xs l d w g = (has, no_combination at (Others A g.top) w (at 
     before j o (inr h) = h
     before j o (inl s) = absurd (o.1 (d j g.top o.0 has (same_vector w (at j) (at g.top) s)))
 
--- what is greatest is not below
+-- the greatest is not below another
 not_above : (a b : ℤ) (T U : Type 0) → ((a ≡ b) × T) ⊎ ((a <ℤ b) ⊎ ((a ≡ b) × U)) → b <ℤ a → ⊥
 not_above a b T U (inl e) h = <ℤ_irrefl (subst (λ t. b <ℤ t) e.0 h)
 not_above a b T U (inr (inl l)) h = omega (arith, ints)
@@ -137,12 +137,12 @@ combination_of_extremes at A xs l d i h = let (ys, k) = listed_part A (λ j. ¬ 
     absurd (not_above _ _ _ _ (every_at (λ j. AtMost 4 (key s.w (at j)) (key s.w (at g.top))) xs i g.above ((l i).0 h))
     (s.past g.top (top_is_extreme at A xs l d s.w g)))) (alternative_in at (Extreme at A) ys k (at i))
 
--- the law
+-- proof of the law `MembersAreCombinations`
 pub members_are_combinations : MembersAreCombinations
 members_are_combinations at ids d i h = combination_of_extremes at (Members ids) ids (listed_itself ids) d i h
 
 -- ---- sets between a set and its extremes
--- a set between has the same extremes
+-- a set between a set and its extremes has the same extremes
 pub extremes_between : (at : ℕ → Vector) (A B : ℕ → Type 0) (xs : List ℕ) → Listed A xs → HasDistinctPoints at A
     → ((i : ℕ) → B i → A i) → ((i : ℕ) → Extreme at A i → B i) → (i : ℕ) → Extreme at B i ↔ Extreme at A i
 extremes_between at A B xs l d sub sup i = (down, up)
@@ -158,18 +158,18 @@ extremes_between at A B xs l d sub sup i = (down, up)
     up h = (sup i h, λ m. h.1 (combination_within at (Others B i) (Others A i) (at i) m (λ j o. (sub j o.0, o.1))))
 
 -- ---- the union of blocks
--- all blocks together
+-- the list of all blocks together
 abbrev gathered : ℕ → (ℕ → List ℕ) → List ℕ
 gathered n block = flat_map block (range_with_len 0 n)
 
--- so the union is listed
+-- the union is the set of the members of this list
 listed_blocks : (n : ℕ) (block : ℕ → List ℕ) → Listed (InBlocks n (λ k. Members (block k))) (gathered n block)
 listed_blocks n block j = (
   λ h. in_flat_map block (range_with_len 0 n) h.0 j (range_has n h.0 h.1) h.2,
   λ m. let r = of_flat_map block (range_with_len 0 n) j m in (r.0, range_below n r.0 r.1, r.2),
 )
 
--- the law
+-- proof of the law `UnionOfExtremes`
 pub union_of_extremes : UnionOfExtremes
 union_of_extremes at n block d =
     extremes_between at (InBlocks n (λ k. Members (block k))) (InBlocks n (λ k. Extreme at (Members (block k)))) (gathered n block) (listed_blocks n block) d

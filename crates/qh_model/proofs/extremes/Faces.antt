@@ -15,20 +15,20 @@ use Rattle.qh_model.specs.laws.{FaceLaws.ExtremesOfFace, FaceLaws.SupportOfExtre
 abbrev pub pair : Vector → Vector → Vector → V 2
 pair n w p = (dot n p, (dot w p, tt))
 
--- a direction from two
+-- a direction made of two
 abbrev pub blend : Vector → Vector → V 2 → Vector
 blend n w u = record { x = u.0 *ℤ n.x +ℤ u.1.0 *ℤ w.x; y = u.0 *ℤ n.y +ℤ u.1.0 *ℤ w.y; z = u.0 *ℤ n.z +ℤ u.1.0 *ℤ w.z }
 
--- its scalar product
+-- the scalar product with this direction
 pub blend_is : (n w : Vector) (u : V 2) (p : Vector) → dot (blend n w u) p ≡ vdot 2 u (pair n w p)
 blend_is n w u p = simp ring_rules (omega (arith, ints))
 
--- points of one plane are level
+-- points of one plane have the same height
 pub on_plane : (d e c : ℤ) → pos 0 ≡ d +ℤ c → pos 0 ≡ e +ℤ c → d ≡ e
 on_plane d e c h k = omega (arith, ints)
 
--- a convex combination that lies in a supporting plane is one of the members in it:
--- else it were beyond them along a direction in the plane, and nothing beyond a face is a combination
+-- a convex combination that lies in a supporting plane combines members in the plane: otherwise it would be beyond them along a direction in the plane, and no
+-- point beyond a face is a convex combination
 pub face_combination : (at : ℕ → Vector) (A : ℕ → Type 0) (xs : List ℕ) → Listed A xs → (i j k : ℕ) → Supports at A i j k
     → (p : Vector) → vol (at i) (at j) (at k) p ≡ pos 0 → Combination at A p → Combination at (OnPlane at A i j k) p
 face_combination at A xs listed i j k supports p on mixed =
@@ -54,15 +54,15 @@ face_up at ids i j k s l h m =
     h.1 (combination_within at (OnPlane at (Others (Members ids) l) i j k) (Others (OnPlane at (Members ids) i j k) l) (at l)
     (face_combination at (Others (Members ids) l) others.0 others.1 i j k (λ t o. s t o.0) (at l) h.0.1 m) (λ t o. ((o.0.0, o.1), o.0.1)))
 
--- the law
+-- proof of the law `ExtremesOfFace`
 pub extremes_of_face : ExtremesOfFace
 extremes_of_face at ids i j k s l = (
   λ h. ((h.0.0, face_up at ids i j k s l h), h.0.1),
   λ h. ((h.0.0, h.1), λ m. h.0.1 (combination_within at (Others (OnPlane at (Members ids) i j k) l) (Others (Members ids) l) (at l) m (λ t o. (o.0.0, o.1)))),
 )
 
--- ---- what holds of the extremes holds of the members
--- the law
+-- ---- facts about the extremes hold for the members
+-- proof of the law `SupportOfExtremes`
 pub support_of_extremes : SupportOfExtremes
 support_of_extremes at ids d i j k s l h =
     let m = combination_of_extremes at (Members ids) ids (listed_itself ids) d l h in

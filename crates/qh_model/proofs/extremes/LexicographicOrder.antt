@@ -1,4 +1,4 @@
--- The lexicographic order of vectors: a greatest one exists, and one functional sees the order of finitely many.
+-- The lexicographic order of vectors: a greatest vector exists, and one functional determines the order of finitely many.
 use Rattle.std.proofs.Common.{◌≡◌, ℕ, zero, suc, arith, refl, sym, ◌∙◌, ◌⊎◌, inl, inr, List, [], ◌∷◌, ⊎_elim}
 use Rattle.std.proofs.{Math.Nat.mul-le-mul_left, lemmas.Int.ints, lemmas.Int.by_lt_z}
 use Rattle.std.specs.{List.AllByRecursion as Every, Prelude.ℤ, Prelude.pos, Prelude.◌+ℤ◌, Prelude.◌-ℤ◌, Prelude.◌*ℤ◌, Prelude.neg_ℤ, Prelude.◌<ℤ◌, Prelude.◌≤ℤ◌}
@@ -12,12 +12,12 @@ abbrev pub Less : (n : ℕ) → V n → V n → Type 0
 Less zero u v = ⊥
 Less (suc n) u v = (u.0 <ℤ v.0) ⊎ ((u.0 ≡ v.0) × Less n u.1 v.1)
 
--- they are equal
+-- u and v are equal
 abbrev pub Same : (n : ℕ) → V n → V n → Type 0
 Same zero u v = Unit {0}
 Same (suc n) u v = (u.0 ≡ v.0) × Same n u.1 v.1
 
--- one of both
+-- u comes before v, or they are equal
 abbrev pub AtMost : (n : ℕ) → V n → V n → Type 0
 AtMost n u v = Same n u v ⊎ Less n u v
 
@@ -29,23 +29,23 @@ less_trans (suc n) u v w (inl h) (inr k) = inl (omega (arith, ints, k.0))
 less_trans (suc n) u v w (inr h) (inl k) = inl (omega (arith, ints, h.0))
 less_trans (suc n) u v w (inr h) (inr k) = inr (h.0 ∙ k.0, less_trans n u.1 v.1 w.1 h.1 k.1)
 
--- equal to one that is less
+-- a vector equal to one that is less is less
 same_less : (n : ℕ) (u v w : V n) → Same n u v → Less n v w → Less n u w
 same_less zero u v w h k = k
 same_less (suc n) u v w h (inl k) = inl (omega (arith, ints, h.0))
 same_less (suc n) u v w h (inr k) = inr (h.0 ∙ k.0, same_less n u.1 v.1 w.1 h.1 k.1)
 
--- at most one that is less
+-- a vector at most one that is less is less
 at_most_less : (n : ℕ) (u v w : V n) → AtMost n u v → Less n v w → Less n u w
 at_most_less n u v w (inl h) k = same_less n u v w h k
 at_most_less n u v w (inr h) k = less_trans n u v w h k
 
--- a vector is itself
+-- a vector is equal to itself
 same : (n : ℕ) (u : V n) → Same n u u
 same zero u = tt
 same (suc n) u = (refl, same n u.1)
 
--- two vectors compare
+-- any two vectors compare
 compare : (n : ℕ) (u v : V n) → AtMost n u v ⊎ Less n v u
 compare zero u v = inl (inl tt)
 compare (suc n) u v =
@@ -56,13 +56,13 @@ compare (suc n) u v =
     tails e (inl (inr l)) = inl (inr (inr (e, l)))
     tails e (inr l) = inr (inr (sym e, l))
 
--- a member that none is greater than
+-- a greatest member
 pub record Greatest {A : Type 0} (n : ℕ) (key : A → V n) (xs : List A) : Type 0 where
   pub top : A
   pub member : In top xs
   pub above : Every (λ j. AtMost n (key j) (key top)) xs
 
--- a list has one
+-- a list with a member has a greatest one
 pub greatest : {A : Type 0} (n : ℕ) (key : A → V n) (i : A) (xs : List A) → Greatest n key (i ∷ xs)
 greatest n key i [] = record { top = i; member = inl refl; above = (inl (same n (key i)), tt) }
 greatest n key i (x ∷ xs) = with_first n key i (x ∷ xs) (greatest n key x xs) (compare n _ _)
@@ -83,7 +83,7 @@ keep : (Q R : Type 0) → Q ⊎ ⊥ → Q ⊎ R
 keep Q R (inl q) = inl q
 keep Q R (inr b) = absurd b
 
--- the case of the first coordinate, taken aside
+-- the case of the first coordinate, as a lemma
 regroup : (Q F E T : Type 0) → Q ⊎ (F ⊎ (E × T)) → (Q ⊎ F) ⊎ T
 regroup Q F E T (inl q) = inl (inl q)
 regroup Q F E T (inr (inl f)) = inl (inr f)
@@ -95,7 +95,7 @@ first Q T a b (inl q) = inl q
 first Q T a b (inr (inl h)) = inr (less_le a b h)
 first Q T a b (inr (inr p)) = inr (equal_le a b p.0)
 
--- a large factor lets the first coordinate decide, and where it is level the rest does
+-- with a large factor the first coordinate decides, and if it is equal, the rest decides
 joined : (Q : Type 0) (N : ℕ) (a b t s : ℤ) → (Q ⊎ (a <ℤ b)) ⊎ (t <ℤ s) → (Q ⊎ (a ≤ℤ b)) × (neg_ℤ (s -ℤ t) <ℤ pos N)
     → Q ⊎ ((pos N *ℤ a +ℤ t) <ℤ (pos N *ℤ b +ℤ s))
 joined Q N a b t s (inl (inl q)) h = inl q
@@ -121,7 +121,7 @@ extend {A} n Q key K xs h low = (
     N : ℕ
     N = (bound (λ j. dot n U K.1 -ℤ dot n U (key j).1) xs).0
 
--- one functional sees that all come before K
+-- one functional determines that all come before K
 pub collapse : {A : Type 0} (n : ℕ) (Q : A → Type 0) (key : A → V n) (K : V n) (xs : List A) → Every (λ j. Q j ⊎ Less n (key j) K) xs
     → (U : V n) × Every (λ j. Q j ⊎ (dot n U (key j) <ℤ dot n U K)) xs
 collapse zero Q key K xs h = (tt, every_map _ _ xs (λ j. keep (Q j) (pos 0 <ℤ pos 0)) h)

@@ -6,11 +6,11 @@ use Rattle.qh_model.specs.laws.DimensionLaws.{DimensionOfExtremes}
 use Rattle.qh_model.proofs.extremes.Dimensions.{AreCombinations, tetrahedron_of, triangle_of, segment_of}
 use Rattle.qh_model.proofs.extremes.ExtremeIds.{listed_itself, combination_of_extremes}
 
--- each follows of the other
+-- each follows from the other
 abbrev pub Both : Type 0 → Type 0 → Type 0
 Both P Q = (P → Q) × (Q → P)
 
--- the dimension of another set with the same, of other points too
+-- the dimension of another set with the same segments, triangles and tetrahedra, also for other points
 pub dimension_as : (at at' : ℕ → Vector) (A B : ℕ → Type 0) → Both (HasTetrahedron at A) (HasTetrahedron at' B)
     → Both (HasTriangle at A) (HasTriangle at' B) → Both (HasSegment A) (HasSegment B)
     → (k : ℕ) → IsDimension at A k → IsDimension at' B k
@@ -21,7 +21,7 @@ dimension_as at at' A B f g h k (inr (inr (inr (e, n)))) = inr (inr (inr (e, λ 
 
 -- ---- members named by members of another set, with the same points
 module _ {at at' : ℕ → Vector} {A B : ℕ → Type 0} (f : ℕ → ℕ) (to : (i : ℕ) → A i → B (f i)) where
-  -- a tetrahedron by their names
+  -- a tetrahedron by other names
   pub tetrahedron_by_names : ((i : ℕ) → A i → at' (f i) ≡ at i) → HasTetrahedron at A → HasTetrahedron at' B
   tetrahedron_by_names point t = record {
     i = f t.i;
@@ -35,7 +35,7 @@ module _ {at at' : ℕ → Vector} {A B : ℕ → Type 0} (f : ℕ → ℕ) (to 
     volume = λ e. t.volume (sym (λ z. vol (point t.i t.has_i z) (point t.j t.has_j z) (point t.k t.has_k z) (point t.l t.has_l z)) ∙ e);
   }
 
-  -- a triangle
+  -- a triangle by other names
   pub triangle_by_names : ((i : ℕ) → A i → at' (f i) ≡ at i) → HasTriangle at A → HasTriangle at' B
   triangle_by_names point t = record {
     i = f t.i;
@@ -47,7 +47,7 @@ module _ {at at' : ℕ → Vector} {A B : ℕ → Type 0} (f : ℕ → ℕ) (to 
     area = λ e. t.area (sym (λ z. cross (point t.i t.has_i z) (point t.j t.has_j z) (point t.k t.has_k z)) ∙ e);
   }
 
--- a segment, where names tell the members apart
+-- a segment, if different members have different names
 pub segment_by_names : {A B : ℕ → Type 0} (f : ℕ → ℕ) (to : (i : ℕ) → A i → B (f i)) → ((i j : ℕ) → A i → A j → f i ≡ f j → i ≡ j) → HasSegment A → HasSegment B
 segment_by_names f to apart s = record {
   i = f s.i;
@@ -57,7 +57,7 @@ segment_by_names f to apart s = record {
   differ = λ e. s.differ (apart s.i s.j s.has_i s.has_j e);
 }
 
--- the law
+-- proof of the law `DimensionOfExtremes`
 pub dimension_of_extremes : DimensionOfExtremes
 dimension_of_extremes at ids k d = (dimension_as at at E A (four.1, four.0) (three.1, three.0) (two.1, two.0) k, dimension_as at at A E four three two k)
   where

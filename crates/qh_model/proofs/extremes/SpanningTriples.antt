@@ -29,7 +29,7 @@ spanned at A i j k s u v w hu hv hw z n h = record {
     scale : (l : ℕ) → pos h.s *ℤ vol (at i) (at j) (at k) (at l) ≡ pos h.t *ℤ vol (at u) (at v) (at w) (at l)
     scale l = vol_along (at i) (at j) (at k) (at u) (at v) (at w) (at l) h z
 
--- one way round or the other
+-- in one order or the reversed one
 either_way : (at : ℕ → Vector) (A : ℕ → Type 0) (i j k : ℕ) → Supports at A i j k → (u v w : ℕ) → Extreme at A u → Extreme at A v → Extreme at A w
     → vol (at i) (at j) (at k) (at u) ≡ pos 0 → ¬ (AreInLine (at u) (at v) (at w))
     → IsAlong (cross (at i) (at j) (at k)) (cross (at u) (at v) (at w)) ⊎ IsAlong (cross (at i) (at j) (at k)) (cross (at u) (at w) (at v))
@@ -49,7 +49,7 @@ own_triangle at A i j k t = record {
   area = t.area;
 }
 
--- the law
+-- proof of the law `PlanesOfExtremes`
 pub planes_of_extremes : PlanesOfExtremes
 planes_of_extremes at ids d i j k t =
     let (ys, q) = listed_part (Members ids) (λ l. vol (at i) (at j) (at k) (at l) ≡ pos 0)

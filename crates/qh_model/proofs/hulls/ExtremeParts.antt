@@ -1,4 +1,4 @@
--- Parts of a set of ids, which are sets of ids; one that has all its extreme ids is not empty and has its hull.
+-- Parts of a set of ids, which are sets of ids. A part that has all extreme ids is not empty and has the hull of the set.
 use Rattle.std.proofs.Common.{ℕ, ◌<◌, List, length, get_or, arith}
 use Rattle.std.specs.{List.Sorted.IsStrictlyIncreasing}
 use Rattle.qh_model.specs.contract.IdSets.{AreIndices, IsIdSet}
@@ -12,11 +12,11 @@ use Rattle.qh_model.proofs.hulls.SameSets.{extremes_of_part, body_of_part}
 pub part_indices : (pts : List Vector) (ids part : List ℕ) → AreIndices pts ids → ((i : ℕ) → In i part → In i ids) → AreIndices pts part
 part_indices pts ids part indices within = All-of (λ i. i < length pts) part (λ i m. All-In (λ i. i < length pts) ids i indices (within i m))
 
--- rising ids of a set of ids are one
+-- rising ids of a set of ids are a set of ids
 pub part_set : (pts : List Vector) (ids part : List ℕ) → IsIdSet pts ids → IsStrictlyIncreasing part → ((i : ℕ) → In i part → In i ids) → IsIdSet pts part
 part_set pts ids part set rising within = record { rising = rising; distinct = λ i j m n e. set.distinct i j (within i m) (within j n) e }
 
--- where there are ids, a part with all extreme ids has some
+-- if there are ids, a part with all extreme ids has some
 pub part_some : (pts : List Vector) (ids part : List ℕ) → IsIdSet pts ids → 0 < length ids
     → ((i : ℕ) → Extreme (place pts) (Members ids) i → In i part) → 0 < length part
 part_some pts ids part set some extremes =
@@ -25,13 +25,13 @@ part_some pts ids part set some extremes =
     let l = p.1 in
     omega (arith, l)
 
--- its extreme ids are those of the set
+-- the extreme ids of this part are those of the set
 pub part_extremes : (pts : List Vector) (ids part xs : List ℕ) → IsIdSet pts ids → HasExtremes pts ids part
     → AreExtremes (place pts) (Members part) xs → AreExtremes (place pts) (Members ids) xs
 part_extremes pts ids part xs set h =
     extremes_told (place pts) (Members part) (Members ids) (extremes_of_part (place pts) ids part set.distinct h.within h.extremes) xs
 
--- its hull is that of the set
+-- the hull of this part is that of the set
 pub part_body : (pts : List Vector) (ids part : List ℕ) (b : BodyValue) → IsIdSet pts ids → IsStrictlyIncreasing part → HasExtremes pts ids part
     → (IsIdSet pts part → IsBody (place pts) (Members part) b) → IsBody (place pts) (Members ids) b
 part_body pts ids part b set rising h f = body_of_part (place pts) ids part b set.distinct h.within h.extremes (f (part_set pts ids part set rising h.within))

@@ -1,4 +1,4 @@
--- The points of the extreme ids can be read where the points can: there are some, not too many, and they are in range.
+-- The points of the extreme ids can be read if the points can: there are some, not too many, and they are in range.
 use Rattle.std.proofs.Common.{◌≡◌, ℕ, zero, suc, ◌<◌, ◌≤◌, List, [], ◌∷◌, length, get_or, map, arith, refl, inl, inr}
 use Rattle.std.proofs.lemmas.List.{length-map}
 use Rattle.std.specs.List.{AllByRecursion as Every}
@@ -13,7 +13,7 @@ module _ (pts : List Vector) (h : HullValue) (s : IsHull pts h) where
   extreme_within : (i : ℕ) → In i h.body.extremes → i < length pts
   extreme_within i m = ((s.distinct_ids.members i).0 ((s.body.extremes.members i).0 m).0).0
 
-  -- of some points some are extreme
+  -- if there are points, some are extreme
   some_extreme : 1 ≤ length pts → 1 ≤ length h.body.extremes
   some_extreme some =
       let first = In-get_or s.ids 0 0 (some_id pts s.ids s.distinct_ids some) in
@@ -26,7 +26,7 @@ place_in_range [] h i l = absurd (omega arith)
 place_in_range (p ∷ ps) h zero l = record { x = h.0; y = h.1.0; z = h.1.1.0 }
 place_in_range (p ∷ ps) h (suc i) l = place_in_range ps h.1.1.1 i (omega arith)
 
--- so are some of them
+-- some points of points in range are in range
 places_in_range : (pts : List Vector) → Every IsCoordinate (coordinates pts) → (xs : List ℕ) → ((i : ℕ) → In i xs → i < length pts)
     → Every IsCoordinate (coordinates (map (place pts) xs))
 unfolding place

@@ -13,13 +13,13 @@ flat_volume at A n i j k l hi hj hk hl =
     ⊎_elim (λ e. e) (λ d. absurd (n (record { i = i; j = j; k = k; l = l; has_i = hi; has_j = hj; has_k = hk; has_l = hl; volume = d })))
     (zero_or_not (vol (at i) (at j) (at k) (at l)))
 
--- what points forward is not zero
+-- a vector that points forward is not zero
 pub forward_not_zero : (n : Vector) → PointsForward n → n ≢ origin
 forward_not_zero n (inl h) e = let z : n.x ≡ pos 0 = ap (λ v. v.x) e in omega (arith, ints)
 forward_not_zero n (inr (x, inl h)) e = let z : n.y ≡ pos 0 = ap (λ v. v.y) e in omega (arith, ints)
 forward_not_zero n (inr (x, inr (y, h))) e = let z : n.z ≡ pos 0 = ap (λ v. v.z) e in omega (arith, ints)
 
--- a direction points forward as a whole
+-- two vectors of the same direction both point forward, or neither does
 pub forward_along : (n m : Vector) → IsAlong n m → PointsForward n → PointsForward m
 forward_along n m h (inl x) = inl (positive_along h.s h.t n.x m.x h.some_s h.some_t h.x x)
 forward_along n m h (inr (x, inl y)) = inr (zero_along h.s h.t n.x m.x h.some_t h.x x, inl (positive_along h.s h.t n.y m.y h.some_s h.some_t h.y y))
@@ -36,7 +36,7 @@ one_forward n (inr (x, inl y)) (inr (x', inr (y', k))) = omega (arith, ints, y')
 one_forward n (inr (x, inr (y, z))) (inr (x', inl y')) = omega (arith, ints, y')
 one_forward n (inr (x, inr (y, z))) (inr (x', inr (y', z'))) = omega (arith, ints, z')
 
--- a triangle of a flat set has the direction of another, one way round or the other
+-- a triangle of a flat set has the direction of another triangle, or the reversed triangle has it
 pub flat_normals : (at : ℕ → Vector) (A : ℕ → Type 0) → ¬ (HasTetrahedron at A) → (i j k u v w : ℕ) → A i → A j → A k → A u → A v → A w
     → cross (at i) (at j) (at k) ≢ origin → ¬ (AreInLine (at u) (at v) (at w))
     → IsAlong (cross (at i) (at j) (at k)) (cross (at u) (at v) (at w)) ⊎ IsAlong (cross (at i) (at j) (at k)) (cross (at u) (at w) (at v))

@@ -12,8 +12,8 @@ use Rattle.qh_model.proofs.extremes.{Faces.support_of_extremes, SameDimension.di
 use Rattle.qh_model.proofs.hulls.FlatSets.{forward_not_zero, forward_along, flat_normals}
 use Rattle.qh_model.proofs.{hulls.Unique.flat_of, hulls.Unique.alone_of, polygons.Direction.polygon_as}
 
--- ---- what is told of extreme ids, of another set with the same
--- the list of them
+-- ---- facts about extreme ids hold for another set with the same extreme ids
+-- the list of the extreme ids
 pub extremes_told : (at : ℕ → Vector) (A B : ℕ → Type 0) → ((i : ℕ) → Extreme at A i ↔ Extreme at B i)
     → (xs : List ℕ) → AreExtremes at A xs → AreExtremes at B xs
 extremes_told at A B same xs x = record { rising = x.rising; members = λ i. (λ m. (same i).0 ((x.members i).0 m), λ e. (x.members i).1 ((same i).1 e)) }
@@ -29,7 +29,7 @@ segment_told at A B same q f =
       is = f.is;
     }
 
--- an id alone is extreme
+-- a single id is extreme
 pub alone_is_extreme : (at : ℕ → Vector) (A : ℕ → Type 0) → ¬ (HasSegment A) → (i : ℕ) → A i → Extreme at A i
 alone_is_extreme at A n i h = (h, λ m. n (record { i = m.a; j = i; has_i = m.has_a.0; has_j = h; differ = m.has_a.1 }))
 
@@ -38,15 +38,15 @@ module _ (at : ℕ → Vector) (ids : List ℕ) (d : HasDistinctPoints at (Membe
   abbrev A : ℕ → Type 0
   A = Members ids
 
-  -- its extreme ids
+  -- the extreme ids of the set
   abbrev E : ℕ → Type 0
   E = Extreme at A
 
-  -- they have themselves as extremes
+  -- the extreme ids of the extreme ids are these
   pub extremes_again : (i : ℕ) → Extreme at E i ↔ E i
   extremes_again = extremes_between at A E ids (listed_itself ids) d (λ i h. h.0) (λ i h. h)
 
-  -- the other way round
+  -- the same in both directions
   own_extremes : (i : ℕ) → E i ↔ Extreme at E i
   own_extremes i = ((extremes_again i).1, (extremes_again i).0)
 
@@ -56,7 +56,7 @@ module _ (at : ℕ → Vector) (ids : List ℕ) (d : HasDistinctPoints at (Membe
   triple_up i j k t =
       record { has_i = t.has_i.0; has_j = t.has_j.0; has_k = t.has_k.0; area = t.area; supports = support_of_extremes at ids d i j k t.supports }
 
-  -- extremes that span a plane of the set are a triple of the extremes
+  -- extremes that span a plane of the set are a supporting triple of the extremes
   triple_down : {i j k : ℕ} (s : SpannedByExtremes at A i j k) → IsSupportingTriple at E s.u s.v s.w
   triple_down s = record { has_i = s.has_u; has_j = s.has_v; has_k = s.has_w; area = s.area; supports = λ l h. s.supports l h.0 }
 
@@ -65,13 +65,13 @@ module _ (at : ℕ → Vector) (ids : List ℕ) (d : HasDistinctPoints at (Membe
   face_members : {i j k : ℕ} (s : SpannedByExtremes at A i j k) (l : ℕ) → OnPlane at E i j k l ↔ OnPlane at (Extreme at E) s.u s.v s.w l
   face_members s l = (λ h. ((extremes_again l).1 h.0, (s.same l).0 h.1), λ h. ((extremes_again l).0 h.0, (s.same l).1 h.1))
 
-  -- so both have one polygon
+  -- so both have the same polygon
   face_down : (i j k : ℕ) (s : SpannedByExtremes at A i j k) (q : List ℕ) → IsFacePolygon at A i j k q → IsFacePolygon at E s.u s.v s.w q
   face_down i j k s q =
       polygon_as at (OnPlane at E i j k) (OnPlane at (Extreme at E) s.u s.v s.w) (cross (at i) (at j) (at k)) (cross (at s.u) (at s.v) (at s.w)) q
       (face_members s) s.along
 
-  -- the other way round
+  -- the converse
   face_up : (i j k : ℕ) (s : SpannedByExtremes at A i j k) (q : List ℕ) → IsFacePolygon at E s.u s.v s.w q → IsFacePolygon at A i j k q
   face_up i j k s q =
       polygon_as at (OnPlane at (Extreme at E) s.u s.v s.w) (OnPlane at E i j k) (cross (at s.u) (at s.v) (at s.w)) (cross (at i) (at j) (at k)) q
@@ -98,7 +98,7 @@ module _ (at : ℕ → Vector) (ids : List ℕ) (d : HasDistinctPoints at (Membe
         (s.u, s.v, s.w, triple_down s, face_down i j k s q p);
   }
 
-  -- and the other way round
+  -- the converse
   faces_up : (qs : List (List ℕ)) → AreFaces at E qs → AreFaces at A qs
   faces_up qs f = record {
     rising = f.rising;
@@ -123,7 +123,7 @@ module _ (at : ℕ → Vector) (ids : List ℕ) (d : HasDistinctPoints at (Membe
       n : Vector
       n = cross (at f.i) (at f.j) (at f.k)
 
-  -- and that of the set is that of the extremes, of which some triangle has its direction
+  -- the polygon of the set is that of the extremes, some triangle of which has its direction
   flat_down : ¬ (HasTetrahedron at A) → (q : List ℕ) → IsFlatFace at A q → IsFlatFace at E q
   flat_down none q f =
       ⊎_elim (λ h. by_triangle t.i t.j t.k t.has_i t.has_j t.has_k h) (λ h. by_triangle t.i t.k t.j t.has_i t.has_k t.has_j h)
@@ -149,12 +149,12 @@ module _ (at : ℕ → Vector) (ids : List ℕ) (d : HasDistinctPoints at (Membe
       }
 
 -- ---- the laws
--- the law
+-- proof of the law `TriplesOfExtremes`
 pub triples_of_extremes : TriplesOfExtremes
 triples_of_extremes at ids d i j k hi hj hk =
     (triple_up at ids d i j k, λ t. record { has_i = hi; has_j = hj; has_k = hk; area = t.area; supports = λ l h. t.supports l h.0 })
 
--- the law
+-- proof of the law `PolygonsOfExtremes`
 pub polygons_of_extremes : PolygonsOfExtremes
 polygons_of_extremes at ids k qs d dim = (up, down)
   where
@@ -174,7 +174,7 @@ polygons_of_extremes at ids k qs d dim = (up, down)
         let h = alone_is_extreme at (Members ids) (alone_of at (Members ids) k e dim) f.i f.has_i in
         inr (inr (inr (e, (q, record { i = f.i; has_i = h; is = f.is }, g))))
 
--- the law
+-- proof of the law `BodyOfExtremes`
 pub body_of_extremes : BodyOfExtremes
 body_of_extremes at ids b d = (
   λ f. let dim = (dimension_of_extremes at ids b.dim d).0 f.dim in

@@ -33,7 +33,7 @@ in_block ids bounds k p b h =
     let same = part_at ids f n (p - f) inside in
     subst (λ x. In x (block_ids ids bounds k)) (grind (arith, same, there)) (In-get_or (block_ids ids bounds k) (p - f) 0 inside)
 
--- they rise and have distinct points
+-- the ids of a block rise and have distinct points
 pub block_set : (pts : List Vector) (ids bounds : List ℕ) (k : ℕ) → IsIdSet pts ids → IsIdSet pts (block_ids ids bounds k)
 block_set pts ids bounds k set =
     record {
@@ -42,19 +42,19 @@ block_set pts ids bounds k set =
     }
 
 -- ---- right values
--- the extreme ids of a block are right for a set that has it alone
+-- the extreme ids of a block are right for the set of this block alone
 pub right_of_block : (pts : List Vector) (ids bounds : List ℕ) (k : ℕ) (J : ℕ → Type 0) (xs : List ℕ) → k < block_count bounds → ((l : ℕ) → J l ↔ (l ≡ k))
     → AreExtremes (place pts) (Members (block_ids ids bounds k)) xs → RightValue pts ids bounds J xs
 right_of_block pts ids bounds k J xs h only = extremes_told (place pts) (Members (block_ids ids bounds k)) (IsIdOfBlocks ids bounds J)
     (extreme_as (place pts) (Members (block_ids ids bounds k)) (IsIdOfBlocks ids bounds J)
     (λ i. (λ m. (k, h, (only k).1 refl, m), λ b. subst (λ l. In i (block_ids ids bounds l)) ((only b.0).0 b.2) b.3))) xs
 
--- they are ids of the list
+-- the right ids are ids of the list
 pub right_within : (pts : List Vector) (ids bounds : List ℕ) (J : ℕ → Type 0) (xs : List ℕ) → RightValue pts ids bounds J xs → (i : ℕ) → In i xs → In i ids
 right_within pts ids bounds J xs x i m = let e = (x.members i).0 m in block_within ids bounds e.0.0 i e.0.3
 
 -- ---- two sets of blocks together
--- whatever the blocks, it can't be that the ids of the first n have no list
+-- for any blocks, it is impossible that the ids of the first n have no list
 not_unlisted : (ids bounds : List ℕ) (J : ℕ → Type 0) (n : ℕ)
     → ((zs : List ℕ) → ((i : ℕ) → ((k : ℕ) × (k < n) × J k × In i (block_ids ids bounds k)) ↔ In i zs) → ⊥) → ⊥
 not_unlisted ids bounds J zero none = none [] (λ i. (λ b. let l = b.1 in absurd (omega (arith, l)), λ m. absurd m))
@@ -82,7 +82,7 @@ not_unlisted ids bounds J (suc n) none = not_unlisted ids bounds J n step
             down i b = dite (ℕ_discrete b.0 n)
                 (λ e. absurd (not_it (subst J e b.2))) (λ ne. let l = b.1 in (h i).0 (b.0, omega (arith, l, ne), b.2, b.3))
 
--- the extreme ids of the ids that are right for either are right for both together
+-- the extreme ids of the ids that are right for either set are right for their union
 pub right_of_both : (pts : List Vector) (ids bounds : List ℕ) (J K L : ℕ → Type 0) (xs ys zs vs : List ℕ) → HasDistinctPoints (place pts) (Members ids)
     → ((k : ℕ) → L k ↔ (J k ⊎ K k)) → RightValue pts ids bounds J xs → RightValue pts ids bounds K ys
     → ((i : ℕ) → In i zs ↔ (In i xs ⊎ In i ys)) → AreExtremes (place pts) (Members zs) vs → RightValue pts ids bounds L vs
@@ -105,7 +105,7 @@ right_of_both pts ids bounds J K L xs ys zs vs apart both x y union v = record {
     sub : (i : ℕ) → In i zs → Every i
     sub i m = listed i ((union i).0 m)
 
-    -- an extreme id of all is one of a part
+    -- an extreme id of all ids is one of a part
     in_part : (M : ℕ → Type 0) → ((k : ℕ) → M k → L k) → (i : ℕ) → IsIdOfBlocks ids bounds M i
         → Extreme (place pts) Every i → Extreme (place pts) (IsIdOfBlocks ids bounds M) i
     in_part M part i b e = (

@@ -6,19 +6,19 @@ use Rattle.qh_model.specs.{headline.Vector.Vector, laws.HullLaws.ExtremesOfPart,
 use Rattle.qh_model.proofs.{extremes.ExtremeIds.listed_itself, extremes.ExtremeIds.extremes_between, hulls.OfExtremes.body_of_extremes}
 use Rattle.qh_model.proofs.renamed.{Bodies.renamed_body, Bodies.body_renamed, Renaming.IsRenaming, Renaming.renaming_back, Renaming.extreme_renamed}
 
--- both have the same members
+-- two sets have the same members
 abbrev pub Same : (ℕ → Type 0) → (ℕ → Type 0) → Type 0
 Same A B = (i : ℕ) → A i ↔ B i
 
--- each id under its own name
+-- each id named by itself
 own_names : (at : ℕ → Vector) (A B : ℕ → Type 0) → Same A B → IsRenaming at at A B (λ i. i) (λ i. i)
 own_names at A B s = record { to = λ i. (s i).0; from = λ i. (s i).1; over = λ i a. refl; under = λ i b. refl; point = λ i a. refl; rises = λ i j a b h. h }
 
--- the same extremes
+-- sets with the same members have the same extremes
 pub extreme_as : (at : ℕ → Vector) (A B : ℕ → Type 0) → Same A B → Same (Extreme at A) (Extreme at B)
 extreme_as at A B s i = (extreme_renamed (own_names at A B s) i, extreme_renamed (renaming_back (own_names at A B s)) i)
 
--- the same hull
+-- sets with the same members have the same hull
 body_as : (at : ℕ → Vector) (A B : ℕ → Type 0) (b : BodyValue) → Same A B → IsBody at A b → IsBody at B b
 body_as at A B b s f = subst (IsBody at B) same (body_renamed (own_names at A B s) b f)
   where
@@ -28,11 +28,11 @@ body_as at A B b s f = subst (IsBody at B) same (body_renamed (own_names at A B 
     same : renamed_body (λ i. i) b ≡ b
     same = λ i. record b { extremes = map-id b.extremes i; polygons = polygons i }
 
--- the law
+-- proof of the law `ExtremesOfPart`
 pub extremes_of_part : ExtremesOfPart
 extremes_of_part at ids part d sub sup = extremes_between at (Members ids) (Members part) ids (listed_itself ids) d sub sup
 
--- the law
+-- proof of the law `BodyOfPart`
 pub body_of_part : BodyOfPart
 body_of_part at ids part b d sub sup f =
     let apart : HasDistinctPoints at (Members part) = (λ i j h k e. d i j (sub i h) (sub j k) e) in

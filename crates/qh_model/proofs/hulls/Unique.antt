@@ -1,4 +1,4 @@
--- Each part of a hull is one value: distinct ids, polygons, and the number of edges.
+-- Each part of a hull is unique: distinct ids, polygons, and the number of edges.
 use Rattle.std.proofs.Common.{◌≡◌, ℕ, ◌<◌, refl, List, [], ◌∷◌, length, arith, sym, ap, subst, ◌∙◌, ◌⊎◌, inl, inr}
 use native.Mathlib.Decide.{ℕ_discrete}
 use mathlib.Core.Logic.{dite}
@@ -13,16 +13,16 @@ use Rattle.qh_model.proofs.{extremes.Dimensions.one_dimension, extremes.Directio
 use Rattle.qh_model.proofs.{hulls.FlatSets.one_forward, hulls.FlatSets.flat_normals, lists.Lexicographic.rising_unique, lists.OnceEach.once_length}
 use Rattle.qh_model.proofs.{lists.Ordered.ordered_rising, lists.Ordered.ordered_unique, polygons.Direction.polygon_as, polygons.Unique.one_polygon}
 
--- the law
+-- proof of the law `RisingListIsUnique`
 pub rising_list_is_unique : RisingListIsUnique
 rising_list_is_unique xs ys f g h = ordered_unique (λ i j. i < j) (λ i j p q. omega arith) xs ys (ordered_rising xs f) (ordered_rising ys g) h
 
--- the law
+-- proof of the law `DistinctIdsAreUnique`
 pub distinct_ids_are_unique : DistinctIdsAreUnique
 distinct_ids_are_unique pts xs ys a b =
     rising_list_is_unique xs ys a.rising b.rising (λ i. (λ h. (b.members i).1 ((a.members i).0 h), λ h. (a.members i).1 ((b.members i).0 h)))
 
--- the law
+-- proof of the law `EdgeCountIsUnique`
 pub edge_count_is_unique : EdgeCountIsUnique
 edge_count_is_unique qs m n a b = sym a.count ∙ once_length a.list b.list a.once b.once same ∙ b.count
   where
@@ -30,7 +30,7 @@ edge_count_is_unique qs m n a b = sym a.count ∙ once_length a.list b.list a.on
     same (u, v) = (λ i. (b.all u v).1 ((a.all u v).0 i), λ i. (a.all u v).1 ((b.all u v).0 i))
 
 -- ---- polygons, by dimension
--- dimension 3: one list of polygons
+-- dimension 3: at most one list of polygons
 one_face_list : (at : ℕ → Vector) (A : ℕ → Type 0) (ps qs : List (List ℕ)) → AreFaces at A ps → AreFaces at A qs → ps ≡ qs
 one_face_list at A ps qs a b = rising_unique ps qs a.rising b.rising (λ q. (over ps qs a b q, over qs ps b a q))
   where
@@ -39,7 +39,7 @@ one_face_list at A ps qs a b = rising_unique ps qs a.rising b.rising (λ q. (ove
         let (u, v, w, t, p) = a.only q i in let r = b.each u v w t in
         subst (λ s. In s qs) (one_polygon at (OnPlane at (Extreme at A) u v w) (cross (at u) (at v) (at w)) r.0 q r.2 p) r.1
 
--- dimension 2: one polygon
+-- dimension 2: at most one polygon
 one_flat_face : (at : ℕ → Vector) (A : ℕ → Type 0) → ¬ (HasTetrahedron at A) → (p q : List ℕ) → IsFlatFace at A p → IsFlatFace at A q → p ≡ q
 one_flat_face at A n p q a b =
     by_cases (flat_normals at A n a.i a.j a.k b.i b.j b.k a.has_i a.has_j a.has_k b.has_i b.has_j b.has_k
@@ -53,7 +53,7 @@ one_flat_face at A n p q a b =
     by_cases (inr h) = absurd
         (one_forward (cross (at b.i) (at b.j) (at b.k)) b.forward (subst PointsForward (cross-flip (at b.i) (at b.j) (at b.k)) (forward_along _ _ h a.forward)))
 
--- dimension 1: one pair
+-- dimension 1: at most one pair
 one_segment_face : (at : ℕ → Vector) (A : ℕ → Type 0) (p q : List ℕ) → IsSegmentFace at A p → IsSegmentFace at A q → p ≡ q
 one_segment_face at A p q a b = a.is ∙ (λ t. ends.0 t ∷ ends.1 t ∷ []) ∙ sym b.is
   where
@@ -69,13 +69,13 @@ one_segment_face at A p q a b = a.is ∙ (λ t. ends.0 t ∷ ends.1 t ∷ []) �
     ends : (a.i ≡ b.i) × (a.j ≡ b.j)
     ends = ordered a.i a.j b.i b.j a.lower b.lower (in_b a.i (inl refl)) (in_b a.j (inr refl))
 
--- dimension 0: one id
+-- dimension 0: at most one id
 one_point_face : (A : ℕ → Type 0) → ¬ (HasSegment A) → (p q : List ℕ) → IsPointFace A p → IsPointFace A q → p ≡ q
 one_point_face A n p q a b =
     let same : a.i ≡ b.i = dite (ℕ_discrete a.i b.i) (λ e. e) (λ d. absurd (n (record { i = a.i; j = b.i; has_i = a.has_i; has_j = b.has_i; differ = d }))) in
     a.is ∙ ap (λ i. i ∷ []) same ∙ sym b.is
 
--- one list of one polygon
+-- a list of one polygon is determined by it
 one_of_one : (F : List ℕ → Type 0) → ((p q : List ℕ) → F p → F q → p ≡ q) → (ps qs : List (List ℕ))
     → (p : List ℕ) × F p × (ps ≡ p ∷ []) → (q : List ℕ) × F q × (qs ≡ q ∷ []) → ps ≡ qs
 one_of_one F u ps qs (p, a, e) (q, b, f) = e ∙ ap (λ r. r ∷ []) (u p q a b) ∙ sym f
@@ -115,12 +115,12 @@ one_polygon_list at A k ps qs d (inr (inr (inr (e, a)))) (inl (f, b)) = absurd (
 one_polygon_list at A k ps qs d (inr (inr (inr (e, a)))) (inr (inl (f, b))) = absurd (omega arith)
 one_polygon_list at A k ps qs d (inr (inr (inr (e, a)))) (inr (inr (inl (f, b)))) = absurd (omega arith)
 
--- the law
+-- proof of the law `PolygonsAreUnique`
 pub polygons_are_unique : PolygonsAreUnique
 polygons_are_unique at ids k ps qs d a b = one_polygon_list at (Members ids) k ps qs d a b
 
 -- ---- whole bodies, hulls and texts
--- a set has one body
+-- a set has at most one body
 pub one_body : (at : ℕ → Vector) (A : ℕ → Type 0) (a b : BodyValue) → IsBody at A a → IsBody at A b → a ≡ b
 one_body at A a b f g =
     body_path a b dims extremes polygons (edge_count_is_unique a.polygons a.edges b.edges f.edges (subst (λ qs. IsEdgeCount qs b.edges) (sym polygons) g.edges))
@@ -138,11 +138,11 @@ one_body at A a b f g =
     polygons : a.polygons ≡ b.polygons
     polygons = one_polygon_list at A a.dim a.polygons b.polygons f.dim f.polygons (subst (λ k. ArePolygons at A k b.polygons) (sym dims) g.polygons)
 
--- the law
+-- proof of the law `BodyIsUnique`
 pub body_is_unique : BodyIsUnique
 body_is_unique at ids a b f g = one_body at (Members ids) a b f g
 
--- the law
+-- proof of the law `HullIsUnique`
 pub hull_is_unique : HullIsUnique
 hull_is_unique pts a b f g =
     hull_path a b (f.given ∙ sym g.given) (f.distinct ∙ ap length ids ∙ sym g.distinct) (one_body (place pts) (Members f.ids) a.body b.body f.body
@@ -154,6 +154,6 @@ hull_is_unique pts a b f g =
     ids : f.ids ≡ g.ids
     ids = distinct_ids_are_unique pts f.ids g.ids f.distinct_ids g.distinct_ids
 
--- the law
+-- proof of the law `TextIsUnique`
 pub text_is_unique : TextIsUnique
 text_is_unique pts outs s t f g = f.is ∙ ap (λ h. hull_text h pts outs) (hull_is_unique pts f.hull g.hull f.right g.right) ∙ sym g.is

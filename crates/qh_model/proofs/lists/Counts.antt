@@ -1,4 +1,4 @@
--- How many members of a list pass: in its images, where members have twins, and before a place of the list.
+-- The number of members of a list that pass: for its images, for members with twins, and before a position of the list.
 use Rattle.std.proofs.Common.{◌≡◌, ℕ, zero, suc, ◌+◌, ◌<◌, ◌≤◌, inl, inr, arith, ap, sym, ◌∙◌, refl, subst, add-one, Bool, true, cond, List, [], ◌∷◌, length}
 use Rattle.std.proofs.Common.{get_or, map, take}
 use Rattle.std.proofs.lemmas.{Bool.cases_Bool, Bool.cases_lt, Bool.cases_order, List.take-take, List.get_or-take, List.length-take-le, List.length-map}
@@ -7,14 +7,14 @@ use Rattle.std.specs.Prelude.{count_by, filter}
 use Rattle.qh_model.specs.headline.Sets.{In, Once}
 use Rattle.qh_model.proofs.lists.{Filters.in_filter, Filters.of_filter, Filters.once_filter, Images.of_map, Images.once_map, OnceEach.once_within}
 
--- an image counts as its list
+-- an image has the count of its list
 pub count-map : {X Y : Type 0} (f : X → Y) (p : Y → Bool) (xs : List X) → count_by p (map f xs) ≡ count_by (λ x. p (f x)) xs
 count-map f p [] = refl
 count-map f p (x ∷ xs) =
     sum_by-cons (λ y. cond (p y) 1 0) (f x) (map f xs) ∙ ap (λ n. cond (p (f x)) 1 0 + n) (count-map f p xs)
     ∙ sym (sum_by-cons (λ y. cond (p (f y)) 1 0) x xs)
 
--- where each member that passes p has a twin that passes q, no more pass p than q
+-- if each member that passes p has a twin that passes q, no more members pass p than q
 pub count_twins : {X : Type 0} (twin : X → X) (p q : X → Bool) (xs : List X) → Once xs
     → ((x : X) → In x xs → p x ≡ true → In (twin x) xs × (q (twin x) ≡ true) × (twin (twin x) ≡ x)) → count_by p xs ≤ count_by q xs
 count_twins {X} twin p q xs o h =
@@ -25,16 +25,16 @@ count_twins {X} twin p q xs o h =
     omega (arith, length-filter p xs, length-filter q xs, length-map (filter p xs) twin)
 
 module _ {X : Type 0} (p : X → Bool) (d : X) where
-  -- one that passes adds to the count
+  -- a member that passes adds one to the count
   pub counted : (xs : List X) (i : ℕ) → i < length xs → p (get_or xs i d) ≡ true → count_by p (take i xs) < count_by p xs
   counted xs i l e = let h = rw e at (sum_by_more_le (λ x. cond (p x) 1 0) xs i d l) in omega (arith, h)
 
-  -- also among the first n
+  -- the same among the first n
   counted-first : (xs : List X) (i n : ℕ) → i < n → n ≤ length xs → p (get_or xs i d) ≡ true → count_by p (take i xs) < count_by p (take n xs)
   counted-first xs i n l m e = subst (λ ys. count_by p ys < count_by p (take n xs)) (take-take i n xs (omega arith))
       (counted (take n xs) i (let q = length-take-le n xs m in omega arith) (ap p (get_or-take n xs i d l) ∙ e))
 
-  -- so it is known by how many pass before it
+  -- so the number of members that pass before it determines it
   pub counted_apart : (xs : List X) (i j : ℕ) → i < length xs → j < length xs → p (get_or xs i d) ≡ true → p (get_or xs j d) ≡ true
       → count_by p (take i xs) ≡ count_by p (take j xs) → i ≡ j
   counted_apart xs i j l m e f q = elim (cases_order i j) [
@@ -43,7 +43,7 @@ module _ {X : Type 0} (p : X → Bool) (d : X) where
     | inr (inr h) ↦ (let c = counted-first xs j i h (omega arith) f in absurd (omega arith))
   ]
 
-  -- each count below that of the first n is that before one that passes
+  -- each number below the count of the first n is the count before some member that passes
   pub counted_at : (xs : List X) (r n : ℕ) → n ≤ length xs → r < count_by p (take n xs)
       → (i : ℕ) × (i < length xs) × (p (get_or xs i d) ≡ true) × (count_by p (take i xs) ≡ r)
   counted_at xs r zero l h = absurd (omega arith)

@@ -1,18 +1,18 @@
--- What a filter keeps, and a filter of an image.
+-- The members that a filter keeps, and a filter of an image.
 use Rattle.std.proofs.Common.{◌≡◌, ap, sym, ◌∙◌, refl, Bool, true, false, cond, inl, inr, List, [], ◌∷◌, map}
 use Rattle.std.specs.Prelude.{filter}
 use Rattle.std.proofs.lemmas.Bool.{cases_Bool}
 use Rattle.qh_model.specs.headline.Sets.{In, Once}
 
 module _ {X : Type 0} (p : X → Bool) where
-  -- what passes is kept
+  -- a member that passes is kept
   pub in_filter : (xs : List X) (x : X) → In x xs → p x ≡ true → In x (filter p xs)
   in_filter [] x i e = i
   in_filter (y ∷ xs) x (inl q) e = rw (ap p (sym q) ∙ e) (inl q)
   in_filter (y ∷ xs) x (inr i) e =
       elim (p y) as (λ b. In x (cond b (y ∷ filter p xs) (filter p xs))) [ true ↦ inr (in_filter xs x i e) | false ↦ in_filter xs x i e ]
 
-  -- and it alone
+  -- a kept member passes
   pub of_filter : (xs : List X) (x : X) → In x (filter p xs) → In x xs × (p x ≡ true)
   of_filter [] x i = absurd i
   of_filter (y ∷ xs) x i = elim (cases_Bool (p y)) [
@@ -20,7 +20,7 @@ module _ {X : Type 0} (p : X → Bool) where
     | inr e ↦ (let j = rw e at i in (inr (of_filter xs x j).0, (of_filter xs x j).1))
   ]
 
-  -- each member once
+  -- the filter of a list with each member once has each member once
   pub once_filter : (xs : List X) → Once xs → Once (filter p xs)
   once_filter [] o = tt
   once_filter (y ∷ xs) o = elim (p y) as (λ b. Once (cond b (y ∷ filter p xs) (filter p xs))) [
@@ -28,7 +28,7 @@ module _ {X : Type 0} (p : X → Bool) where
     | false ↦ once_filter xs o.1
   ]
 
--- a filter of an image is the image of a filter, where each member passes as its image does
+-- a filter of an image is the image of a filter, if each member passes exactly if its image does
 pub filter_image : {X Y : Type 0} (p : Y → Bool) (q : X → Bool) (f g : X → Y) (xs : List X)
     → ((x : X) → In x xs → (f x ≡ g x) × (p (f x) ≡ q x)) → filter p (map f xs) ≡ map g (filter q xs)
 filter_image p q f g [] h = refl

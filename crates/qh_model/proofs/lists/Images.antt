@@ -1,4 +1,4 @@
--- The image of a list: its members, also where each stands once, and how it grows.
+-- The image of a list: its members, also if each occurs once, and its growth.
 use Rattle.std.proofs.Common.{◌≡◌, ℕ, ◌+◌, ◌<◌, List, [], ◌∷◌, ◌++◌, length, get_or, map, take, ap, sym, ◌∙◌, refl, subst, inl, inr}
 use Rattle.std.proofs.lemmas.List.{take_more, map-append}
 use Rattle.qh_model.specs.headline.Sets.{In, Once}
@@ -9,7 +9,7 @@ in_map f [] x m = absurd m
 in_map f (y ∷ xs) x (inl e) = inl (ap f e)
 in_map f (y ∷ xs) x (inr m) = inr (in_map f xs x m)
 
--- a member of an image comes from a member
+-- a member of an image is the image of a member
 pub of_map : {X Y : Type 0} (f : X → Y) (xs : List X) (y : Y) → In y (map f xs) → (x : X) × In x xs × (y ≡ f x)
 of_map f [] y m = absurd m
 of_map f (x ∷ xs) y (inl e) = (x, inl refl, e)
@@ -21,7 +21,7 @@ pub map-more : (f : ℕ → ℕ) (xs : List ℕ) (i d v : ℕ) (ks : List ℕ) �
 map-more f xs i d v ks h e k = ap (λ t. t ++ v ∷ []) e ∙ ap (λ t. map f (take i xs) ++ t ∷ []) k
     ∙ sym (map-append f (take i xs) (get_or xs i d ∷ [])) ∙ ap (map f) (sym (take_more xs i d h))
 
--- the image of a list that has each member once, under a function that keeps its members apart
+-- the image of a list with each member once under a function with different values at its members has each member once
 pub once_map : {X Y : Type 0} (f : X → Y) (xs : List X) → ((x y : X) → In x xs → In y xs → f x ≡ f y → x ≡ y) → Once xs → Once (map f xs)
 once_map f [] apart o = tt
 once_map f (x ∷ xs) apart o = (

@@ -1,4 +1,4 @@
--- Lexicographic order of lists: rising lists of lists are ordered, so known by their members.
+-- Lexicographic order of lists: rising lists of lists are ordered, so their members determine them.
 use Rattle.std.proofs.Common.{◌≡◌, ℕ, List, [], ◌∷◌, arith, sym, subst, ◌∙◌, inl, inr}
 use Rattle.std.specs.Prelude.{◌↔◌}
 use Rattle.qh_model.specs.headline.{Polygons.ComesBefore, Polygons.RisesFrom, Polygons.RiseStrictly, Sets.In}
@@ -41,6 +41,6 @@ pub rising-ordered : (qs : List (List ℕ)) → RiseStrictly qs → Ordered Come
 rising-ordered [] h = tt
 rising-ordered (q ∷ qs) h = rises-ordered q qs h
 
--- strictly rising lists of lists with the same members are one
+-- strictly rising lists of lists with the same members are equal
 pub rising_unique : (ps qs : List (List ℕ)) → RiseStrictly ps → RiseStrictly qs → ((q : List ℕ) → In q ps ↔ In q qs) → ps ≡ qs
 rising_unique ps qs f g h = ordered_unique ComesBefore before-asymmetric ps qs (rising-ordered ps f) (rising-ordered qs g) h

@@ -1,23 +1,23 @@
--- Lists that have each member once: their length is known by their members, and a place by its member.
+-- Lists with each member once: their members determine their length, and a member determines its position.
 use Rattle.std.proofs.Common.{◌≡◌, ℕ, zero, suc, ◌+◌, ◌<◌, ◌≤◌, refl, List, [], ◌∷◌, length, get_or, arith, ap, sym, subst, ◌∙◌, ◌⊎◌, inl, inr, ⊎_elim}
 use Rattle.std.specs.Prelude.{◌↔◌}
 use Rattle.qh_model.specs.headline.Sets.{In, Once}
 use Rattle.qh_model.proofs.Members.{In-get_or}
 
--- the list without the member at this place
+-- the list without the member at this position
 without : {X : Type 0} (x : X) (xs : List X) → In x xs → List X
 without x [] i = []
 without x (y ∷ ys) (inl e) = ys
 without x (y ∷ ys) (inr i) = y ∷ without x ys i
 
--- it is one shorter
+-- this list is shorter by one
 without-length : {X : Type 0} (x : X) (xs : List X) (i : In x xs) → length xs ≡ length (without x xs i) + 1
 unfolding without
 without-length x [] i = absurd i
 without-length x (y ∷ ys) (inl e) = omega arith
 without-length x (y ∷ ys) (inr i) = let h = without-length x ys i in omega arith
 
--- every other member stays
+-- every other member stays in this list
 without-others : {X : Type 0} (x : X) (xs : List X) (i : In x xs) (y : X) → In y xs → (y ≡ x) ⊎ In y (without x xs i)
 unfolding without
 without-others x [] i y j = absurd i
@@ -26,7 +26,7 @@ without-others x (z ∷ xs) (inl e) y (inr j) = inr j
 without-others x (z ∷ xs) (inr i) y (inl d) = inr (inl d)
 without-others {X} x (z ∷ xs) (inr i) y (inr j) = ⊎_elim (λ e. inl e) (λ k. inr (inr k)) (without-others x xs i y j)
 
--- a list that has each member once is no longer than one that has its members
+-- a list with each member once is no longer than a list that has its members
 pub once_within : {X : Type 0} (xs ys : List X) → Once xs → ((z : X) → In z xs → In z ys) → length xs ≤ length ys
 once_within [] ys o h = omega arith
 once_within {X} (x ∷ xs) ys o h =
@@ -40,12 +40,12 @@ once_within {X} (x ∷ xs) ys o h =
     other z i (inl e) = absurd (o.0 (subst (λ t. In t xs) e i))
     other z i (inr j) = j
 
--- lists with the same members, each once, have one length
+-- lists with the same members, each once, have the same length
 pub once_length : {X : Type 0} (xs ys : List X) → Once xs → Once ys → ((z : X) → In z xs ↔ In z ys) → length xs ≡ length ys
 once_length xs ys o p h =
     let a = once_within xs ys o (λ z. (h z).0) in let b = once_within ys xs p (λ z. (h z).1) in omega arith
 
--- a member that stands once has one place
+-- a member that occurs once has one position
 pub once_place : {X : Type 0} (d : X) (xs : List X) → Once xs → (i j : ℕ) → i < length xs → j < length xs → get_or xs i d ≡ get_or xs j d → i ≡ j
 once_place d [] o i j l m e = absurd (omega arith)
 once_place d (x ∷ xs) o zero zero l m e = refl

@@ -1,4 +1,4 @@
--- The positions of a list: which numbers they are, the list as their image, and how many are apart.
+-- The positions of a list: their numbers, the list as their image, and a bound for distinct numbers.
 use Rattle.std.proofs.Common.{◌≡◌, ◌≢◌, ◌≤◌, ℕ, zero, suc, ◌+◌, ◌<◌, refl, arith, sym, subst, ◌∙◌, zero-add, inl, inr, List, length, map, slice_index}
 use Rattle.std.proofs.lemmas.Bool.{cases_order}
 use Rattle.std.proofs.lemmas.List.FromFn.{fill_by_all, get_or-range_with_len, length-range_with_len, length-map-range_with_len}
@@ -16,7 +16,7 @@ range_end a (suc n) l (inr m) = let h = range_end (a + 1) n l m in omega arith
 pub range_below : (n l : ℕ) → In l (range_with_len 0 n) → l < n
 range_below n l m = let h = range_end 0 n l m in omega arith
 
--- what is at all positions, by any function that tells it, is the list
+-- the image of all positions, under any function that returns the element at a position, is the list
 pub range_named : (name : ℕ → ℕ) (xs : List ℕ) → ((l : ℕ) → l < length xs → name l ≡ slice_index xs l) → map name (range_with_len 0 (length xs)) ≡ xs
 range_named name xs same = sym (fill_by_all name xs (length xs) 0 refl (λ k h. sym (same k h)))
 
@@ -25,12 +25,12 @@ pub range_has : (n l : ℕ) → l < n → In l (range_with_len 0 n)
 range_has n l h = subst (λ (k : ℕ). In k (range_with_len 0 n)) (get_or-range_with_len 0 n l 0 h ∙ zero-add l)
     (In-get_or (range_with_len 0 n) l 0 (let e = length-range_with_len 0 n in omega (arith, e, h)))
 
--- each once
+-- each number below n occurs once in the first n
 pub range_once : (n : ℕ) → Once (range_with_len 0 n)
 range_once n = rising_once (range_with_len 0 n) (λ k h. let e = length-range_with_len 0 n in
     rw (get_or-range_with_len 0 n k 0 (omega arith), get_or-range_with_len 0 n (k + 1) 0 (omega arith)) (omega arith))
 
--- numbers below N, no two equal, are at most N
+-- there are at most N distinct numbers below N
 pub pigeon : (N k : ℕ) (f : ℕ → ℕ) → ((i : ℕ) → i < k → f i < N) → ((i j : ℕ) → i < j → j < k → f i ≢ f j) → k ≤ N
 pigeon N k f below apart =
     let w = once_within (map f (range_with_len 0 k)) (range_with_len 0 N) (once_map f (range_with_len 0 k) same (range_once k)) within in

@@ -1,4 +1,4 @@
--- Rising lists of numbers by position, their parts, and one after the other.
+-- Rising lists of numbers by position, their parts, and two rising lists joined.
 use Rattle.std.proofs.Common.{ℕ, ◌≡◌, ◌+◌, ◌-◌, ◌≤◌, ◌<◌, List, ◌++◌, length, get_or, take, drop, arith}
 use Rattle.std.proofs.{Math.Seq.get_or-append_right, lemmas.Grind.common_steps, lemmas.List.get_or_append_left}
 use Rattle.std.proofs.lemmas.List.FromFn.{get_or-range_with_len, length-range_with_len}
@@ -31,7 +31,7 @@ pub rising_front : (xs ys : List ℕ) → IsStrictlyIncreasing (xs ++ ys) → Is
 rising_front xs ys h k l =
     grind (arith, common_steps, h k (grind (arith, common_steps, l)), get_or_append_left xs ys 0 k, get_or_append_left xs ys 0 (k + 1), l)
 
--- so does the back
+-- the back of a rising list rises
 pub rising_back : (xs ys : List ℕ) → IsStrictlyIncreasing (xs ++ ys) → IsStrictlyIncreasing ys
 rising_back xs ys h k l =
     let next : get_or (xs ++ ys) (length xs + k) 0 < get_or (xs ++ ys) (length xs + k + 1) 0 = h (length xs + k) (grind (arith, common_steps, l)) in
@@ -43,7 +43,7 @@ range_rises n k h =
     let e = length-range_with_len 0 n in
     rw (get_or-range_with_len 0 n k 0 (omega arith), get_or-range_with_len 0 n (k + 1) 0 (omega arith)) (omega arith)
 
--- two rising lists, the second above the first, are one rising list
+-- two rising lists, the second above the first, joined rise
 pub rising_append : (xs ys : List ℕ) → IsStrictlyIncreasing xs → IsStrictlyIncreasing ys
     → ((x y : ℕ) → In x xs → In y ys → x < y) → IsStrictlyIncreasing (xs ++ ys)
 rising_append xs ys f g below k l =

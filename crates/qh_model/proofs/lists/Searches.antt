@@ -1,10 +1,10 @@
--- A search through the first numbers, and a walk in a list that comes back to where it began.
+-- A search through the first numbers, and a walk in a list that returns to its start.
 use Rattle.std.proofs.Common.{◌≡◌, ℕ, zero, suc, ◌+◌, ◌<◌, List, length, get_or, arith, ap, sym, ◌∙◌, ◌⊎◌, inl, inr, ⊎_elim}
 use native.Mathlib.Decide.{ℕ_discrete}
 use Rattle.qh_model.specs.headline.Sets.{In}
 use Rattle.qh_model.proofs.{Members.in_at, lists.Ranges.pigeon}
 
--- a number of which P holds, or none below n
+-- a number for which P holds, or no such number below n
 look : (P : ℕ → Type 0) → ((i : ℕ) → Dec (P i)) → (n : ℕ) → ((i : ℕ) × P i) ⊎ ((i : ℕ) → i < n → ¬ (P i))
 look P test zero = inr (λ i h. absurd (omega arith))
 look P test (suc n) = by_decision (test zero) (look (λ i. P (suc i)) (λ i. test (suc i)) n)
@@ -18,17 +18,17 @@ look P test (suc n) = by_decision (test zero) (look (λ i. P (suc i)) (λ i. tes
         none zero h = q
         none (suc i) h = r i (omega arith)
 
--- a walk that stays among the members of a list, and has one way only into each place, comes back to its first place
+-- a walk that stays among the members of a list, and enters each place from only one other, returns to its first place
 pub comes_back : (u : ℕ → ℕ) (xs : List ℕ) → ((i : ℕ) → In (u i) xs) → ((i j : ℕ) → u (suc i) ≡ u (suc j) → u i ≡ u j) → (k : ℕ) × (u (suc k) ≡ u zero)
 comes_back u xs within one_way = ⊎_elim (λ r. r) (λ n. absurd (never n)) (look (λ k. u (suc k) ≡ u zero) (λ k. ℕ_discrete (u (suc k)) (u zero)) (length xs))
   where
-    -- where the walk comes by a place again, it does so at its first place
+    -- the first place that the walk visits again is its first place
     first_again : (i j : ℕ) → i < j → u i ≡ u j → (k : ℕ) × (k < j) × (u (suc k) ≡ u zero)
     first_again i zero h e = absurd (omega arith)
     first_again zero (suc j) h e = (j, omega arith, sym e)
     first_again (suc i) (suc j) h e = let r = first_again i j (omega arith) (one_way i j e) in let l = r.1 in (r.0, omega arith, r.2)
 
-    -- a walk that never did would be at more places than the list has
+    -- a walk that never returned would visit more places than the list has
     never : ((k : ℕ) → k < length xs → u (suc k) ≡ u zero → ⊥) → ⊥
     never n = let e = pigeon (length xs) (length xs + 1) place (λ i h. (in_at xs (u i) (within i)).1) apart in absurd (omega arith)
       where

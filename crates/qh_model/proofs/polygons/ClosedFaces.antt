@@ -1,4 +1,4 @@
--- Faces that close up are all faces: their fans close up, since the steps across a polygon are taken both ways.
+-- Faces that close up are all faces: their fans close up, since each diagonal of a polygon is taken in both directions.
 use Rattle.std.proofs.Common.{◌≡◌, ◌≢◌, ℕ, ◌+◌, arith, refl, sym, ap, subst, ◌∙◌, inl, inr, List, [], ◌∷◌, ◌++◌, cond}
 use Rattle.std.specs.{List.flat_map, Prelude.pos, Prelude.◌<ℤ◌, Prelude.◌↔◌}
 use Rattle.qh_model.specs.contract.ClosedPolygons.{steps_along, steps_round, AreClosed, AreClosedFaces}
@@ -12,7 +12,7 @@ use Rattle.qh_model.proofs.lists.Joined.{in_flat_map, of_flat_map}
 use Rattle.qh_model.proofs.polygons.{Edges.seen_from, Fans.corners_support, Fans.face_fan, PlaneTurns.level_along}
 
 -- ---- the triangles of a polygon
--- from a, along the list from u
+-- the triangles of a and two neighbours each, beginning with u along the list
 abbrev triples_along : ℕ → ℕ → List ℕ → List Triple
 triples_along a u [] = []
 triples_along a u (w ∷ r) = record { i = a; j = u; k = w } ∷ triples_along a w r
@@ -22,34 +22,34 @@ triples_in [] = []
 triples_in (a ∷ []) = []
 triples_in (a ∷ u ∷ r) = triples_along a u r
 
--- how often a pair stands in a list
+-- the number of times that a pair occurs in a list
 abbrev times : ℕ → ℕ → List (ℕ × ℕ) → ℕ
 times u v es = count (is_edge (u, v)) es
 
 abbrev one : ℕ → ℕ → ℕ → ℕ → ℕ
 one u v a b = cond (is_edge (u, v) (a, b)) 1 0
 
--- a pair is (u, v) as often as turned round it is (v, u)
+-- a pair is (u, v) exactly if the reversed pair is (v, u)
 one-back : (u v a b : ℕ) → one u v a b ≡ one v u b a
 one-back u v a b = ap (λ t. cond t 1 0) (is_edge-back (u, v) (b, a))
 
--- how often the edges of triangles and the steps of a way are (u, v) and (v, u)
+-- the number of edges of triangles and steps of a path that are (u, v), and the number that are (v, u)
 abbrev both_ways : ℕ → ℕ → List Triple → List (ℕ × ℕ) → ℕ
 both_ways u v ts es = times u v (edges ts) + times v u es
 
--- what a way's triangles have one way more than the other, the way has, with the steps from a and back
+-- the triangles over a path take one direction more often than the other as the path does, together with the steps from a and back
 balanced_along : (u v a b : ℕ) (r : List ℕ) → times u v (edges (triples_along a b r)) + (one v u a b + times v u (steps_along b r a))
     ≡ times v u (edges (triples_along a b r)) + (one u v a b + times u v (steps_along b r a))
 balanced_along u v a b [] = omega (arith, one-back u v a b, one-back v u a b)
 balanced_along u v a b (w ∷ r) = omega (arith, balanced_along u v a w r, one-back u v a w, one-back v u a w)
 
--- the same of a polygon
+-- the same for a polygon
 balanced_round : (u v : ℕ) (q : List ℕ) → both_ways u v (triples_in q) (steps_round q) ≡ both_ways v u (triples_in q) (steps_round q)
 balanced_round u v [] = refl
 balanced_round u v (a ∷ []) = omega (arith, one-back u v a a)
 balanced_round u v (a ∷ b ∷ r) = balanced_along u v a b r
 
--- lists one after the other
+-- lists joined one after the other
 times-append : (u v : ℕ) (xs ys : List (ℕ × ℕ)) → times u v (xs ++ ys) ≡ times u v xs + times u v ys
 times-append u v [] ys = omega arith
 times-append u v (x ∷ xs) ys = omega (arith, times-append u v xs ys)
@@ -88,7 +88,7 @@ closed_fans qs h u v = sym (count-is (is_edge (u, v)) (edges ts)) ∙ same ∙ c
     same = omega (arith, balanced u v qs, count-is (is_edge (u, v)) ss ∙ h u v ∙ sym (count-is (is_edge (v, u)) ss))
 
 -- ---- they are supporting triples with the same polygon
--- two neighbours on the way from u along the list
+-- two neighbours on the path from u along the list
 record IsTripleAlong (a u : ℕ) (r : List ℕ) (t : Triple) : Type 0 where
   first : t.i ≡ a
   has_j : In t.j (u ∷ r)
@@ -156,7 +156,7 @@ module _ (at : ℕ → Vector) (ids : List ℕ) (i j k : ℕ) (plane : IsSupport
       turn : pos 0 <ℤ left n (at a) (at t.j) (at t.k)
       turn = subst (λ x. pos 0 <ℤ x) (sym (left-turn n (at a) (at t.j) (at t.k))) (p.round t.j t.k follows a (inl refl) not_j not_k)
 
-  -- there are some
+  -- there are some triangles
   some_triples : HasDistinctPoints at (Members ids) → (q : List ℕ) → IsOwnFace q → (t : Triple) × In t (triples_in q)
   some_triples d [] p = let s = face_fan at ids d i j k plane [] [] p (inl refl) in absurd (cc s.3)
   some_triples d (a ∷ []) p = let s = face_fan at ids d i j k plane (a ∷ []) (a ∷ []) p (inl refl) in absurd (cc s.3)

@@ -5,7 +5,7 @@ use Rattle.qh_model.specs.headline.{Polygon.IsPolygon, Sets.Members, Vector.Vect
 use Rattle.qh_model.specs.laws.{FaceLaws.IsAlong, PolygonLaws.PolygonByDirection}
 use Rattle.qh_model.proofs.extremes.Directions.{positive_along, left_along}
 
--- the same set and direction, told otherwise
+-- the same set and direction in another form
 pub polygon_as : (at : ℕ → Vector) (X Y : ℕ → Type 0) (n m : Vector) (q : List ℕ) → ((i : ℕ) → X i ↔ Y i) → IsAlong n m
     → IsPolygon at X n q → IsPolygon at Y m q
 polygon_as at X Y n m q f h p = record {
@@ -15,6 +15,6 @@ polygon_as at X Y n m q f h p = record {
   least = p.least;
 }
 
--- the law
+-- proof of the law `PolygonByDirection`
 pub polygon_by_direction : PolygonByDirection
 polygon_by_direction at ids n m q h p = polygon_as at (Members ids) (Members ids) n m q (λ i. (λ j. j, λ j. j)) h p

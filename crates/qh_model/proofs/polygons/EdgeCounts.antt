@@ -7,16 +7,16 @@ use Rattle.qh_model.specs.{headline.Sets.Once, laws.FanLaws.EdgesAreCounted}
 use Rattle.qh_model.proofs.lists.Joined.{in_flat_map, of_flat_map}
 
 -- ---- pairs that differ
--- whether a pair is this one
+-- true if a pair is a given one
 abbrev pub is_pair : ℕ → ℕ → ℕ × ℕ → Bool
 is_pair u v p = (p.0 == u) && (p.1 == v)
 
--- the list without the pairs that stand again later, and without those of one id twice
+-- the list without pairs that occur again later, and without pairs of equal ids
 abbrev pub distinct : List (ℕ × ℕ) → List (ℕ × ℕ)
 distinct [] = []
 distinct ((u, v) ∷ ps) = if (u == v) || list_any (λ p. (p.0 == u) && (p.1 == v)) ps then distinct ps else (u, v) ∷ distinct ps
 
--- it is as long as pairs are counted
+-- the length of this list is the number of pairs counted
 pub length-distinct : (ps : List (ℕ × ℕ)) → length (distinct ps) ≡ count_pairs ps
 length-distinct [] = refl
 length-distinct ((u, v) ∷ ps) = by_test ((u == v) || list_any (λ p. (p.0 == u) && (p.1 == v)) ps) (length-distinct ps)
@@ -26,7 +26,7 @@ length-distinct ((u, v) ∷ ps) = by_test ((u == v) || list_any (λ p. (p.0 == u
     by_test true e = e
     by_test false e = ap suc e
 
--- a test that finds the pair
+-- the test passes for a pair in the list
 found : (u v : ℕ) (ps : List (ℕ × ℕ)) → list_any (is_pair u v) ps ≡ true → In (u, v) ps
 found u v [] e = cc
 found u v ((a, b) ∷ ps) e = with_rest (found u v ps) (a == u) (b == v) refl refl e
@@ -37,7 +37,7 @@ found u v ((a, b) ∷ ps) e = with_rest (found u v ps) (a == u) (b == v) refl re
     with_rest rest true false p q h = inr (rest h)
     with_rest rest false t p q h = inr (rest h)
 
--- and one that does not
+-- the test fails for a pair that is not in the list
 missed : (u v : ℕ) (ps : List (ℕ × ℕ)) → list_any (is_pair u v) ps ≡ false → ¬ (In (u, v) ps)
 missed u v [] e m = m
 missed u v ((a, b) ∷ ps) e m = with_rest (missed u v ps) (a == u) (b == v) refl refl e m
@@ -51,7 +51,7 @@ missed u v ((a, b) ∷ ps) e m = with_rest (missed u v ps) (a == u) (b == v) ref
     with_rest rest false t p q h (inl f) = eqb-false a u p (sym (ap (λ (x : ℕ × ℕ). x.0) f))
     with_rest rest false t p q h (inr m) = rest h m
 
--- its members are pairs of the list, of two different ids
+-- the members of this list are pairs of the first list, of two different ids
 pub of_distinct : (ps : List (ℕ × ℕ)) (u v : ℕ) → In (u, v) (distinct ps) → In (u, v) ps × (u ≢ v)
 of_distinct [] u v m = absurd m
 of_distinct ((a, b) ∷ ps) u v m = with_rest (of_distinct ps u v) (a == b) (list_any (is_pair a b) ps) refl m
@@ -67,7 +67,7 @@ of_distinct ((a, b) ∷ ps) u v m = with_rest (of_distinct ps u v) (a == b) (lis
     with_rest rest false false p (inl f) = (inl f, λ e. eqb-false a b p (sym (ap (λ (x : ℕ × ℕ). x.0) f) ∙ e ∙ ap (λ (x : ℕ × ℕ). x.1) f))
     with_rest rest false false p (inr m) = later (rest m)
 
--- and all of these
+-- each pair of the list with two different ids is a member
 pub in_distinct : (ps : List (ℕ × ℕ)) (u v : ℕ) → In (u, v) ps → u ≢ v → In (u, v) (distinct ps)
 in_distinct [] u v m d = absurd m
 in_distinct ((a, b) ∷ ps) u v m d = with_rest (λ i. in_distinct ps u v i d) (a == b) (list_any (is_pair a b) ps) refl refl m
@@ -81,7 +81,7 @@ in_distinct ((a, b) ∷ ps) u v m d = with_rest (λ i. in_distinct ps u v i d) (
     with_rest rest false false p q (inl f) = inl f
     with_rest rest false false p q (inr m) = inr (rest m)
 
--- each once
+-- each pair occurs once
 pub once_distinct : (ps : List (ℕ × ℕ)) → Once (distinct ps)
 once_distinct [] = tt
 once_distinct ((a, b) ∷ ps) = with_rest (once_distinct ps) (a == b) (list_any (is_pair a b) ps) refl
@@ -92,13 +92,13 @@ once_distinct ((a, b) ∷ ps) = with_rest (once_distinct ps) (a == b) (list_any 
     with_rest rest false false q = ((λ m. missed a b ps q (of_distinct ps a b m).0), rest)
 
 -- ---- pairs of neighbours
--- neighbours on a way, the lower first
+-- neighbours on a path, with the lower id first
 in_along : (u v t : ℕ) (r : List ℕ) (e : ℕ) → FollowsAlong u v t r e → In (min u v, max u v) (pairs_along t r e)
 in_along u v t [] e (p, q) = inl (cc (p, q))
 in_along u v t (w ∷ r) e (inl (p, q)) = inl (cc (p, q))
 in_along u v t (w ∷ r) e (inr f) = inr (in_along u v w r e f)
 
--- and back
+-- the converse
 record IsNeighbours (t : ℕ) (r : List ℕ) (e a b : ℕ) : Type 0 where
   u : ℕ
   v : ℕ
@@ -123,7 +123,7 @@ in_round u v (t ∷ r) h (inr f) =
     let low : min v u ≡ u = omega arith in let high : max v u ≡ v = omega arith in
     subst (λ x. In x (pairs_along t r t)) (λ i. (low i, high i)) (in_along v u t r t f)
 
--- and back
+-- the converse
 of_round : (a b : ℕ) (q : List ℕ) → In (a, b) (pairs_round q) → a ≢ b → (a < b) × (Follows a b q ⊎ Follows b a q)
 of_round a b [] m d = absurd m
 of_round a b (t ∷ r) m d = along_ring (of_along a b t r t m)
@@ -138,7 +138,7 @@ of_round a b (t ∷ r) m d = along_ring (of_along a b t r t m)
         by_direction (h, inl (p, q)) = (h, inl (subst (λ x. FollowsAlong x b t r t) (sym p) (subst (λ y. FollowsAlong s.u y t r t) (sym q) s.follows)))
         by_direction (h, inr (p, q)) = (h, inr (subst (λ x. FollowsAlong x a t r t) (sym q) (subst (λ y. FollowsAlong s.u y t r t) (sym p) s.follows)))
 
--- the law
+-- proof of the law `EdgesAreCounted`
 pub edges_are_counted : EdgesAreCounted
 edges_are_counted qs = record {
   list = distinct (flat_map pairs_round qs);

@@ -1,4 +1,4 @@
--- The edges of a solid: at most one face goes along each this way.
+-- The edges of a solid: at most one face has a given step.
 use Rattle.std.proofs.{Common.◌≡◌, Common.ℕ, Common.arith, Common.sym, Common.◌∙◌, Common.List, lemmas.Int.ints}
 use Rattle.std.specs.Prelude.{pos, ◌*ℤ◌, ◌≤ℤ◌}
 use Rattle.qh_model.specs.contract.IdSets.{HasDistinctPoints}
@@ -22,7 +22,7 @@ seen_from at A i j k u v y q p h z =
     scale : (l : ℕ) → pos h.s *ℤ vol (at i) (at j) (at k) (at l) ≡ pos h.t *ℤ vol (at u) (at v) (at y) (at l)
     scale l = vol_along (at i) (at j) (at k) (at u) (at v) (at y) (at l) h z
 
--- the law
+-- proof of the law `OneFaceEachWay`
 pub one_face_each_way : OneFaceEachWay
 one_face_each_way at ids i j k a b c p q u v d t r f g x y = from_thirds (third at ids d i j k p u v one) (third at ids d a b c q u v two)
   where
@@ -57,7 +57,7 @@ one_face_each_way at ids i j k a b c p q u v d t r f g x y = from_thirds (third 
         level : vol (at i) (at j) (at k) (at s.w) ≡ pos 0
         level = cancel-zero _ _ w.turns flat
 
--- of the faces of a set one alone goes from u to v
+-- only one of the faces of a set has the step from u to v
 pub one_face_a_step : (at : ℕ → Vector) (ids : List ℕ) (qs : List (List ℕ)) → HasDistinctPoints at (Members ids) → AreFaces at (Members ids) qs
     → (p q : List ℕ) → In p qs → In q qs → (u v : ℕ) → Follows u v p → Follows u v q → p ≡ q
 one_face_a_step at ids qs d faces p q i j u v f g = let x = faces.only p i in let y = faces.only q j in

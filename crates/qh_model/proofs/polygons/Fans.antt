@@ -1,4 +1,4 @@
--- Fans of triangles: their triangles are of their polygons, and support the set.
+-- Fans of triangles: the corners of their triangles are those of the polygons, and the triangles support the set.
 use Rattle.std.proofs.Common.{ℕ, ◌≡◌, List, [], ◌∷◌, All, inl, inr, refl, sym, subst, ⊎_elim}
 use Rattle.std.specs.Prelude.{pos, ◌<ℤ◌, ◌≤ℤ◌}
 use Rattle.qh_model.specs.contract.{FaceTriangles.face_triangles, IdSets.HasDistinctPoints}
@@ -11,7 +11,7 @@ use Rattle.qh_model.proofs.algebra.VectorIdentities.{vol-first, in_line-left, le
 use Rattle.qh_model.proofs.{extremes.Directions.square-positive, extremes.SpanningTriples.planes_of_extremes, lists.Joined.of_flat_map}
 use Rattle.qh_model.proofs.polygons.{LeftOfEdge.third, Neighbours.follows_members, PlaneTurns.level_volume}
 
--- the law
+-- proof of the law `CornersSupport`
 pub corners_support : CornersSupport
 corners_support at ids i j k q t p u v w f m wu wv =
     let n = cross (at i) (at j) (at k) in
@@ -30,7 +30,7 @@ corners_support at ids i j k q t p u v w f m wu wv =
     }
 
 -- ---- the triangles of a fan
--- a triangle of the first and of two neighbours on the way from u along the list
+-- a triangle has the first corner and two neighbours on the path from u along the list
 record IsTriangleAlong (first u : ℕ) (r t : List ℕ) : Type 0 where
   v : ℕ
   w : ℕ
@@ -39,7 +39,7 @@ record IsTriangleAlong (first u : ℕ) (r t : List ℕ) : Type 0 where
   has_w : In w r
   follows : (e : ℕ) → FollowsAlong v w u r e
 
--- so is each of a fan
+-- each triangle of a fan has such corners
 triangle_along : (first u : ℕ) (r t : List ℕ) → In t (triangles_along first u r) → IsTriangleAlong first u r t
 triangle_along first u [] t m = absurd m
 triangle_along first u (x ∷ r) t (inl e) = record { v = u; w = x; is = e; has_v = inl refl; has_w = inl refl; follows = λ e. inl (refl, refl) }
@@ -55,7 +55,7 @@ triangle_members (a ∷ b ∷ r) t m i h =
     let s = triangle_along a b r t m in
     each_of_three (λ j. In j (a ∷ b ∷ r)) a s.v s.w (inl refl) (inr s.has_v) (inr (inr s.has_w)) i (subst (In i) s.is h)
 
--- what holds for the ids of a face holds for those of its triangles
+-- a fact about the ids of a face holds for those of its triangles
 pub triangles_all : (P : ℕ → Type 0) (q : List ℕ) → All P q → All (All P) (face_triangles q)
 triangles_all P q all =
     All-of (All P) (face_triangles q) (λ t m. All-of P t (λ i h. All-In P q i all (triangle_members q t m i h)))
@@ -72,7 +72,7 @@ fan_members (a ∷ b ∷ c ∷ r) t m i h = triangle_members (a ∷ b ∷ c ∷ 
 
 -- ---- the fans of faces
 module _ (at : ℕ → Vector) (ids : List ℕ) (d : HasDistinctPoints at (Members ids)) (i j k : ℕ) (triple : IsSupportingTriple at (Members ids) i j k) where
-  -- a face has three corners or more, so its fan has triangles alone
+  -- a face has at least three corners, so its fan consists of triangles
   pub face_fan : (q t : List ℕ) → IsFacePolygon at (Members ids) i j k q → In t (fan q) → IsSupportingTriangle at (Members ids) t
   face_fan [] t p m =
       let s = planes_of_extremes at ids d i j k triple in
@@ -92,7 +92,7 @@ module _ (at : ℕ → Vector) (ids : List ℕ) (d : HasDistinctPoints at (Membe
         (λ e. p.once.0 (subst (λ x. In x (b ∷ c ∷ r)) (sym e) s.has_v)) (λ e. p.once.0 (inr (subst (λ x. In x (c ∷ r)) (sym e) s.has_w))),
   )
 
--- the law
+-- proof of the law `FansSupport`
 pub fans_support : FansSupport
 fans_support at ids qs d f t m =
     let r = of_flat_map fan qs t m in let p = f.only r.0 r.1 in face_fan at ids d p.0 p.1 p.2 p.3 r.0 t p.4 r.2

@@ -1,4 +1,4 @@
--- What lies to the left of an edge in the plane of its face: the other members of the plane.
+-- The side to the left of an edge in the plane of its face: the other members of the plane lie there.
 use Rattle.std.proofs.Common.{◌≡◌, ◌≢◌, ℕ, arith, refl, sym, ap, subst, ◌∙◌, ◌⊎◌, inl, inr, List}
 use Rattle.std.proofs.lemmas.Int.{ints, by_lt_z}
 use native.Mathlib.Decide.{ℕ_discrete}
@@ -20,7 +20,7 @@ use Rattle.qh_model.proofs.polygons.{Neighbours.follows_members, PlaneTurns.leve
 pub at_most : (s l x y : ℤ) → pos 0 <ℤ s → s *ℤ x ≡ l *ℤ y → pos 0 ≤ℤ l → y ≤ℤ pos 0 → x ≤ℤ pos 0
 at_most s l x y h e p q = cancel-nonpos s x h (subst (λ v. v ≤ℤ pos 0) (sym e) (mul-nonneg_nonpos l y p q))
 
--- strictly
+-- the same strictly
 pub below : (s l x y : ℤ) → pos 0 <ℤ s → s *ℤ x ≡ l *ℤ y → pos 0 <ℤ l → y <ℤ pos 0 → x <ℤ pos 0
 below s l x y h e p q =
     by_lt_z x (pos 0) (λ k. k) (λ k. absurd (omega (arith, ints, e, mul-nonneg s x (positive_le s h) k, mul-pos_neg l y p q)))
@@ -31,7 +31,7 @@ turn_sign s l x y h e q k =
     by_lt_z l (pos 0) (λ p. absurd (omega (arith, ints, e, mul-nonneg_nonpos s x (positive_le s h) k, mul-neg_neg l y p q))) (λ p. p)
 
 -- ---- a third member
--- of three different numbers one is neither of two
+-- of three different numbers one is different from two given ones
 other_of_three : (x y z u v : ℕ) → x ≢ y → y ≢ z → x ≢ z → (w : ℕ) × ((w ≡ x) ⊎ (w ≡ y) ⊎ (w ≡ z)) × (w ≢ u) × (w ≢ v)
 other_of_three x y z u v xy yz xz = by_decision (ℕ_discrete x u) (ℕ_discrete x v) (ℕ_discrete y u) (ℕ_discrete y v)
   where
@@ -50,7 +50,7 @@ pub record Way (at : ℕ → Vector) (A : ℕ → Type 0) (i j k : ℕ) (q : Lis
   pub face : IsFacePolygon at A i j k q
   pub follows : Follows u v q
 
--- a third member of the polygon, to the left of the way from u to v
+-- a third member of the polygon, to the left of the line from u to v
 pub record Third (at : ℕ → Vector) (A : ℕ → Type 0) (i j k u v : ℕ) : Type 0 where
   pub w : ℕ
   pub member : OnPlane at (Extreme at A) i j k w
@@ -73,7 +73,7 @@ module _ (at : ℕ → Vector) (ids : List ℕ) (d : HasDistinctPoints at (Membe
   pub to_left : (w : ℕ) → OnPlane at (Extreme at (Members ids)) i j k w → w ≢ u → w ≢ v → pos 0 <ℤ left n (at u) (at v) (at w)
   to_left w h a b = way.face.round u v way.follows w ((way.face.members w).1 h) a b
 
-  -- there is a third
+  -- there is a third member
   pub third : Third at (Members ids) i j k u v
   third = record { w = f.0; member = on f.0 f.1; not_u = f.2; not_v = f.3; turns = to_left f.0 (on f.0 f.1) f.2 f.3 }
     where
@@ -127,7 +127,7 @@ module _ (at : ℕ → Vector) (ids : List ℕ) (d : HasDistinctPoints at (Membe
           (λ p. omega (arith, ints, ap (λ t. left n (at u) (at v) (at t)) p ∙ in_line-left n (at u) (at v) (at v) (in_line-last (at u) (at v))))
           (λ b. positive_le _ (to_left x e a b)))
 
-      -- along the opposite of c all extremes are lower than what lies to the right
+      -- along the opposite of c all extremes are lower than a member to the right
       lower : (x : ℕ) → Extreme at F x → left n (at u) (at v) (at l) <ℤ pos 0 → dot (opposite c) (at x) <ℤ dot (opposite c) (at l)
       lower x e r = rw (dot-opposite c (at x), dot-opposite c (at l)) (omega (
         arith,

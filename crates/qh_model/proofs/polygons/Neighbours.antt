@@ -1,8 +1,8 @@
--- Neighbours on the way round a polygon.
+-- Neighbours round a polygon.
 use Rattle.std.proofs.Common.{◌≡◌, ℕ, refl, sym, ◌⊎◌, inl, inr, List, [], ◌∷◌, ⊎_elim}
 use Rattle.qh_model.specs.headline.{Polygon.FollowsAlong, Polygon.Follows, Sets.In}
 
--- neighbours on a way are on it
+-- neighbours on a path are members of it
 pub along_members : (u v t : ℕ) (r : List ℕ) (e : ℕ) → FollowsAlong u v t r e → In u (t ∷ r) × ((v ≡ e) ⊎ In v r)
 along_members u v t [] e f = (inl (sym f.0), inl (sym f.1))
 along_members u v t (w ∷ r) e (inl f) = (inl (sym f.0), inr (inl (sym f.1)))
@@ -13,14 +13,14 @@ pub follows_members : (u v : ℕ) (q : List ℕ) → Follows u v q → In u q ×
 follows_members u v [] f = absurd f
 follows_members u v (t ∷ r) f = let g = along_members u v t r t f in (g.0, g.1)
 
--- each id on a way has one after it
+-- each id on a path has a successor
 pub along_next : (u t : ℕ) (r : List ℕ) (e : ℕ) → In u (t ∷ r) → (v : ℕ) × FollowsAlong u v t r e
 along_next u t [] e (inl h) = (e, (sym h, refl))
 along_next u t [] e (inr h) = absurd h
 along_next u t (w ∷ r) e (inl h) = (w, inl (sym h, refl))
 along_next u t (w ∷ r) e (inr h) = let g = along_next u w r e h in (g.0, inr g.1)
 
--- each member has one after it
+-- each member of a polygon has a successor
 pub next_member : (u : ℕ) (q : List ℕ) → In u q → (v : ℕ) × Follows u v q
 next_member u [] i = absurd i
 next_member u (t ∷ r) i = along_next u t r t i

@@ -1,4 +1,4 @@
--- The edges of a solid: another face goes along each the other way, found by turning a plane about the edge.
+-- The edges of a solid: another face has the reversed step, found by turning a plane about the edge.
 use Rattle.std.proofs.Common.{◌≡◌, ◌≢◌, ℕ, arith, sym, subst, ◌∙◌, inl, inr, ⊎_elim, List, Bool, true}
 use Rattle.std.proofs.lemmas.Int.{ints, by_lt_z}
 use native.Mathlib.Decide.{ℕ_discrete}
@@ -16,11 +16,11 @@ use Rattle.qh_model.proofs.polygons.LeftOfEdge.{at_most, below, turn_sign, Way, 
 use Rattle.qh_model.proofs.polygons.{Neighbours.follows_members, Neighbours.next_member, PlaneTurns.level_volume}
 use Rattle.qh_model.proofs.surfaces.VisibleFacets.{Least, least}
 
--- turned about, and with the last two exchanged, a volume is the same
+-- a volume with reversed edge and with its last two points swapped is the same
 vol-both : (u v x y : Vector) → vol v u y x ≡ vol u v x y
 vol-both u v x y = omega (arith, ints, vol-flip v u y x, vol-swap_last u v y x)
 
--- of two points the one beyond the plane of the other and the line u v comes first, by their volumes with a and b
+-- of two points, the one beyond the plane through the other and the line u v comes first, by their volumes with a and b
 gift_wrap : (u v a b p y : Vector) → pos 0 <ℤ vol u v a b → pos 0 <ℤ vol u v p y → pos 0 <ℤ (vol u v a p *ℤ vol u v b y -ℤ vol u v b p *ℤ vol u v a y)
 gift_wrap u v a b p y h k =
     rw (mul_comm (vol u v b p) (vol u v a y), edge_product u v a b p y) (mul-pos (vol u v a b) (vol u v p y) h k)
@@ -35,16 +35,16 @@ module _ (at : ℕ → Vector) (ids : List ℕ) (d : HasDistinctPoints at (Membe
   under : (l : ℕ) → height l <ℤ pos 0 → vol (at u) (at v) (at x.w) (at l) <ℤ pos 0
   under l h = below _ _ _ _ (square at ids d i j k q u v way) (over at ids d i j k q u v way x.w (at l) x.member.1) x.turns h
 
-  -- for no member are they above
+  -- no member has a volume above 0
   not_over : (l : ℕ) → Members ids l → vol (at u) (at v) (at x.w) (at l) ≤ℤ pos 0
   not_over l h = at_most _ _ _ _ (square at ids d i j k q u v way) (over at ids d i j k q u v way x.w (at l) x.member.1)
       (positive_le _ x.turns) (way.triple.supports l h)
 
-  -- over the edge turned about, they are above 0
+  -- over the reversed edge the volumes are above 0
   turned : (l : ℕ) → height l <ℤ pos 0 → pos 0 <ℤ vol (at v) (at u) (at x.w) (at l)
   turned l h = rw (vol-flip (at v) (at u) (at x.w) (at l)) (neg-positive _ (under l h))
 
-  -- a member below the plane with no member below the plane beyond the plane of the edge and it
+  -- a member below the plane, with no member below the plane beyond the plane of the edge and this member
   record Next : Type 0 where
     w : ℕ
     has_w : Members ids w
@@ -67,7 +67,7 @@ module _ (at : ℕ → Vector) (ids : List ℕ) (d : HasDistinctPoints at (Membe
   abbrev marked : ℕ → Bool
   marked l = test (less_or_not (height l) (pos 0))
 
-  -- the plane turned about the edge as far as the first member
+  -- the plane turned about the edge up to the first member
   next : Next
   next =
       ⊎_elim (λ f. absurd (none f)) (λ b. ⊎_elim (λ f. absurd (none f)) (λ m. from_both b m)
@@ -80,7 +80,7 @@ module _ (at : ℕ → Vector) (ids : List ℕ) (d : HasDistinctPoints at (Membe
       none : ((g : ℕ) → In g ids → marked g ≡ true → ⊥) → ⊥
       none f = some_below (λ l h r. f l h (told (less_or_not (height l) (pos 0)) r))
 
-      -- the member that comes first by its volumes with x and with the first one found
+      -- the member that comes first by its volumes with x and with the first member found
       from_both : (b : Least marked (λ l. vol (at v) (at u) (at x.w) (at l)) (λ l. pos 0) ids)
           → Least marked (λ l. vol (at v) (at u) (at x.w) (at l)) (λ l. vol (at v) (at u) (at b.m) (at l)) ids → Next
       from_both b m = record {
@@ -112,7 +112,7 @@ module _ (at : ℕ → Vector) (ids : List ℕ) (d : HasDistinctPoints at (Membe
               (at_most _ _ _ _ (square at ids d i j k q u v way) (over at ids d i j k q u v way l (at w.w) e)
               (not_right at ids d i j k q u v way l (h, e)) (way.triple.supports w.w w.has_w))
 
-  -- in its polygon u comes after v
+  -- in the polygon of this plane u comes after v
   comes_back : (w : Next) (p : List ℕ) → IsFacePolygon at (Members ids) v u w.w p → Follows v u p
   comes_back w p f =
       let y = next_member v p ((f.members v).1 ((has_v at ids d i j k q u v way).0, vol-first (at v) (at u) (at w.w))) in
@@ -130,7 +130,7 @@ module _ (at : ℕ → Vector) (ids : List ℕ) (d : HasDistinctPoints at (Membe
           let line = subst (λ t. AreInLine (at u) (at t) (at x.w)) e (in_line-twice (at u) (at x.w)) in
           omega (arith, ints, x.turns, in_line-left (cross (at i) (at j) (at k)) (at u) (at v) (at x.w) line)
 
-      -- no member of the new plane lies to the right of the edge turned about
+      -- no member of the new plane lies to the right of the reversed edge
       not_right' : (y : ℕ) → In y p → pos 0 ≤ℤ left (cross (at v) (at u) (at w.w)) (at v) (at u) (at y)
       not_right' y m = let o = (f.members y).0 m in
           turn_sign _ _ _ _ (square-positive (cross (at v) (at u) (at w.w)) (triple w).area)
@@ -138,7 +138,7 @@ module _ (at : ℕ → Vector) (ids : List ℕ) (d : HasDistinctPoints at (Membe
           (subst (λ z. z <ℤ pos 0) (sym (vol-both (at u) (at v) (at x.w) (at w.w))) (under w.w w.low))
           (subst (λ z. z ≤ℤ pos 0) (sym (vol-both (at u) (at v) (at x.w) (at y))) (not_over y o.0.0))
 
--- the law
+-- proof of the law `OtherFace`
 pub other_face : OtherFace
 other_face at ids qs d (inr (inl e)) faces q m u v f = absurd (omega arith)
 other_face at ids qs d (inr (inr (inl e))) faces q m u v f = absurd (omega arith)

@@ -7,7 +7,7 @@ use Rattle.qh_model.proofs.algebra.Ring.{ring, Expr.add, Expr.sub as less, Expr.
 use Rattle.qh_model.proofs.algebra.VectorIdentities.{vec, put, dotE, combine3, vol-dot, left-dot, dot_comm}
 use Rattle.qh_model.proofs.extremes.Directions.{Parallel, parallel_normal, along_by, square-positive, from_plane}
 
--- parallel vectors measure alike
+-- the scalar products with parallel vectors are proportional
 pub parallel_dot : (n r q : Vector) → Parallel n r → dot n n *ℤ dot r q ≡ dot n r *ℤ dot n q
 parallel_dot n r q h =
     combine3 (dot n n *ℤ dot r q) (dot n r *ℤ dot n q)
@@ -23,7 +23,7 @@ parallel_dot n r q h =
 pub level_parallel : (a b c u v l : Vector) → vol a b c u ≡ pos 0 → vol a b c v ≡ pos 0 → vol a b c l ≡ pos 0 → Parallel (cross a b c) (cross u v l)
 level_parallel a b c u v l hu hv hl = parallel_normal (cross a b c) u v l (from_plane a b c u v hu ∙ hv) (from_plane a b c u l hu ∙ hl)
 
--- the volume over three points of a plane, by their turn and the height of the fourth
+-- the volume over three points of a plane, from their turn and the height of the fourth point
 pub level_volume : (a b c u v l w : Vector) → vol a b c u ≡ pos 0 → vol a b c v ≡ pos 0 → vol a b c l ≡ pos 0
     → dot (cross a b c) (cross a b c) *ℤ vol u v l w ≡ left (cross a b c) u v l *ℤ vol a b c w
 level_volume a b c u v l w hu hv hl =
@@ -31,7 +31,7 @@ level_volume a b c u v l w hu hv hl =
     ap (λ x. dot n n *ℤ x) (vol-dot u v l w) ∙ parallel_dot n (cross u v l) (minus w u) (level_parallel a b c u v l hu hv hl)
     ∙ ap (λ x. x *ℤ dot n (minus w u)) (dot_comm n (cross u v l) ∙ sym (left-dot n u v l)) ∙ ap (λ x. left n u v l *ℤ x) (from_plane a b c u w hu)
 
--- three points of a plane that turn left have its direction
+-- three points of a plane that turn left have the direction of the plane
 pub level_along : (a b c u v l : Vector) → ¬ (AreInLine a b c) → vol a b c u ≡ pos 0 → vol a b c v ≡ pos 0
     → vol a b c l ≡ pos 0 → pos 0 <ℤ left (cross a b c) u v l → IsAlong (cross a b c) (cross u v l)
 level_along a b c u v l area hu hv hl h =

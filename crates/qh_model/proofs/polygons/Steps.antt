@@ -8,7 +8,7 @@ use Rattle.qh_model.proofs.{closed_surfaces.SignedVolume.back, closed_surfaces.S
 use Rattle.qh_model.proofs.lists.{Joined.in_flat_map, Joined.of_flat_map, Lexicographic.before-asymmetric, Lexicographic.rising-ordered, Ordered.Ordered}
 use Rattle.qh_model.proofs.polygons.{Edges.one_face_a_step, Neighbours.along_members, OtherFace.other_face}
 
--- there is a step for each corner
+-- each corner has a step
 pub length_steps : (q : List ℕ) → length (steps_round q) ≡ length q
 length_steps [] = refl
 length_steps (t ∷ r) = along t r t
@@ -23,11 +23,11 @@ Has u v ps = In {X = ℕ × ℕ} (u, v) ps
 pair : {a b c d : ℕ} → a ≡ c → b ≡ d → ◌≡◌ {A = ℕ × ℕ} (a, b) (c, d)
 pair e f = cc
 
--- equal pairs have equal parts, told from the second
+-- equal pairs have equal components, from the second
 ends : {a b c d : ℕ} → ◌≡◌ {A = ℕ × ℕ} (a, b) (c, d) → (c ≡ a) × (d ≡ b)
 ends p = (sym (ap (λ (x : ℕ × ℕ). x.0) p), sym (ap (λ (x : ℕ × ℕ). x.1) p))
 
--- the steps on a way
+-- the steps on a path
 on_along : (u v t : ℕ) (r : List ℕ) (e : ℕ) → Has u v (steps_along t r e) ↔ FollowsAlong u v t r e
 on_along u v t [] e = (λ m. ⊎_elim (λ p. ends p) (λ n. absurd n) m, λ f. inl (pair (sym f.0) (sym f.1)))
 on_along u v t (w ∷ r) e = (
@@ -40,7 +40,7 @@ pub on_round : (u v : ℕ) (q : List ℕ) → Has u v (steps_round q) ↔ Follow
 on_round u v [] = (λ m. m, λ f. f)
 on_round u v (t ∷ r) = on_along u v t r t
 
--- each is there once
+-- each step occurs once
 once_along : (t : ℕ) (r : List ℕ) (e : ℕ) → Once (t ∷ r) → Once (steps_along t r e)
 once_along t [] e o = ((λ m. m), tt)
 once_along t (w ∷ r) e o = ((λ m. o.0 (along_members t w w r e ((on_along t w w r e).0 m)).0), once_along w r e o.1)
@@ -49,7 +49,7 @@ once_round : (q : List ℕ) → Once q → Once (steps_round q)
 once_round [] o = tt
 once_round (t ∷ r) o = once_along t r t o
 
--- where no two polygons take the same step each step is there once
+-- if no two polygons take the same step, each step occurs once
 all_once : (qs : List (List ℕ)) → Once qs → ((q : List ℕ) → In q qs → Once q)
     → ((p q : List ℕ) → In p qs → In q qs → (u v : ℕ) → Follows u v p → Follows u v q → p ≡ q)
     → Once (flat_map steps_round qs)
@@ -62,12 +62,12 @@ all_once (q ∷ qs) o each one =
     apart (u, v) i j = let r = of_flat_map steps_round qs (u, v) j in
         o.0 (subst (λ (p : List ℕ). In p qs) (sym (one q r.0 (inl refl) (inr r.1) u v ((on_round u v q).0 i) ((on_round u v r.0).0 r.2))) r.1)
 
--- ordered lists are there once each
+-- each list in an ordered list of lists occurs once
 pub ordered_once : (qs : List (List ℕ)) → Ordered ComesBefore qs → Once qs
 ordered_once [] o = tt
 ordered_once (q ∷ qs) o = (λ i. before-asymmetric q q (o.0 q i) (o.0 q i), ordered_once qs o.1)
 
--- the law
+-- proof of the law `FacesClose`
 pub faces_close : FacesClose
 faces_close at ids qs d solid faces u v = le_antisymm (half u v) (half v u)
   where

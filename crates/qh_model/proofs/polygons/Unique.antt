@@ -1,4 +1,4 @@
--- One list alone goes round a set and begins with its least id.
+-- Only one list goes round a set and begins with its least id.
 use Rattle.std.proofs.Common.{◌≡◌, ℕ, refl, List, [], ◌∷◌, arith, sym, subst, inl, inr, ⊎_elim}
 use Rattle.std.proofs.lemmas.Int.{ints}
 use native.Mathlib.Decide.{ℕ_discrete}
@@ -7,7 +7,7 @@ use Rattle.qh_model.specs.headline.{Polygon.TurnsLeft, Polygon.IsPolygon, Sets.I
 use Rattle.qh_model.specs.{headline.Vector.Vector, laws.PolygonLaws.PolygonIsUnique}
 use Rattle.qh_model.proofs.{algebra.VectorIdentities.left-flip, polygons.Cycles.AlongPath, polygons.Cycles.round_told}
 
--- the rests of two walks from u on
+-- the rests of two walks from u are equal
 follow : (n : Vector) (at : ℕ → Vector) (q p : List ℕ) → ((x : ℕ) → In x q ↔ In x p) → (u : ℕ) (r s : List ℕ) (e : ℕ)
     → ((x : ℕ) → In x (u ∷ r) → In x q) → ((x : ℕ) → In x (u ∷ s) → In x p) → ((x : ℕ) → In x (u ∷ r) ↔ In x (u ∷ s))
     → Once (u ∷ r) → Once (u ∷ s) → AlongPath (TurnsLeft at n q) u r e → AlongPath (TurnsLeft at n p) u s e → r ≡ s
@@ -38,13 +38,13 @@ follow n at q p m u (v ∷ r) (w ∷ s) e f g i o k a b = with_rest (λ f' g' i'
         let ahead = a.0 w ((m w).1 (g w (inr (inl refl)))) (λ d. k.0 (inl (sym d))) (λ d. ne (sym d)) in
         absurd (omega (arith, ints, ahead, left-flip n (at u) (at v) (at w), b.0 v ((m v).0 (f v (inr (inl refl)))) (λ d. o.0 (inl (sym d))) ne))
 
--- heads that are least in lists with the same members are one
+-- heads that are least in lists with the same members are equal
 heads : (u v : ℕ) (us vs : List ℕ) → BeginsWithLeast (u ∷ us) → BeginsWithLeast (v ∷ vs) → In v (u ∷ us) → In u (v ∷ vs) → u ≡ v
 heads u v us vs f g (inl e) j = sym e
 heads u v us vs f g (inr i) (inl e) = e
 heads u v us vs f g (inr i) (inr j) = let x = f v i in let y = g u j in omega arith
 
--- a set and a normal have one polygon
+-- a set and a normal have at most one polygon
 pub one_polygon : (at : ℕ → Vector) (X : ℕ → Type 0) (n : Vector) (p q : List ℕ) → IsPolygon at X n p → IsPolygon at X n q → p ≡ q
 one_polygon at X n [] [] a b = refl
 one_polygon at X n [] (v ∷ q) a b = absurd ((a.members v).1 ((b.members v).0 (inl refl)))
@@ -62,6 +62,6 @@ one_polygon at X n (u ∷ p) (v ∷ q) a b = finish (heads u v p q a.least b.lea
         (subst (λ t. AlongPath (TurnsLeft at n (v ∷ q)) t q t) (sym e) (round_told (TurnsLeft at n (v ∷ q)) (v ∷ q) b.round)) in
         cc
 
--- the law
+-- proof of the law `PolygonIsUnique`
 pub polygon_is_unique : PolygonIsUnique
 polygon_is_unique at ids n p q a b = one_polygon at (Members ids) n p q a b

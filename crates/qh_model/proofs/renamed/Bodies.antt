@@ -1,10 +1,10 @@
--- The hull of a set renamed in its order.
+-- The hull of a set that is renamed in its order.
 use Rattle.std.proofs.Common.{◌≡◌, ℕ, List, [], ◌∷◌, map, sym, subst, ◌∙◌, inl, inr, ⊎_elim}
 use Rattle.qh_model.specs.headline.{Hull.BodyValue, Hull.IsBody, Polygons.ArePolygons, Sets.In, Vector.Vector}
 use Rattle.qh_model.proofs.renamed.{Edges.edge_count_renamed, Lists.AreWithin, Lists.rising_map, Polygons.members_renamed, Polygons.polygons_renamed}
 use Rattle.qh_model.proofs.renamed.Renaming.{IsRenaming, extremes_renamed, dimension_renamed}
 
--- the one member of a list of one
+-- the only member of a list of one
 alone : (qs : List (List ℕ)) (p : List ℕ) → qs ≡ p ∷ [] → (q : List ℕ) → In q qs → q ≡ p
 alone qs p s q m = ⊎_elim (λ d. d) (λ n. absurd n) (subst (In q) s m)
 
@@ -18,7 +18,7 @@ polygon_members at A k qs (inr (inr (inr (e, (p, h, s))))) q m i j =
     ⊎_elim (λ d. subst A (sym d) h.has_i) (λ n. absurd n) (subst (In i) (alone qs p s q m ∙ h.is) j)
 
 -- ---- all parts
--- a body by other names of its ids
+-- the body with other names of its ids
 abbrev pub renamed_body : (ℕ → ℕ) → BodyValue → BodyValue
 renamed_body f b = record b { extremes = map f b.extremes; polygons = map (map f) b.polygons }
 

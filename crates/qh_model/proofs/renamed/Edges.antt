@@ -1,4 +1,4 @@
--- The edges of a set renamed in its order.
+-- The edges of a set that is renamed in its order.
 use Rattle.std.proofs.Common.{◌≡◌, ℕ, ◌<◌, ◌⊎◌, List, map, sym, ap, subst, ◌∙◌, inl, inr, ⊎_elim}
 use Rattle.std.proofs.lemmas.List.{length-map}
 use Rattle.qh_model.specs.headline.{Polygon.Follows, Polygons.IsEdge, Polygons.IsEdgeCount, Sets.In, Vector.Vector}
@@ -11,13 +11,13 @@ module _ {at at' : ℕ → Vector} {A B : ℕ → Type 0} {f g : ℕ → ℕ} (r
   edge_members qs within u v (h, (q, m, inl s)) = let e = follows_members u v q s in (within q m u e.0, within q m v e.1)
   edge_members qs within u v (h, (q, m, inr s)) = let e = follows_members v u q s in (within q m u e.1, within q m v e.0)
 
-  -- an edge by its names
+  -- an edge with renamed ends
   edge_renamed : (qs : List (List ℕ)) → AreWithin A qs → (u v : ℕ) → IsEdge qs u v → IsEdge (map (map f) qs) (f u) (f v)
   edge_renamed qs within u v (h, (q, m, n)) =
       let ends = edge_members qs within u v (h, (q, m, n)) in
       (r.rises u v ends.0 ends.1 h, (map f q, in_map (map f) qs q m, ⊎_elim (λ s. inl (follows_map f u v q s)) (λ s. inr (follows_map f v u q s)) n))
 
-  -- an edge of the names is one of ids
+  -- an edge of the names is an edge of ids
   of_edge_renamed : (qs : List (List ℕ)) → AreWithin A qs → (u v : ℕ) → IsEdge (map (map f) qs) u v → (a : ℕ) × (b : ℕ) × IsEdge qs a b × (u ≡ f a) × (v ≡ f b)
   of_edge_renamed qs within u v (h, (p, m, n)) = from (of_map (map f) qs p m) n
     where
@@ -32,7 +32,7 @@ module _ {at at' : ℕ → Vector} {A B : ℕ → Type 0} {f g : ℕ → ℕ} (r
           let o = of_follows_map f v u q (subst (Follows v u) s w) in let e = follows_members o.0 o.1 q o.2 in
           (o.1, o.0, (lower o.1 o.0 (within q i o.1 e.1) (within q i o.0 e.0) o.4 o.3, (q, i, inr o.2)), o.4, o.3)
 
-  -- their number stays
+  -- the number of edges stays the same
   pub edge_count_renamed : (qs : List (List ℕ)) (n : ℕ) → AreWithin A qs → IsEdgeCount qs n → IsEdgeCount (map (map f) qs) n
   edge_count_renamed qs n within c = record {
     list = map both c.list;

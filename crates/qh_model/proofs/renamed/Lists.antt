@@ -1,4 +1,4 @@
--- Images of lists of ids under a renaming: members once, neighbours, the least first, and lexicographic order.
+-- Images of lists of ids under a renaming: members once, neighbours, the least id first, and lexicographic order.
 use Rattle.std.proofs.Common.{◌≡◌, ℕ, ◌+◌, ◌<◌, ◌≤◌, refl, List, [], ◌∷◌, length, get_or, map, arith, ap, sym, subst, inl, inr}
 use Rattle.std.proofs.lemmas.List.{length-map, get_or-map}
 use Rattle.std.specs.List.Sorted.{IsStrictlyIncreasing}
@@ -6,7 +6,7 @@ use Rattle.qh_model.specs.headline.Polygon.{FollowsAlong, Follows}
 use Rattle.qh_model.specs.headline.{Polygons.ComesBefore, Polygons.RisesFrom, Polygons.RiseStrictly, Sets.In, Sets.BeginsWithLeast}
 use Rattle.qh_model.proofs.{Members.In-get_or, lists.Images.of_map}
 
--- the neighbours that neighbours on the image of a way come from
+-- the neighbours whose images are neighbours on the image of a path
 record OldNeighbours (f : ℕ → ℕ) (u v t : ℕ) (r : List ℕ) (e : ℕ) : Type 0 where
   a : ℕ
   b : ℕ
@@ -14,13 +14,13 @@ record OldNeighbours (f : ℕ → ℕ) (u v t : ℕ) (r : List ℕ) (e : ℕ) : 
   first : u ≡ f a
   second : v ≡ f b
 
--- neighbours on a way have neighbours as images
+-- neighbours on a path have neighbours as images
 along_map : (f : ℕ → ℕ) (u v t : ℕ) (r : List ℕ) (e : ℕ) → FollowsAlong u v t r e → FollowsAlong (f u) (f v) (f t) (map f r) (f e)
 along_map f u v t [] e h = (ap f h.0, ap f h.1)
 along_map f u v t (w ∷ r) e (inl h) = inl (ap f h.0, ap f h.1)
 along_map f u v t (w ∷ r) e (inr h) = inr (along_map f u v w r e h)
 
--- and those on the image come from neighbours
+-- neighbours on the image are images of neighbours
 of_along_map : (f : ℕ → ℕ) (u v t : ℕ) (r : List ℕ) (e : ℕ) → FollowsAlong u v (f t) (map f r) (f e) → OldNeighbours f u v t r e
 of_along_map f u v t [] e h = record { a = t; b = e; follows = (refl, refl); first = sym h.0; second = sym h.1 }
 of_along_map f u v t (w ∷ r) e (inl h) = record { a = t; b = w; follows = inl (refl, refl); first = sym h.0; second = sym h.1 }
@@ -33,7 +33,7 @@ pub follows_map : (f : ℕ → ℕ) (u v : ℕ) (q : List ℕ) → Follows u v q
 follows_map f u v [] h = absurd h
 follows_map f u v (t ∷ r) h = along_map f u v t r t h
 
--- and those round the image are images of neighbours
+-- neighbours round the image are images of neighbours
 pub of_follows_map : (f : ℕ → ℕ) (u v : ℕ) (q : List ℕ) → Follows u v (map f q) → (a : ℕ) × (b : ℕ) × Follows a b q × (u ≡ f a) × (v ≡ f b)
 of_follows_map f u v [] h = absurd h
 of_follows_map f u v (t ∷ r) h = let s = of_along_map f u v t r t h in (s.a, s.b, s.follows, s.first, s.second)
@@ -62,17 +62,17 @@ module _ (A : ℕ → Type 0) (f : ℕ → ℕ) (rises : (i j : ℕ) → A i →
   before_map (u ∷ p) (v ∷ q) a b (inl h) = inl (rises u v (a u (inl refl)) (b v (inl refl)) h)
   before_map (u ∷ p) (v ∷ q) a b (inr h) = inr (ap f h.0, before_map p q (λ i m. a i (inr m)) (λ i m. b i (inr m)) h.1)
 
-  -- and each the next
+  -- lists keep their order, each with the next
   rises_map : (q : List ℕ) (ps : List (List ℕ)) → ((i : ℕ) → In i q → A i) → AreWithin A ps → RisesFrom q ps → RisesFrom (map f q) (map (map f) ps)
   rises_map q [] a b h = tt
   rises_map q (p ∷ ps) a b h = (before_map q p a (b p (inl refl)) h.0, rises_map p ps (b p (inl refl)) (λ t i. b t (inr i)) h.1)
 
-  -- lists of lists go on rising
+  -- the images of rising lists of lists rise
   pub rise_map : (qs : List (List ℕ)) → AreWithin A qs → RiseStrictly qs → RiseStrictly (map (map f) qs)
   rise_map [] within h = tt
   rise_map (q ∷ qs) within h = rises_map q qs (within q (inl refl)) (λ t i. within t (inr i)) h
 
-  -- and so do lists of numbers
+  -- the images of rising lists of numbers rise
   pub rising_map : (xs : List ℕ) → ((i : ℕ) → In i xs → A i) → IsStrictlyIncreasing xs → IsStrictlyIncreasing (map f xs)
   rising_map xs within h k l =
       let inside : k + 1 < length xs = subst (λ n. k + 1 < n) (length-map xs f) l in

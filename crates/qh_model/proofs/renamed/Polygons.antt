@@ -1,4 +1,4 @@
--- The polygons of a set renamed in its order.
+-- The polygons of a set that is renamed in its order.
 use Rattle.std.proofs.Common.{◌↔◌, ◌≡◌, ℕ, ◌⊎◌, List, map, refl, sym, ap, subst, ◌∙◌, inl, inr, ⊎_elim}
 use Rattle.std.specs.Prelude.{pos, ◌<ℤ◌, ◌≤ℤ◌}
 use Rattle.qh_model.specs.headline.{Extreme.Extreme, Polygon.Follows, Polygon.TurnsLeft, Polygon.IsPolygon}
@@ -9,7 +9,7 @@ use Rattle.qh_model.proofs.renamed.{Lists.AreWithin, Lists.of_follows_map, Lists
 use Rattle.qh_model.proofs.renamed.Renaming.{renaming_apart, renaming_back, part_renamed, normal_renamed, volume_renamed, extreme_renamed, extremes_renamed}
 
 module _ {at at' : ℕ → Vector} {A B : ℕ → Type 0} {f g : ℕ → ℕ} (r : IsRenaming at at' A B f g) where
-  -- a list has the members of A: its image has their names
+  -- a list has the members of A, and its image has their names
   pub members_renamed : (q : List ℕ) → ((i : ℕ) → In i q ↔ A i) → (k : ℕ) → In k (map f q) ↔ B k
   members_renamed q members k = (
     λ m. let s = of_map f q k m in subst B (sym s.2) (r.to s.0 ((members s.0).0 s.1)),
@@ -38,7 +38,7 @@ module _ {at at' : ℕ → Vector} {A B : ℕ → Type 0} {f g : ℕ → ℕ} (r
           subst (λ z. pos 0 <ℤ z) (λ z. left (same z) (place a u is_a (of a ends.0) z) (place b v is_b (of b ends.1) z) (place c w is_c (of c has) z))
           (p.round a b follows c has (λ t. not_u (is_c ∙ ap f t ∙ sym is_a)) (λ t. not_v (is_c ∙ ap f t ∙ sym is_b)))
 
-  -- a supporting triple by its names
+  -- a supporting triple with renamed ids
   triple_renamed : (i j k : ℕ) → IsSupportingTriple at A i j k → IsSupportingTriple at' B (f i) (f j) (f k)
   triple_renamed i j k t = record {
     has_i = r.to i t.has_i;

@@ -1,4 +1,4 @@
--- The members of a rising list named by their positions: the list of their points has the same hull, by these names.
+-- The members of a rising list named by their positions: the list of their points has the same hull under these names.
 use Rattle.std.proofs.Common.{◌≡◌, ℕ, zero, suc, ◌<◌, refl, List, [], ◌∷◌, length, get_or, map, arith, sym, ap, subst, ◌∙◌}
 use Rattle.std.proofs.{Common.⊎_elim, Common.eq-eqb, Common.ne_eqb, lemmas.List.length-map, lemmas.List.get_or-map}
 use mathlib.Core.Logic.{dite}
@@ -11,13 +11,13 @@ use Rattle.qh_model.proofs.{lists.Images.of_map, lists.Rising.rising_between, re
 use Rattle.qh_model.proofs.renamed.{Bodies.body_renamed, Lists.rising_map, Renaming.IsRenaming, Renaming.renaming_apart, Renaming.renaming_back}
 
 -- ---- positions
--- a member's position is one of the list, and it stands there
+-- a member's position is one of the list, and the member is at it
 pub at_number : (xs : List ℕ) (i : ℕ) → In i xs → (vertex_number xs i < length xs) × (get_or xs (vertex_number xs i) 0 ≡ i)
 at_number [] i m = absurd m
 at_number (x ∷ xs) i m = dite (ℕ_discrete x i) (λ e. rw (eq-eqb x i e) (omega arith, e)) (λ n.
     let r = at_number xs i (⊎_elim (λ d. absurd (n (sym d))) (λ j. j) m) in let low = r.0 in rw (ne_eqb x i n) (omega (arith, low), r.1))
 
--- the member at a position has this position, where each stands once
+-- the member at a position has this position, if each member occurs once
 pub number_at : (xs : List ℕ) (k : ℕ) → Once xs → k < length xs → vertex_number xs (get_or xs k 0) ≡ k
 number_at [] k o h = absurd (omega arith)
 number_at (x ∷ xs) zero o h = rw (eq-eqb x x refl) refl
@@ -45,7 +45,7 @@ vertex_numbers xs = map (vertex_number xs) xs
 abbrev pub points_of : List Vector → List ℕ → List Vector
 points_of pts xs = map (place pts) xs
 
--- the point at a member's position is its own
+-- the point at a member's position is that of the member
 pub point_at : (pts : List Vector) (xs : List ℕ) (i : ℕ) → In i xs → place (points_of pts xs) (vertex_number xs i) ≡ place pts i
 unfolding place
 point_at pts xs i m = let r = at_number xs i m in get_or-map (place pts) xs (vertex_number xs i) 0 origin r.0 ∙ ap (place pts) r.1
@@ -83,7 +83,7 @@ module _ (pts : List Vector) (A : ℕ → Type 0) (xs : List ℕ) (rising : IsSt
       let back = renaming_back by_position in
       renaming_apart back j k m n (apart (get_or xs j 0) (get_or xs k 0) (back.to j m) (back.to k n) (back.point j m ∙ e ∙ sym (back.point k n)))
 
-  -- they are the distinct ids of these points
+  -- the positions are the distinct ids of these points
   positions_distinct : HasDistinctPoints (place pts) A → AreDistinctIds (points_of pts xs) (vertex_numbers xs)
   positions_distinct apart = record {
     rising = rising_map A (vertex_number xs) by_position.rises xs (λ i m. (members i).0 m) rising;
@@ -107,7 +107,7 @@ module _ (pts : List Vector) (A : ℕ → Type 0) (xs : List ℕ) (rising : IsSt
 abbrev pub hull_of_extremes : HullValue → HullValue
 hull_of_extremes h = record { given = length h.body.extremes; distinct = length h.body.extremes; body = renamed_body (vertex_number h.body.extremes) h.body }
 
--- it is that of the list of their points
+-- this is the hull of the list of their points
 pub extreme_points_have_hull : (pts : List Vector) (h : HullValue) → IsHull pts h → IsHull (points_of pts h.body.extremes) (hull_of_extremes h)
 extreme_points_have_hull pts h s = record {
   ids = vertex_numbers xs;

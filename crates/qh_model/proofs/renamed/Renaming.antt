@@ -1,11 +1,11 @@
--- A set of ids renamed in its order, each with its point: its extreme ids and its dimension.
+-- A set of ids that is renamed in its order with the same points: its extreme ids and its dimension.
 use Rattle.std.proofs.Common.{◌≡◌, ℕ, ◌<◌, arith, sym, ap, subst, ◌∙◌}
 use Rattle.qh_model.specs.headline.{Vector.Vector, Combination.Combination, Dimension.IsDimension, Extreme.Others, Extreme.Extreme}
 use Rattle.qh_model.specs.headline.Predicates.{cross, vol}
 use Rattle.qh_model.proofs.combinations.OtherNames.{combination_by_names}
 use Rattle.qh_model.proofs.extremes.SameDimension.{dimension_as, tetrahedron_by_names, triangle_by_names, segment_by_names}
 
--- f names each id of A by one of B, g back, with the same points and in the same order
+-- f names each id of A by one of B, and g is the inverse, with the same points and in the same order
 pub record IsRenaming (at at' : ℕ → Vector) (A B : ℕ → Type 0) (f g : ℕ → ℕ) : Type 0 where
   pub to : (i : ℕ) → A i → B (f i)
   pub from : (k : ℕ) → B k → A (g k)
@@ -15,18 +15,18 @@ pub record IsRenaming (at at' : ℕ → Vector) (A B : ℕ → Type 0) (f g : �
   pub rises : (i j : ℕ) → A i → A j → i < j → f i < f j
 
 module _ {at at' : ℕ → Vector} {A B : ℕ → Type 0} {f g : ℕ → ℕ} (r : IsRenaming at at' A B f g) where
-  -- two ids with one name are one
+  -- two ids with the same name are equal
   pub renaming_apart : (i j : ℕ) → A i → A j → f i ≡ f j → i ≡ j
   renaming_apart i j a b e = sym (r.over i a) ∙ ap g e ∙ r.over j b
 
-  -- the names in order are of ids in order
+  -- rising names are those of rising ids
   pub renaming_falls : (i j : ℕ) → A i → A j → f i < f j → i < j
   renaming_falls i j a b h =
       let above : j < i → f j < f i = r.rises j i b a in
       let same : j ≡ i → f j ≡ f i = ap f in
       grind (arith, above, same, h)
 
-  -- the names back to the ids
+  -- the inverse renaming
   pub renaming_back : IsRenaming at' at B A g f
   renaming_back = record {
     to = r.from;
@@ -59,7 +59,7 @@ module _ {at at' : ℕ → Vector} {A B : ℕ → Type 0} {f g : ℕ → ℕ} (r
   volume_renamed i j k l a b c d = λ z. vol (r.point i a z) (r.point j b z) (r.point k c z) (sym (renaming_back.point l d) z)
 
 module _ {at at' : ℕ → Vector} {A B : ℕ → Type 0} {f g : ℕ → ℕ} (r : IsRenaming at at' A B f g) where
-  -- an extreme id is extreme by its name
+  -- an extreme id has an extreme name
   pub extreme_renamed : (i : ℕ) → Extreme at A i → Extreme at' B (f i)
   extreme_renamed i h = (
     r.to i h.0,
@@ -67,7 +67,7 @@ module _ {at at' : ℕ → Vector} {A B : ℕ → Type 0} {f g : ℕ → ℕ} (r
         (λ j o. (r.from j o.0, λ e. o.1 (sym (r.under j o.0) ∙ ap f e))) (λ j o. (renaming_back r).point j o.0) (at' (f i)) m)),
   )
 
-  -- the dimension stays
+  -- the dimension stays the same
   pub dimension_renamed : (k : ℕ) → IsDimension at A k → IsDimension at' B k
   dimension_renamed =
       let q = renaming_back r in

@@ -1,5 +1,5 @@
--- The live facets of a sound surface are a closed surface: each directed edge is that of one facet at most, and of its
--- twin the other way round; and its signed volume is below 0.
+-- The live facets of a sound surface are a closed surface: each directed edge is that of at most one facet, and the reversed edge is that of its twin. The
+-- signed volume of the surface is below 0.
 use Rattle.std.proofs.Common.{◌≡◌, ℕ, zero, suc, ◌+◌, ◌<◌, ◌≤◌, arith, refl, sym, ap, subst, ◌∙◌, inl, inr, List, [], ◌∷◌, length, Bool, true, false, cond}
 use Rattle.std.proofs.lemmas.Int.{ints}
 use Rattle.std.specs.Prelude.{ℤ, pos, ◌+ℤ◌, ◌≤ℤ◌, ◌<ℤ◌}
@@ -21,16 +21,16 @@ record HasSide (m : Surface) (fs : List ℕ) (u v : ℕ) : Type 0 where
   start_is : start m f s ≡ u
   end_is : end m f s ≡ v
 
--- how often (u, v) is an edge of the facets
+-- the number of times that (u, v) is an edge of the facets
 abbrev times : Surface → List ℕ → ℕ → ℕ → ℕ
 times m fs u v = count (is_edge (u, v)) (edges (triples_from m fs))
 
 module _ (u v : ℕ) where
-  -- an equal pair has equal parts
+  -- equal pairs have equal components
   ends_of : (i j : ℕ) → is_edge (u, v) (i, j) ≡ true → (i ≡ u) × (j ≡ v)
   ends_of i j e = let p = edge_tests.same (u, v) (i, j) e in (sym (ap (λ q. q.0) p), sym (ap (λ q. q.1) p))
 
-  -- and is one by them
+  -- pairs with equal components are equal
   edge_of : (i j : ℕ) → i ≡ u → j ≡ v → is_edge (u, v) (i, j) ≡ true
   edge_of i j e f = (λ k. is_edge (u, v) (e k, f k)) ∙ edge_tests.itself (u, v)
 
@@ -53,7 +53,7 @@ module _ (m : Surface) (u v : ℕ) where
       found false e false q true r h low = own third (ends_of u v (m.k f) (m.i f) r)
       found false e false q false r h low = more (low (omega arith))
 
-  -- a side occurs as an edge
+  -- a side of a facet occurs as an edge
   side_counts : (fs : List ℕ) (f : ℕ) (s : Side) → In f fs → start m f s ≡ u → end m f s ≡ v → 0 < times m fs u v
   side_counts [] f s i p q = absurd i
   side_counts (g ∷ fs) f s (inr i) p q = let h = side_counts fs f s i p q in omega arith
@@ -65,7 +65,7 @@ module _ (m : Surface) (u v : ℕ) where
       own third p q = rw (edge_of u v (m.k g) (m.i g) p q) (omega arith)
 
 -- ---- each edge once
--- at most one of three, and nothing more where there is one
+-- at most one of three, and no further one if there is one
 one_of_three : (a b c : Bool) (n : ℕ) → (a ≡ true → b ≡ true → ⊥) → (b ≡ true → c ≡ true → ⊥) → (c ≡ true → a ≡ true → ⊥)
     → (a ≡ true → n ≡ 0) → (b ≡ true → n ≡ 0) → (c ≡ true → n ≡ 0) → n ≤ 1 → cond a 1 0 + (cond b 1 0 + (cond c 1 0 + n)) ≤ 1
 one_of_three true true c n ab bc ca ha hb hc h = absurd (ab refl refl)
@@ -77,7 +77,7 @@ one_of_three false false true n ab bc ca ha hb hc h = let e = hc refl in omega a
 one_of_three false false false n ab bc ca ha hb hc h = omega arith
 
 module _ (m : Surface) (home : ℕ → Weighted) (o : Weighted) (z : IsSound m home o) where
-  -- each directed edge is that of one facet at most
+  -- each directed edge is that of at most one facet
   times_one : (u v : ℕ) (fs : List ℕ) → Once fs → ((f : ℕ) → In f fs → In f m.live) → times m fs u v ≤ 1
   times_one u v [] once sub = omega arith
   times_one u v (f ∷ fs) once sub =
@@ -110,7 +110,7 @@ module _ (m : Surface) (home : ℕ → Weighted) (o : Weighted) (z : IsSound m h
           none (suc n) q = absurd (again (side_of m u v fs (omega (arith, q))))
 
   -- ---- closed
-  -- each edge is one of a facet as often as the other way round
+  -- each edge is an edge of a facet as often as the reversed edge is
   closed : IsWhole m → Once m.live → IsClosed (triples_of m)
   closed w once u v =
       sym (count-is (is_edge (u, v)) (edges (triples_of m)))
@@ -123,7 +123,7 @@ module _ (m : Surface) (home : ℕ → Weighted) (o : Weighted) (z : IsSound m h
       same_bit (suc a) zero h k f g = let x = f (omega arith) in absurd (omega arith)
       same_bit (suc a) (suc b) h k f g = omega arith
 
-      -- the twin of a side has its edge the other way round
+      -- the twin of a side has the reversed edge
       turned : (u v : ℕ) → 0 < times m m.live u v → 0 < times m m.live v u
       turned u v h =
           let x = side_of m u v m.live h in let t = w x.f x.there x.s in
@@ -131,7 +131,7 @@ module _ (m : Surface) (home : ℕ → Weighted) (o : Weighted) (z : IsSound m h
 
 -- ---- volumes
 module _ (at : ℕ → Vector) (m : Surface) (s t u v : ℕ) where
-  -- the four volumes of a facet add up to how far it is below the middle
+  -- the four volumes of a facet add up to its height above the middle
   four_volumes : (f : ℕ) → let volume : ℕ → ℤ = λ l. vol (at (m.i f)) (at (m.j f)) (at (m.k f)) (at l) in
       rise m (weighted_at at) f (middle_at at s t u v) ≡ volume s +ℤ volume t +ℤ volume u +ℤ volume v
   four_volumes f =
@@ -155,7 +155,7 @@ module _ (at : ℕ → Vector) (m : Surface) (s t u v : ℕ) where
   abbrev volumes : List ℕ → ℤ
   volumes fs = let volume : ℕ → ℤ = λ l. signed_volume at (triples_from m fs) (at l) in volume s +ℤ volume t +ℤ volume u +ℤ volume v
 
-  -- one facet more
+  -- one more facet
   volumes_more : IsInner m (weighted_at at) (middle_at at s t u v) → (f : ℕ) (fs : List ℕ) → In f m.live → volumes fs ≤ℤ pos 0 → volumes (f ∷ fs) <ℤ pos 0
   volumes_more z f fs i low = omega (arith, ints, four_volumes f, z f i, low)
 
@@ -164,7 +164,7 @@ module _ (at : ℕ → Vector) (m : Surface) (s t u v : ℕ) where
   volumes_below z [] sub = omega (arith, ints)
   volumes_below z (f ∷ fs) sub = less_le _ _ (volumes_more z f fs (sub f (inl refl)) (volumes_below z fs (λ g i. sub g (inr i))))
 
-  -- and below 0 where there is a facet
+  -- the sum is below 0 if there is a facet
   volumes_negative : IsInner m (weighted_at at) (middle_at at s t u v) → (f0 : ℕ) (fs : List ℕ) → In f0 fs
       → ((f : ℕ) → In f fs → In f m.live) → volumes fs <ℤ pos 0
   volumes_negative z f0 [] i sub = absurd i
@@ -182,7 +182,7 @@ some_triples : (m : Surface) (fs : List ℕ) (f : ℕ) → In f fs → 1 ≤ len
 some_triples m [] f i = absurd i
 some_triples m (g ∷ fs) f i = omega arith
 
--- the law
+-- proof of the law `SoundIsClosed`
 pub sound_is_closed : SoundIsClosed
 sound_is_closed at m s t u v f0 i once w z = record {
   some = some_triples m m.live f0 i;
@@ -193,7 +193,7 @@ sound_is_closed at m s t u v f0 i once w z = record {
     area : (x : Triple) → (f : ℕ) × In f m.live × (x ≡ record { i = m.i f; j = m.j f; k = m.k f }) → ¬ (AreInLine (at x.i) (at x.j) (at x.k))
     area x (f, live, e) = subst (λ y. ¬ (AreInLine (at y.i) (at y.j) (at y.k))) (sym e) (inner_area at m s t u v f (z.inner f live))
 
--- the law
+-- proof of the law `SoundHasVolume`
 pub sound_has_volume : SoundHasVolume
 sound_has_volume at m s t u v f0 i once w z p =
     let a = same s in let b = same t in let c = same u in let d = same v in

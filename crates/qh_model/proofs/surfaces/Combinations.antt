@@ -1,4 +1,4 @@
--- Located points as mixes.
+-- Located points as convex combinations.
 use Rattle.qh_model.specs.{contract.Surface.rise, contract.Weighted.weighted_dot, laws.CoverageLaws.SettledIsCombination, laws.CoverageLaws.LevelIsCombination}
 use Rattle.std.proofs.{Common.◌∙◌, Common.ap, Common.arith, lemmas.Int.ints}
 use Rattle.std.specs.Prelude.{◌*ℤ◌, neg_ℤ}
@@ -6,7 +6,7 @@ use Rattle.qh_model.proofs.algebra.{Integers.neg_mul, Integers.zero_mul, Order.n
 use Rattle.qh_model.proofs.surfaces.CoveredPlanes.{plane_is_covered}
 use Rattle.qh_model.proofs.surfaces.Located.{Located, located, first_share, second_share, third_share, shares, mix}
 
--- the law
+-- proof of the law `SettledIsCombination`
 pub settled_is_combination : SettledIsCombination
 settled_is_combination m home o w z f0 i0 x settled =
     let l = located m home o w z f0 i0 x in
@@ -26,7 +26,7 @@ settled_is_combination m home o w z f0 i0 x settled =
       mix = mix l;
     }
 
--- the law
+-- proof of the law `LevelIsCombination`
 pub level_is_combination : LevelIsCombination
 level_is_combination m home o w z f0 i0 p q r e h unseen =
     let face = plane_is_covered m home o w z f0 i0 p q r e h unseen in

@@ -1,4 +1,4 @@
--- A finished surface tells the hull: its dimension, its extreme ids and its polygons.
+-- A finished surface determines the hull: its dimension, its extreme ids and its polygons.
 use Rattle.std.proofs.Common.{◌≡◌, ℕ, refl, inl, List}
 use Rattle.std.specs.Prelude.{pos, ◌↔◌}
 use Rattle.qh_model.specs.headline.{Extreme.Extreme, Polygons.IsFacePolygon, Predicates.cross, Predicates.vol, Sets.In, Sets.Members, SupportingPlane.OnPlane}
@@ -16,12 +16,12 @@ finished_is_solid at ids m z = inl (
   record { i = z.s; j = z.t; k = z.u; l = z.v; has_i = z.has_s; has_j = z.has_t; has_k = z.has_u; has_l = z.has_v; volume = less_differ _ _ z.volume },
 )
 
--- the law
+-- proof of the law `ExtremesOfCorners`
 pub extremes_of_corners : ExtremesOfCorners
 extremes_of_corners at ids m d z =
     extremes_between at (Members ids) (IsLiveCorner m) ids (listed_itself ids) d (λ l c. z.corners c.0 c.1 l c.2) (extremes_are_corners at ids m z)
 
--- the law
+-- proof of the law `ExtremesOfPlane`
 pub extremes_of_plane : ExtremesOfPlane
 extremes_of_plane at ids m d z i j k t l = (λ x. (on_plane l).0 ((same l).0 x), λ x. (same l).1 ((on_plane l).1 x))
   where
@@ -42,7 +42,7 @@ extremes_of_plane at ids m d z i j k t l = (λ x. (on_plane l).0 ((same l).0 x),
         extremes_between at F (CornerInPlane at m i j k) listed.0 listed.1 (λ x y fx fy e. d x y fx.0 fy.0 e)
         (λ h c. (z.corners c.f c.live h c.corner, c.level h c.corner)) (λ h x. extremes_of_plane_are_corners at ids m z i j k t h ((on_plane h).0 x))
 
--- the law
+-- proof of the law `PolygonsOfFacets`
 pub polygons_of_facets : PolygonsOfFacets
 polygons_of_facets at ids m qs z rising each only = record {
   rising = rising;

@@ -9,7 +9,7 @@ use Rattle.qh_model.proofs.{algebra.Signs.not_less, algebra.Signs.equal_negative
 use Rattle.qh_model.proofs.surfaces.{ConePlanes.apex_rise, ConePlanes.apex_inner, ConePlanes.corner_below_cone, Connected.cert, Facets.corner_start}
 use Rattle.qh_model.proofs.surfaces.{Facets.corner_end, Facets.corner_rest, Facets.side_rise, PerturbedInwards.Choice, PerturbedInwards.choose}
 
--- a facet that is kept: it is blind to p
+-- a kept facet: p is not above it
 pub record KeptOf (m m' : Surface) (home : ℕ → Weighted) (p f' : ℕ) : Type 0 where
   pub live : In f' m.live
   pub blind : rise m home f' (home p) ≤ℤ pos 0
@@ -17,7 +17,7 @@ pub record KeptOf (m m' : Surface) (home : ℕ → Weighted) (p f' : ℕ) : Type
   pub j_is : m'.j f' ≡ m.j f'
   pub k_is : m'.k f' ≡ m.k f'
 
--- a facet of the cone: over which side it stands, and its corners
+-- a facet of the cone: the side of its base, and its corners
 pub record ConeOf (m m' : Surface) (home : ℕ → Weighted) (p : ℕ) (number : ℕ → Side → ℕ) (f' : ℕ) : Type 0 where
   pub f : ℕ
   pub s : Side
@@ -29,7 +29,7 @@ pub record ConeOf (m m' : Surface) (home : ℕ → Weighted) (p : ℕ) (number :
   pub j_is : m'.j f' ≡ end m f s
   pub k_is : m'.k f' ≡ p
 
--- each live facet is kept, or the cone's over one side of the horizon
+-- each live facet is a kept one, or the facet of the cone on one side of the horizon
 pub record Replaced (m m' : Surface) (home : ℕ → Weighted) (p : ℕ) : Type 0 where
   pub number : ℕ → Side → ℕ
   pub f0 : ℕ
@@ -44,22 +44,22 @@ module _ {m m' : Surface} {home : ℕ → Weighted} {p f' : ℕ} (k : KeptOf m m
   kept_corner l (inr (inl e)) = inr (inl (e ∙ sym k.j_is))
   kept_corner l (inr (inr e)) = inr (inr (e ∙ sym k.k_is))
 
-  -- and the other way round
+  -- the converse
   pub corner_kept : (l : ℕ) → IsCorner m' f' l → IsCorner m f' l
   corner_kept l (inl e) = inl (e ∙ k.i_is)
   corner_kept l (inr (inl e)) = inr (inl (e ∙ k.j_is))
   corner_kept l (inr (inr e)) = inr (inr (e ∙ k.k_is))
 
-  -- it sees as before
+  -- a kept facet sees the same points as before
   pub kept_rise : (at : ℕ → Weighted) (y : Weighted) → rise m at f' y ≡ rise m' at f' y
   kept_rise at y = rw (k.i_is, k.j_is, k.k_is) refl
 
--- how far a point is above the cone's facet
+-- the height of a point above the cone's facet
 pub cone_rise : {m m' : Surface} {home : ℕ → Weighted} {p : ℕ} {number : ℕ → Side → ℕ} {f' : ℕ} (n : ConeOf m m' home p number f')
     (at : ℕ → Weighted) (y : Weighted) → apex_rise m at n.f n.s (at p) y ≡ rise m' at f' y
 cone_rise n at y = rw (n.i_is, n.j_is, n.k_is) refl
 
--- a corner of the new surface is an old one or the point
+-- a corner of the new surface is an old corner or the point
 pub old_or_apex : {m m' : Surface} {home : ℕ → Weighted} {p : ℕ} (r : Replaced m m' home p)
     (f' l : ℕ) → In f' m'.live → IsCorner m' f' l → Old m l ⊎ (l ≡ p)
 old_or_apex {m} {m'} {home} {p} r f' l i c = from (r.origin f' i) c
@@ -71,7 +71,7 @@ old_or_apex {m} {m'} {home} {p} r f' l i c = from (r.origin f' i) c
     from (inr n) (inr (inr e)) = inr (e ∙ n.k_is)
 
 -- ---- the shares
--- the shares, with that of the new corner
+-- the shares, including that of the new corner
 pub with_share : (h : ℕ → ℕ) (p k : ℕ) → ℕ → ℕ
 with_share h p k = put h p k
 
@@ -80,12 +80,12 @@ share_p : (h : ℕ → ℕ) (p k : ℕ) → with_share h p k p ≡ k
 unfolding with_share
 share_p h p k = put_here h p k
 
--- the others keep theirs
+-- the other shares do not change
 share_other : (h : ℕ → ℕ) (p k l : ℕ) → l ≢ p → with_share h p k l ≡ h l
 unfolding with_share
 share_other h p k = put_else h p k
 
--- ---- what is kept
+-- ---- the invariant
 module _ {m m' : Surface} {home : ℕ → Weighted} {o : Weighted} {p : ℕ} (w : IsWhole m) (q : IsSound m home o)
     (r : Replaced m m' home p) where
   -- the point is no corner of the old surface
@@ -106,7 +106,7 @@ module _ {m m' : Surface} {home : ℕ → Weighted} {o : Weighted} {p : ℕ} (w 
   inner_kept f' i =
       ⊎_elim (λ k. equal_negative _ _ (kept_rise k home o) (q.inner f' k.live)) (λ n. equal_negative _ _ (cone_rise n home o) (cone_inside n).1) (r.origin f' i)
 
-  -- all is strict again, with p perturbed inwards far more than the others
+  -- the surface is strict again, with p perturbed inwards far more than the others
   pub lifted_kept : IsStrictWhenPerturbed m' home o
   lifted_kept = record { h = h; from = t.from + ch.from; strict = λ n b. strict n (omega (arith, b)) (omega (arith, b)) }
     where

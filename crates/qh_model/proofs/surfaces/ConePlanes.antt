@@ -1,4 +1,4 @@
--- The plane of a facet of the cone, beside those of the facets on both sides of its edge of the horizon.
+-- The plane of a facet of the cone, compared with those of the two facets at its edge of the horizon.
 use Rattle.qh_model.specs.contract.SoundSurface.{IsInner, IsStrict}
 use Rattle.qh_model.specs.contract.Surface.{IsCorner, Side, Surface, HasTwin, IsWhole, end, rise, start, rest}
 use Rattle.qh_model.specs.{contract.Weighted.Weighted, contract.Weighted.above, headline.Sets.In, steps.FarCorners.far}
@@ -23,9 +23,9 @@ other_pos a b h k = by_lt_z (pos 0) b (λ q. q) (λ q. absurd (not_less (a *ℤ 
 first_neg : (a b : ℤ) → b <ℤ pos 0 → pos 0 <ℤ (a *ℤ b) → a <ℤ pos 0
 first_neg a b h k = by_lt_z a (pos 0) (λ q. q) (λ q. absurd (not_less (pos 0) (a *ℤ b) k (mul-nonneg_nonpos a b q (negative_le b h))))
 
--- by how far p, y and b are above the plane of a, and p and y above that of b and that of p
+-- the heights of p, y and b above the plane of a, and of p and y above that of b and that of p
 module _ (ap bp ab ay by py : ℤ) (product : ap *ℤ by -ℤ ay *ℤ bp ≡ ab *ℤ py) where
-  -- y is strictly below one of the two: so of the third
+  -- y is strictly below one of the two, so it is strictly below the third
   below_one_plane : pos 0 <ℤ ap → pos 0 <ℤ bp → ab <ℤ pos 0 → ay ≤ℤ pos 0 → pos 0 ≤ℤ by → (ay <ℤ pos 0) ⊎ (pos 0 <ℤ by) → py <ℤ pos 0
   below_one_plane h k l m n one = other_neg ab py (negative_le ab l) (positive one)
     where
@@ -35,42 +35,42 @@ module _ (ap bp ab ay by py : ℤ) (product : ap *ℤ by -ℤ ay *ℤ bp ≡ ab 
       positive (inr s) =
           let x = mul-pos ap by h s in let y = mul-nonpos_nonneg ay bp m (positive_le bp k) in omega (arith, ints, product, x, y)
 
-  -- strictly below both: then the two planes bend strictly
+  -- y is strictly below both: then the two planes bend strictly
   below_both_planes : pos 0 <ℤ ap → pos 0 ≤ℤ bp → ab ≤ℤ pos 0 → ay <ℤ pos 0 → pos 0 <ℤ by → (ab <ℤ pos 0) × (py <ℤ pos 0)
   below_both_planes h k l m n =
       let x = mul-pos ap by h n in let y = mul-nonpos_nonneg ay bp (negative_le ay m) k in
       let positive : pos 0 <ℤ (ab *ℤ py) = omega (arith, ints, product, x, y) in
       let down = other_neg ab py l positive in (first_neg ab py down positive, down)
 
-  -- below or on both
+  -- y is below or on both
   not_above_planes : pos 0 <ℤ ap → pos 0 ≤ℤ bp → ab <ℤ pos 0 → ay ≤ℤ pos 0 → pos 0 ≤ℤ by → py ≤ℤ pos 0
   not_above_planes h k l m n =
       let x = mul-nonneg ap by (positive_le ap h) n in let y = mul-nonpos_nonneg ay bp m k in
       by_lt_z (pos 0) py (λ q. absurd (omega (arith, ints, product, x, y, mul-neg_pos ab py l q))) (λ q. q)
 
-  -- above both
+  -- y is above both
   above_both_planes : pos 0 <ℤ ap → pos 0 ≤ℤ bp → ab ≤ℤ pos 0 → pos 0 <ℤ ay → by <ℤ pos 0 → pos 0 <ℤ py
   above_both_planes h k l m n =
       let x = mul-pos_neg ap by h n in let y = mul-nonneg ay bp (positive_le ay m) k in
       other_pos ab py l (omega (arith, ints, product, x, y))
 
--- ---- a facet, its neighbour over a side, and the facet of the cone from p over that side
+-- ---- a facet, its neighbour across a side, and the facet of the cone from p on that side
 -- l is a corner of the surface
 abbrev pub Old : Surface → ℕ → Type 0
 Old m l = (g : ℕ) × In g m.live × IsCorner m g l
 
 module _ (m : Surface) (at : ℕ → Weighted) where
-  -- how far a point is above the cone's facet
+  -- the height of a point above the cone's facet
   abbrev pub apex_rise : ℕ → Side → Weighted → Weighted → ℤ
   apex_rise f s p y = above (at (start m f s)) (at (end m f s)) p y
 
   module _ (w : IsWhole m) (f : ℕ) (i : In f m.live) (s : Side) (p y : Weighted) where
-    -- as their planes go through one line
+    -- the three planes go through one line
     products : side_rise m at f s p *ℤ far_rise m at f s y -ℤ side_rise m at f s y *ℤ far_rise m at f s p
         ≡ side_rise m at f s (at (far m f s)) *ℤ apex_rise f s p y
     products = line_product (at (start m f s)) (at (end m f s)) (at (rest m f s)) (at (far m f s)) p y
 
-    -- y strictly below both: then the side bends, and y is strictly below the cone's facet
+    -- y is strictly below both: then the side bends, and y is strictly below the cone's facet
     pub apex_inner : pos 0 <ℤ rise m at f p → rise m at (m.over f s) p ≤ℤ pos 0 → rise m at f (at (far m f s)) ≤ℤ pos 0
         → rise m at f y <ℤ pos 0 → rise m at (m.over f s) y <ℤ pos 0
         → (side_rise m at f s (at (far m f s)) <ℤ pos 0) × (apex_rise f s p y <ℤ pos 0)
@@ -78,13 +78,13 @@ module _ (m : Surface) (at : ℕ → Weighted) where
         below_both_planes _ _ _ _ _ _ products (side_seen m at f s p a) (far_blind m at w f i s p b)
         (side_blind m at f s (at (far m f s)) c) (side_below m at f s y d) (far_below m at w f i s y e)
 
-    -- both blind to y: so is the cone's facet
+    -- neither sees y: then the cone's facet does not see y
     pub apex_blind : pos 0 <ℤ rise m at f p → rise m at (m.over f s) p ≤ℤ pos 0 → side_rise m at f s (at (far m f s)) <ℤ pos 0
         → rise m at f y ≤ℤ pos 0 → rise m at (m.over f s) y ≤ℤ pos 0 → apex_rise f s p y ≤ℤ pos 0
     apex_blind a b c d e =
         not_above_planes _ _ _ _ _ _ products (side_seen m at f s p a) (far_blind m at w f i s p b) c (side_blind m at f s y d) (far_blind m at w f i s y e)
 
-    -- both see y: so does the cone's facet
+    -- both see y: then the cone's facet sees y
     pub apex_seen : pos 0 <ℤ rise m at f p → rise m at (m.over f s) p ≤ℤ pos 0 → rise m at f (at (far m f s)) ≤ℤ pos 0
         → pos 0 <ℤ rise m at f y → pos 0 <ℤ rise m at (m.over f s) y → pos 0 <ℤ apex_rise f s p y
     apex_seen a b c d e =
@@ -93,7 +93,7 @@ module _ (m : Surface) (at : ℕ → Weighted) where
 
 module _ (m : Surface) (home : ℕ → Weighted) (o : Weighted) (w : IsWhole m) (q : IsInner m home o) (at : ℕ → Weighted) (st : IsStrict m at)
     (f : ℕ) (i : In f m.live) (s : Side) (l : ℕ) (old : Old m l) (ns : l ≢ start m f s) (ne : l ≢ end m f s) where
-  -- a corner of the surface that's none of a side's ends is strictly below the facet or its neighbour
+  -- a corner of the surface that is not an end of a side is strictly below the facet or its neighbour
   below_one : (side_rise m at f s (at l) <ℤ pos 0) ⊎ (pos 0 <ℤ far_rise m at f s (at l))
   below_one = ⊎_elim (λ k. inr (own (corner_cases m f s l k))) (λ k. inl (side_below m at f s (at l) (st f old.0 i old.1 l old.2 k))) (corner_test m f l)
     where
@@ -113,7 +113,7 @@ module _ (m : Surface) (home : ℕ → Weighted) (o : Weighted) (w : IsWhole m) 
       own (inr (inl e)) = absurd (ne e)
       own (inr (inr e)) = far_below m at w f i s (at l) (st (m.over f s) old.0 t.live old.1 l old.2 (away e))
 
-  -- so it is strictly below the cone's facet, where the facet sees the apex and the neighbour is strictly above it
+  -- so the corner is strictly below the cone's facet, if the facet sees the apex and the neighbour is strictly above it
   pub corner_below_cone : (top : Weighted) → pos 0 <ℤ rise m at f top → rise m at (m.over f s) top <ℤ pos 0 → apex_rise m at f s top (at l) <ℤ pos 0
   corner_below_cone top seen blind =
       below_one_plane _ _ _ _ _ _ (products m at w f i s top (at l)) (side_seen m at f s top seen) (far_below m at w f i s top blind)

@@ -1,4 +1,4 @@
--- Surfaces whose corners may be perturbed inwards so that all is strict: what a real point sees hangs together.
+-- Surfaces that become strict when their corners are perturbed inwards: the facets that a real point sees are connected.
 use Rattle.qh_model.specs.contract.SoundSurface.{HasDistinctFacets, IsInner, IsStrict, IsStrictWhenPerturbed, IsSound, perturbed, towards}
 use Rattle.qh_model.specs.contract.Surface.{IsCorner, Side, Surface, HasTwin, IsWhole, start, end, rest, rise, Side.first, Side.second, Side.third}
 use Rattle.qh_model.specs.{contract.Weighted.Weighted, contract.Weighted.weighted_dot, contract.Weighted.plane_of, headline.Sets.In, steps.FarCorners.far}
@@ -11,12 +11,12 @@ use Rattle.qh_model.proofs.surfaces.Facets.{rise_side, rise_over, weak, middle, 
 use Rattle.qh_model.proofs.surfaces.PerturbedInwards.{tilt, above-perturbed_all, Choice, choose, size, size_le, cube, scale}
 use Rattle.qh_model.proofs.surfaces.VisibleFacets.{Corners, Over, Cut, none_cut_off}
 
--- the corners of a facet at their places
+-- the points of a facet's corners
 abbrev pub placed : Surface → (ℕ → Weighted) → ℕ → Corners
 placed m at f = record { a = at (m.i f); b = at (m.j f); c = at (m.k f) }
 
 -- ---- connectedness over weighted points
--- the facets that see p: a first one, and any set of facets that has it and, with a facet, each neighbour that sees p
+-- the facets that see p: a first one, and any set of facets that has it and, for each of its facets, every neighbour that sees p
 pub record Grown (m : Surface) (sees : ℕ → Bool) (c : ℕ → Bool) : Type 0 where
   pub f0 : ℕ
   pub live : In f0 m.live
@@ -24,7 +24,7 @@ pub record Grown (m : Surface) (sees : ℕ → Bool) (c : ℕ → Bool) : Type 0
   pub has : c f0 ≡ true
   pub grows : (f : ℕ) → In f m.live → (s : Side) → c f ≡ true → sees (m.over f s) ≡ true → c (m.over f s) ≡ true
 
--- the facets that see a point are all reached, where all is strict
+-- all facets that see a point are reached, if the surface is strict
 pub connected_at : (m : Surface) (at : ℕ → Weighted) (real : ℕ → Weighted) (o : Weighted) → IsWhole m → IsInner m real o → IsStrict m at → HasDistinctFacets m
     → (p : Weighted) (sees : ℕ → Bool) → ((f : ℕ) → In f m.live → sees f ≡ true → pos 0 <ℤ rise m at f p)
     → ((f : ℕ) → In f m.live → pos 0 <ℤ rise m at f p → sees f ≡ true)
@@ -102,11 +102,11 @@ connected_at m at real o w n h d p sees up down c r f i e = reached (c f) refl
         cut f i (marked f e q))
 
 -- ---- perturbed inwards
--- does the facet see p?
+-- true if the facet sees p
 abbrev pub sees : Surface → (ℕ → Weighted) → Weighted → ℕ → Bool
 sees m home p f = test (less_or_not (pos 0) (rise m home f p))
 
--- THEOREM: the facets that p sees are all reached from one of them over sides
+-- THEOREM: a walk across sides from one of the facets that p sees reaches all of them
 pub connected : (m : Surface) (home : ℕ → Weighted) (o : Weighted) → IsWhole m → IsSound m home o
     → (p : Weighted) (c : ℕ → Bool) → Grown m (sees m home p) c → (f : ℕ) → In f m.live → pos 0 <ℤ rise m home f p → c f ≡ true
 connected m home o w s p c g f i q =

@@ -1,4 +1,4 @@
--- In a plane that no corner is beyond, each point that no facet sees lies in a live triangle of that plane.
+-- In a plane with no corner beyond it, each point that no facet sees lies in a live triangle of that plane.
 use Rattle.qh_model.specs.contract.SoundSurface.{IsSound, towards}
 use Rattle.qh_model.specs.contract.Surface.{IsCorner, Side, Surface, IsWhole, end, rise, start, Side.first, Side.second, Side.third}
 use Rattle.qh_model.specs.{contract.Weighted.Weighted, contract.Weighted.above, contract.Weighted.weighted_dot, contract.Weighted.plane_of, headline.Sets.In}
@@ -14,23 +14,23 @@ use Rattle.qh_model.proofs.surfaces.{Determinants.above-first, Determinants.abov
 use Rattle.qh_model.proofs.surfaces.{Facets.sum_blind, Facets.sum_level, Facets.level_parts, Facets.plane-is, Located.Located, Located.located, Located.shares}
 use Rattle.qh_model.proofs.surfaces.{Located.mix, PerturbedInwards.towardsE, PerturbedInwards.bound, PerturbedInwards.share, PerturbedInwards.scale}
 
--- a point perturbed, as the last
+-- a point perturbed, as the last argument
 pub above-last : (a b c p o : Weighted) (n k : ℤ) → above a b c (towards o n p k) ≡ n *ℤ above a b c p +ℤ k *ℤ above a b c o
 unfolding above
 above-last a b c p o n k =
     ring (put4 a (put4 b (put4 c (put4 p (put4 o (n ∷ k ∷ [])))))) (aboveE (quad 0) (quad 1) (quad 2) (towardsE (quad 4) (var 20) (quad 3) (var 21)))
     (add (mul (var 20) (above_of 0 1 2 3)) (mul (var 21) (above_of 0 1 2 4))) refl
 
--- as the third
+-- a point perturbed, as the third argument
 above-middle : (a b c p o : Weighted) (n k : ℤ) → above a b (towards o n p k) c ≡ n *ℤ above a b p c +ℤ k *ℤ above a b o c
 unfolding above
 above-middle a b c p o n k =
     ring (put4 a (put4 b (put4 c (put4 p (put4 o (n ∷ k ∷ [])))))) (aboveE (quad 0) (quad 1) (towardsE (quad 4) (var 20) (quad 3) (var 21)) (quad 2))
     (add (mul (var 20) (above_of 0 1 3 2)) (mul (var 21) (above_of 0 1 4 2))) refl
 
--- ---- what no facet sees is beyond no plane that has the corners and o on one side
+-- ---- a point that no facet sees is beyond no plane with the corners and o on one side
 module _ (m : Surface) (home : ℕ → Weighted) (o : Weighted) (w : IsWhole m) (z : IsSound m home o) where
-  -- nor is a point that the facet over which it lies doesn't see
+  -- a point is beyond no such plane if the facet over which it lies does not see it
   pub at_facet : (n x : Weighted) (l : Located m home o x) → HoldsOfCorners m (λ i. weighted_dot n (home i) ≤ℤ pos 0) → weighted_dot n o ≤ℤ pos 0
       → rise m home l.f x ≤ℤ pos 0 → pos 0 <ℤ weighted_dot n x → ⊥
   at_facet n x l corners n_o blind beyond =
@@ -46,45 +46,45 @@ module _ (m : Surface) (home : ℕ → Weighted) (o : Weighted) (w : IsWhole m) 
       let l = located m home o w z f0 i0 x in
       by_lt_z (pos 0) (weighted_dot n x) (λ k. absurd (at_facet n x l corners n_o (settled l.f l.live) k)) (λ k. k)
 
--- ---- a point a little beyond another, as seen from o
+-- ---- a point slightly beyond another, as seen from o
 -- the point
 abbrev pub beyond : (o y : Weighted) → ℕ → Weighted
 beyond o y k = towards o (pos k) y (neg_ℤ (pos 1))
 
 module _ (a b c o y : Weighted) (k : ℕ) where
-  -- how far it is above a plane
+  -- the height of the point above a plane
   beyond-is : above a b c (beyond o y k) ≡ pos k *ℤ above a b c y +ℤ neg_ℤ (above a b c o)
   beyond-is =
       above-last a b c y o (pos k) (neg_ℤ (pos 1)) ∙ ap (λ v. pos k *ℤ above a b c y +ℤ v)
       (neg_mul (pos 1) (above a b c o) ∙ ap neg_ℤ (one_mul (above a b c o)))
 
-  -- a plane that y is on and o strictly below sees it
+  -- a plane through y with o strictly below it sees the point
   pub on_sees_beyond : above a b c y ≡ pos 0 → above a b c o <ℤ pos 0 → pos 0 <ℤ above a b c (beyond o y k)
   on_sees_beyond h low = let s = beyond-is in let p = product_zero (pos k) (above a b c y) h in omega (arith, ints, s, p, low)
 
-  -- and where one that y isn't above sees it, y is on that, for k large enough
+  -- if a plane that y is not above sees the point, y is on that plane, for k large enough
   pub sees_beyond_on : neg_ℤ (above a b c o) <ℤ pos k → above a b c y ≤ℤ pos 0 → pos 0 <ℤ above a b c (beyond o y k) → above a b c y ≡ pos 0
   sees_beyond_on large h sees =
       by_lt_z (above a b c y) (pos 0) (λ p. absurd (let s = beyond-is in
       omega (arith, ints, share (neg_ℤ (above a b c o)) (above a b c y) k large p, s, sees))) (λ p. le_antisym _ (pos 0) h p)
 
 -- ---- a supporting plane
--- a number is not above 0 if a large multiple of it isn't above another
+-- a number is not above 0 if a large multiple of it is not above another
 large : (x k : ℤ) (b n : ℕ) → neg_ℤ k <ℤ pos b → suc b ≤ n → (pos n *ℤ x +ℤ k) ≤ℤ pos 0 → x ≤ℤ pos 0
 large x k b n h q l = by_lt_z (pos 0) x (λ p. absurd (not_less (pos 0) (pos n *ℤ x +ℤ k) (scale k x b n h q p) l)) (λ p. p)
 
--- two numbers not above 0 whose sum isn't below 0, one of them taken n times
+-- two numbers not above 0 whose sum is not below 0, with one of them taken n times
 both_zero : (n e t : ℤ) → pos 0 <ℤ n → n *ℤ e +ℤ t ≡ pos 0 → e ≤ℤ pos 0 → t ≤ℤ pos 0 → (e ≡ pos 0) × (t ≡ pos 0)
 both_zero n e t h z he ht =
     let p = mul-nonneg_nonpos n e (positive_le n h) he in (cancel-zero n e h (omega (arith, ints, z, p, ht)), omega (arith, ints, z, p, ht))
 
--- one of three counts is less than all together
+-- one of three counts is less than all three together
 within_all : (d : Side → ℕ) (s : Side) → suc (d s) ≤ suc (d first) + suc (d second) + suc (d third)
 within_all d first = omega arith
 within_all d second = omega arith
 within_all d third = omega arith
 
--- THEOREM: a, b, c, e seen by no facet, no corner beyond the plane of a, b, c, and e on it
+-- THEOREM: no facet sees a, b, c and e, no corner is beyond the plane of a, b, c, and e is on it
 pub plane_is_covered : PlaneIsCovered
 plane_is_covered m home o w z f0 i0 a b c e (inner, corners, level) settled = result (located m home o w z f0 i0 x)
   where
@@ -172,7 +172,7 @@ plane_is_covered m home o w z f0 i0 a b c e (inner, corners, level) settled = re
             flat : (p : Weighted) → rise m home t p ≡ pos 0 → weighted_dot normal p ≡ pos 0
             flat p e = plane-is i j h p ∙ e
 
-        -- one side, from the located point
+        -- one side, for the located point
         within : (s : Side) → above (home (start m t s)) (home (end m t s)) e o ≤ℤ pos 0
         within s =
             large (above u v e o) (above u v mid o) (side_bound s) n

@@ -1,11 +1,11 @@
--- A plane's value at a point, by the point's coordinates over four others.
+-- The value of a plane at a point, from the point's coordinates with respect to four others.
 use Rattle.qh_model.specs.contract.Weighted.{Weighted, above, weighted_dot}
 use Rattle.std.proofs.{Common.◌≡◌, Common.refl, Common.[], Common.arith, lemmas.Int.ints}
 use Rattle.std.specs.Prelude.{pos, ◌+ℤ◌, ◌*ℤ◌}
 use Rattle.qh_model.proofs.algebra.{Order.product_zero, Ring.ring, Ring.Expr.add, Ring.Expr.mul}
 use Rattle.qh_model.proofs.surfaces.Determinants.{above_of, dot_of, put4}
 
--- four points have coordinates for a fifth
+-- four points give coordinates of a fifth
 pub cramer : (n a b c y p : Weighted) → above a b c y *ℤ weighted_dot n p
     ≡ above p b c y *ℤ weighted_dot n a +ℤ above a p c y *ℤ weighted_dot n b +ℤ above a b p y *ℤ weighted_dot n c
     +ℤ above a b c p *ℤ weighted_dot n y
@@ -15,7 +15,7 @@ cramer n a b c y p =
     let third = mul (above_of 1 2 5 4) (dot_of 0 3) in let last = mul (above_of 1 2 3 5) (dot_of 0 4) in
     ring (put4 n (put4 a (put4 b (put4 c (put4 y (put4 p [])))))) (mul (above_of 1 2 3 4) (dot_of 0 5)) (add (add (add first second) third) last) refl
 
--- where a plane measures three of them by 0
+-- the case that the plane is 0 at three of them
 pub cramer_level : (n a b c y p : Weighted) → weighted_dot n a ≡ pos 0 → weighted_dot n b ≡ pos 0 → weighted_dot n c ≡ pos 0
     → above a b c y *ℤ weighted_dot n p ≡ above a b c p *ℤ weighted_dot n y
 cramer_level n a b c y p ha hb hc =

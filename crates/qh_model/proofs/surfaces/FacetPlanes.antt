@@ -1,4 +1,4 @@
--- The live facets in one plane are those that a point a little beyond one of them sees, so they hang together.
+-- The live facets in one plane are those that see a point slightly beyond one of them, so they are connected.
 use Rattle.std.proofs.Common.{◌≡◌, ℕ, refl, sym, ◌∙◌, inl, inr, Bool, true, List}
 use Rattle.std.specs.Prelude.{pos, ◌≤ℤ◌}
 use Rattle.qh_model.specs.contract.{FinishedSurface.weighted_at, FinishedSurface.middle_at, FinishedSurface.IsFinished, Surface.Surface, Surface.IsCorner}
@@ -9,7 +9,7 @@ use Rattle.qh_model.proofs.surfaces.{CoveredPlanes.beyond, CoveredPlanes.on_sees
 use Rattle.qh_model.proofs.surfaces.{Facets.sum_blind, Facets.sum_level, Facets.level_parts, Finished.one_plane, Finished.unseen_above, Finished.facets_support}
 use Rattle.qh_model.proofs.surfaces.{PerturbedInwards.bound, SurfaceLaws.rise_is_vol, SurfaceLaws.walk_finds_all}
 
--- the law
+-- proof of the law `LevelFacetsSpan`
 pub level_facets_span : LevelFacetsSpan
 level_facets_span at ids m z f g live live' level =
     let one = one_plane at ids m z (m.i f) (m.j f) (m.k f) (m.i g) (m.j g) (m.k g) (facets_support at ids m z f live)
@@ -22,17 +22,17 @@ level_itself at m f =
     let a = at (m.i f) in let b = at (m.j f) in let c = at (m.k f) in
     of_corners m f (IsLevelWith at m f) (vol-first a b c) (vol-second a b c) (vol-third a b c)
 
--- what is in the plane of a facet has the facet in its own
+-- a facet in the plane of another facet has that facet in its own plane
 pub level_back : (at : ℕ → Vector) (ids : List ℕ) (m : Surface) → IsFinished at ids m → (f g : ℕ) → In f m.live → In g m.live
     → IsLevelFacet at m f g → IsLevelFacet at m g f
 level_back at ids m z f g live live' level l c = ((level_facets_span at ids m z f g live live' level).same l).0 (level_itself at m f l c)
 
--- and what is in the plane of that is in the first plane
+-- a facet in the plane of the other facet is in the first plane
 pub level_on : (at : ℕ → Vector) (ids : List ℕ) (m : Surface) → IsFinished at ids m → (f g h : ℕ) → In f m.live → In g m.live
     → IsLevelFacet at m f g → IsLevelFacet at m g h → IsLevelFacet at m f h
 level_on at ids m z f g h live live' level level' l c = ((level_facets_span at ids m z f g live live' level).same l).1 (level' l c)
 
--- ---- a point a little beyond a facet
+-- ---- a point slightly beyond a facet
 module _ (at : ℕ → Vector) (ids : List ℕ) (m : Surface) (z : IsFinished at ids m) (f : ℕ) (live : In f m.live) where
   -- the weighted points of the ids
   abbrev home : ℕ → Weighted
@@ -42,7 +42,7 @@ module _ (at : ℕ → Vector) (ids : List ℕ) (m : Surface) (z : IsFinished at
   abbrev o : Weighted
   o = middle_at at z.s z.t z.u z.v
 
-  -- a bound for how far it is below any facet
+  -- a bound for the depth of the middle below any facet
   abbrev b : ℕ
   b = (bound (λ g. rise m home g o) m.live).0
 
@@ -68,7 +68,7 @@ module _ (at : ℕ → Vector) (ids : List ℕ) (m : Surface) (z : IsFinished at
       level : (l : ℕ) → rise m home g (home l) ≡ pos 0 → IsLevelWith at m g l
       level l e = sym (rise_is_vol (at (m.i g)) (at (m.j g)) (at (m.k g)) (at l)) ∙ e
 
-  -- and one in the plane sees it
+  -- a facet in the plane sees the point
   pub level_sees : (g : ℕ) → In g m.live → IsLevelFacet at m g f → Sees m home g little_beyond
   level_sees g i level =
       on_sees_beyond _ _ _ o (middle m home f) b
@@ -77,7 +77,7 @@ module _ (at : ℕ → Vector) (ids : List ℕ) (m : Surface) (z : IsFinished at
       zero : (l : ℕ) → IsCorner m f l → rise m home g (home l) ≡ pos 0
       zero l c = rise_is_vol (at (m.i g)) (at (m.j g)) (at (m.k g)) (at l) ∙ level l c
 
-  -- a walk in the plane is one over what the point sees
+  -- a walk in the plane is a walk over the facets that the point sees
   pub found : (c : ℕ → Bool) → IsPlaneWalk at m f c → (g : ℕ) → In g m.live → IsLevelFacet at m f g → c g ≡ true
   found c w g i level =
       walk_finds_all m home o z.whole z.sound little_beyond c (record {
@@ -89,6 +89,6 @@ module _ (at : ℕ → Vector) (ids : List ℕ) (m : Surface) (z : IsFinished at
             w.grows h j s e (level_back at ids m z (m.over h s) f over live (seen_level (m.over h s) over sees));
       }) g i (level_sees g i (level_back at ids m z f g live i level))
 
--- the law
+-- proof of the law `PlaneWalkFindsAll`
 pub plane_walk_finds_all : PlaneWalkFindsAll
 plane_walk_finds_all = found

@@ -1,4 +1,4 @@
--- The sides of a facet in turn, and the one that starts at a corner.
+-- The sides of a facet in cyclic order, and the side that starts at a corner.
 use Rattle.qh_model.specs.contract.Surface.{IsCorner, Side, Surface, end, start, rest, Side.first, Side.second, Side.third}
 use Rattle.std.proofs.Common.{◌≡◌, ℕ, refl, sym, inl, inr}
 use native.Mathlib.Decide.{ℕ_discrete}
@@ -15,7 +15,7 @@ start_next m f first = refl
 start_next m f second = refl
 start_next m f third = refl
 
--- and ends at the id across
+-- the next side ends at the third id of the facet
 pub end_next : (m : Surface) (f : ℕ) (s : Side) → end m f (side_next s) ≡ rest m f s
 end_next m f first = refl
 end_next m f second = refl
@@ -31,7 +31,7 @@ pick_side (no a) (no b) = third
 pub from : (m : Surface) (f v : ℕ) → Side
 from m f v = pick_side (ℕ_discrete v (m.i f)) (ℕ_discrete v (m.j f))
 
--- it starts there
+-- this side starts at v
 pub from_is : (m : Surface) (f v : ℕ) → IsCorner m f v → start m f (from m f v) ≡ v
 unfolding from pick_side
 from_is m f v c = split (ℕ_discrete v (m.i f)) (ℕ_discrete v (m.j f)) c

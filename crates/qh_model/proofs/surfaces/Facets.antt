@@ -1,4 +1,4 @@
--- Facets with neighbours over their sides, and what weighted points of their corners may have: no corner above a facet.
+-- Facets with neighbours across their sides, and the points of their corners: no corner is above a facet.
 use Rattle.qh_model.specs.contract.SoundSurface.{HasDistinctFacets, IsInner, IsStrict}
 use Rattle.qh_model.specs.contract.Surface.{IsCorner, Side, Surface, HasTwin, IsWhole, end, rise, start, rest, Side.first, Side.second, Side.third}
 use Rattle.qh_model.specs.contract.Weighted.{Weighted, above, weighted_dot, plane_of}
@@ -12,7 +12,7 @@ use Rattle.qh_model.proofs.algebra.Signs.{less_differ, less_one_way, equal_le, s
 use Rattle.qh_model.proofs.algebra.Signs.{opposite_nonneg, opposite_positive, opposite_negative}
 use Rattle.qh_model.proofs.surfaces.Determinants.{QE, put4, quad, dot4E, above-turn, above-flip, above-first, above-second, above-third}
 
--- what holds of the corners one by one holds of all
+-- a fact about the corners one by one holds for all
 pub of_corners : (m : Surface) (f : ℕ) (P : ℕ → Type 0) → P (m.i f) → P (m.j f) → P (m.k f) → (l : ℕ) → IsCorner m f l → P l
 of_corners m f P a b c l (inl e) = subst P (sym e) a
 of_corners m f P a b c l (inr (inl e)) = subst P (sym e) b
@@ -25,13 +25,13 @@ module _ (m : Surface) where
   corner_start f second = inr (inl refl)
   corner_start f third = inr (inr refl)
 
-  -- so is its end
+  -- the end of a side is a corner
   pub corner_end : (f : ℕ) (s : Side) → IsCorner m f (end m f s)
   corner_end f first = inr (inl refl)
   corner_end f second = inr (inr refl)
   corner_end f third = inl refl
 
-  -- and the id across
+  -- the third id of a side is a corner
   pub corner_rest : (f : ℕ) (s : Side) → IsCorner m f (rest m f s)
   corner_rest f first = inr (inr refl)
   corner_rest f second = inl refl
@@ -47,7 +47,7 @@ module _ (m : Surface) where
   corner_cases f third l (inr (inl e)) = inr (inr e)
   corner_cases f third l (inr (inr e)) = inl e
 
-  -- a corner or not
+  -- decides whether an id is a corner
   pub corner_test : (f l : ℕ) → IsCorner m f l ⊎ (¬ (IsCorner m f l))
   corner_test f l = test (ℕ_discrete l (m.i f)) (ℕ_discrete l (m.j f)) (ℕ_discrete l (m.k f))
     where
@@ -58,12 +58,12 @@ module _ (m : Surface) where
       test (no a) (no b) (no c) = inr (λ h. ⊎_elim a (λ k. ⊎_elim b c k) h)
 
 module _ (m : Surface) (at : ℕ → Weighted) where
-  -- ---- a facet and its neighbour, told by the side between them
-  -- how far a point is above the facet
+  -- ---- a facet and its neighbour, in terms of the side between them
+  -- the height of a point above the facet
   abbrev pub side_rise : ℕ → Side → Weighted → ℤ
   side_rise f s y = above (at (start m f s)) (at (end m f s)) (at (rest m f s)) y
 
-  -- and above the neighbour turned over
+  -- the height of a point above the reversed neighbour
   abbrev pub far_rise : ℕ → Side → Weighted → ℤ
   far_rise f s y = above (at (start m f s)) (at (end m f s)) (at (far m f s)) y
 
@@ -73,42 +73,42 @@ module _ (m : Surface) (at : ℕ → Weighted) where
   rise_side f second y = above-turn (at (m.i f)) (at (m.j f)) (at (m.k f)) y
   rise_side f third y = above-turn (at (m.i f)) (at (m.j f)) (at (m.k f)) y ∙ above-turn (at (m.j f)) (at (m.k f)) (at (m.i f)) y
 
-  -- what it sees
+  -- the facet sees a point
   pub side_seen : (f : ℕ) (s : Side) (y : Weighted) → pos 0 <ℤ rise m at f y → pos 0 <ℤ side_rise f s y
   side_seen f s y = equal_positive _ _ (rise_side f s y)
 
-  -- what it is blind to
+  -- the facet does not see a point
   pub side_blind : (f : ℕ) (s : Side) (y : Weighted) → rise m at f y ≤ℤ pos 0 → side_rise f s y ≤ℤ pos 0
   side_blind f s y = equal_nonpos _ _ (rise_side f s y)
 
-  -- what is strictly below it
+  -- a point strictly below the facet
   pub side_below : (f : ℕ) (s : Side) (y : Weighted) → rise m at f y <ℤ pos 0 → side_rise f s y <ℤ pos 0
   side_below f s y = equal_negative _ _ (rise_side f s y)
 
   module _ (w : IsWhole m) (f : ℕ) (i : In f m.live) (s : Side) (y : Weighted) where
-    -- the neighbour from the side's own ends
+    -- the neighbour in terms of the side's own ends
     pub rise_over : rise m at (m.over f s) y ≡ above (at (end m f s)) (at (start m f s)) (at (far m f s)) y
     rise_over =
         let t = w f i s in
         rise_side (m.over f s) (m.back f s) y ∙ λ k. above (at (t.start_is k)) (at (t.end_is k)) (at (far m f s)) y
 
-    -- and turned over
+    -- the reversed neighbour
     pub over_flip : rise m at (m.over f s) y ≡ neg_ℤ (far_rise f s y)
     over_flip = rise_over ∙ above-flip (at (start m f s)) (at (end m f s)) (at (far m f s)) y
 
-    -- what it sees
+    -- the neighbour sees a point
     pub far_seen : pos 0 <ℤ rise m at (m.over f s) y → far_rise f s y <ℤ pos 0
     far_seen = opposite_negative _ _ over_flip
 
-    -- what it is blind to
+    -- the neighbour does not see a point
     pub far_blind : rise m at (m.over f s) y ≤ℤ pos 0 → pos 0 ≤ℤ far_rise f s y
     far_blind = opposite_nonneg _ _ over_flip
 
-    -- what is strictly below it
+    -- a point strictly below the neighbour
     pub far_below : rise m at (m.over f s) y <ℤ pos 0 → pos 0 <ℤ far_rise f s y
     far_below = opposite_positive _ _ over_flip
 
--- ---- what lies strictly below a facet shows its corners to be different
+-- ---- the corners of a facet are different if a point lies strictly below it
 module _ (m : Surface) (at : ℕ → Weighted) (c : Weighted) (h : IsInner m at c) (f : ℕ) (i : In f m.live) where
   -- the ends of a side differ
   pub ends_differ : (s : Side) → start m f s ≢ end m f s
@@ -118,13 +118,13 @@ module _ (m : Surface) (at : ℕ → Weighted) (c : Weighted) (h : IsInner m at 
       (λ k. above (at (e k)) (at (end m f s)) (at (rest m f s)) c) in
       omega (arith, ints, twice, low, same)
 
-  -- and the id across from both
+  -- the third id differs from both ends
   pub rest_differs : (s : Side) → (rest m f s ≢ start m f s) × (rest m f s ≢ end m f s)
   rest_differs first = (ends_differ third, λ e. ends_differ second (sym e))
   rest_differs second = (ends_differ first, λ e. ends_differ third (sym e))
   rest_differs third = (ends_differ second, λ e. ends_differ first (sym e))
 
--- the neighbour's far corner is no corner of the facet
+-- the far corner of the neighbour is no corner of the facet
 pub far_apart : (m : Surface) (at : ℕ → Weighted) (c : Weighted) → IsWhole m → IsInner m at c
     → (f : ℕ) → In f m.live → (s : Side) → ¬ (IsCorner m f (far m f s))
 far_apart m at c w h f i s k = apart (corner_cases m f s (far m f s) k)
@@ -142,13 +142,13 @@ far_apart m at c w h f i s k = apart (corner_cases m f s (far m f s) k)
         less_one_way (side_rise m at f s c) (pos 0) (side_below m at f s c (h f i))
         (subst (λ l. pos 0 <ℤ above (at (start m f s)) (at (end m f s)) (at l) c) e (far_below m at w f i s c (h (m.over f s) t.live)))
 
--- its own corners lie on it
+-- the corners of a facet lie on it
 pub rise_own : (m : Surface) (at : ℕ → Weighted) (f l : ℕ) → IsCorner m f l → rise m at f (at l) ≡ pos 0
 rise_own m at f =
     let a = at (m.i f) in let b = at (m.j f) in let c = at (m.k f) in
     of_corners m f (λ l. rise m at f (at l) ≡ pos 0) (above-first a b c) (above-second a b c) (above-third a b c)
 
--- the plane measures how far a point is above it
+-- the value of the plane is the height of a point above it
 pub plane-is : (a b c y : Weighted) → weighted_dot (plane_of a b c) y ≡ above a b c y
 unfolding above
 plane-is a b c y = refl
@@ -158,7 +158,7 @@ plane-is a b c y = refl
 pub sum4 : Weighted → Weighted → Weighted → Weighted
 sum4 p q r = record { w = p.w +ℤ q.w +ℤ r.w; x = p.x +ℤ q.x +ℤ r.x; y = p.y +ℤ q.y +ℤ r.y; z = p.z +ℤ q.z +ℤ r.z }
 
--- how far it is above a plane
+-- the height of the sum above a plane
 pub above-sum : (a b c p q r : Weighted) → above a b c (sum4 p q r) ≡ above a b c p +ℤ above a b c q +ℤ above a b c r
 unfolding above sum4
 above-sum a b c p q r = dot4-sum (plane_of a b c)
@@ -170,7 +170,7 @@ above-sum a b c p q r = dot4-sum (plane_of a b c)
         ring (put4 n (put4 p (put4 q (put4 r [])))) (dot4E (quad 0) total) (sum (dot4E (quad 0))) refl
 
 module _ (a b c p q r : Weighted) where
-  -- a sum of points not above a plane isn't above it
+  -- a sum of points not above a plane is not above it
   pub sum_blind : above a b c p ≤ℤ pos 0 → above a b c q ≤ℤ pos 0 → above a b c r ≤ℤ pos 0 → above a b c (sum4 p q r) ≤ℤ pos 0
   sum_blind = sum_nonpos _ _ _ _ (above-sum a b c p q r)
 
@@ -178,7 +178,7 @@ module _ (a b c p q r : Weighted) where
   pub sum_level : above a b c p ≡ pos 0 → above a b c q ≡ pos 0 → above a b c r ≡ pos 0 → above a b c (sum4 p q r) ≡ pos 0
   sum_level = sum_zero _ _ _ _ (above-sum a b c p q r)
 
-  -- points not above it whose sum isn't below it are on it
+  -- points not above a plane whose sum is not below it are on it
   pub level_parts : above a b c p ≤ℤ pos 0 → above a b c q ≤ℤ pos 0 → above a b c r ≤ℤ pos 0 → pos 0 ≤ℤ above a b c (sum4 p q r)
       → (above a b c p ≡ pos 0) × (above a b c q ≡ pos 0) × (above a b c r ≡ pos 0)
   level_parts = sum_parts _ _ _ _ (above-sum a b c p q r)
@@ -193,13 +193,13 @@ middle_on m at f =
     let a = at (m.i f) in let b = at (m.j f) in let c = at (m.k f) in
     sum_level a b c a b c (above-first a b c) (above-second a b c) (above-third a b c)
 
--- ---- where all is strict
+-- ---- the case that all is strict
 module _ (m : Surface) (at : ℕ → Weighted) (h : IsStrict m at) (f g : ℕ) (i : In f m.live) (j : In g m.live) where
   -- no corner is above a facet
   pub weak : (l : ℕ) → IsCorner m g l → rise m at f (at l) ≤ℤ pos 0
   weak l c = ⊎_elim (λ k. equal_le _ _ (rise_own m at f l k)) (λ k. negative_le _ (h f g i j l c k)) (corner_test m f l)
 
-  -- a corner on a facet is one of its own
+  -- a corner on a facet is a corner of this facet
   corner_on : (l : ℕ) → IsCorner m g l → rise m at f (at l) ≡ pos 0 → IsCorner m f l
   corner_on l c e = ⊎_elim (λ k. k) (λ k. absurd (less_differ _ _ (h f g i j l c k) e)) (corner_test m f l)
 

@@ -1,4 +1,4 @@
--- A finished surface misses no extreme id and no supporting plane.
+-- A finished surface includes every extreme id and every supporting plane.
 use Rattle.std.proofs.Common.{◌↔◌, ◌≡◌, ◌≢◌, ℕ, arith, refl, sym, ap, subst, ◌∙◌, ◌⊎◌, inl, inr, List, [], ◌∷◌}
 use Rattle.std.proofs.lemmas.Int.{ints}
 use native.Mathlib.Decide.{ℕ_discrete}
@@ -21,7 +21,7 @@ use Rattle.qh_model.proofs.surfaces.Determinants.{QE, aboveE, dot-together, abov
 use Rattle.qh_model.proofs.surfaces.{Facets.corner_test, Simplex.middle_is_below, SurfaceLaws.rise_is_vol}
 
 -- ---- directions as planes
--- the plane that measures along w
+-- the plane whose value is the scalar product with w
 abbrev across : Vector → Weighted
 across w = record { w = pos 0; x = w.x; y = w.y; z = w.z }
 
@@ -39,7 +39,7 @@ normal-above a b c =
 abbrev below_level : Vector → ℤ → Weighted
 below_level w L = record { w = pos 1 -ℤ pos 4 *ℤ L; x = pos 4 *ℤ w.x; y = pos 4 *ℤ w.y; z = pos 4 *ℤ w.z }
 
--- how far a point is beyond it
+-- how far a point is beyond this plane
 below_level-point : (w : Vector) (L : ℤ) (p : Vector) → weighted_dot (below_level w L) (weighted p) ≡ pos 4 *ℤ dot w p +ℤ (pos 1 -ℤ pos 4 *ℤ L)
 below_level-point w L p =
     let W = vec 0 in let P = vec 1 in let four = mul (con (pos 4)) in let weight = less (con (pos 1)) (four (var 6)) in
@@ -59,12 +59,12 @@ module _ (at : ℕ → Vector) (ids : List ℕ) (m : Surface) (z : IsFinished at
   is_vol : (i j k l : ℕ) → above (P i) (P j) (P k) (P l) ≡ vol (at i) (at j) (at k) (at l)
   is_vol i j k l = rise_is_vol (at i) (at j) (at k) (at l)
 
-  -- what the record says in terms of `above`
+  -- the facts of the record in terms of `above`
   pub unseen_above : (f : ℕ) → In f m.live → (l : ℕ) → Members ids l → rise m P f (P l) ≤ℤ pos 0
   unseen_above f i l h = subst (λ x. x ≤ℤ pos 0) (sym (is_vol (m.i f) (m.j f) (m.k f) l)) (z.unseen f i l h)
 
   -- ---- extreme ids are corners
-  -- an extreme id is a corner of the facet of which and the middle its point is a combination
+  -- an extreme id is a corner of the facet whose corners, with the middle, combine to its point
   corner_of_combination : (l : ℕ) → Extreme at (Members ids) l → (q : CombinationWithInner m P o (P l)) → IsCorner m q.f l
   corner_of_combination l x q = decide (corner_test m q.f l)
     where
@@ -128,7 +128,7 @@ module _ (at : ℕ → Vector) (ids : List ℕ) (m : Surface) (z : IsFinished at
   pub facet_area : (f : ℕ) → In f m.live → ¬ (AreInLine (at (m.i f)) (at (m.j f)) (at (m.k f)))
   facet_area f i = inner_area at m z.s z.t z.u z.v f (z.sound.inner f i)
 
-  -- its corners are members, and no member is above it
+  -- the corners of a facet are members, and no member is above it
   facet_supports : (f : ℕ) → In f m.live → IsSupportingTriple at (Members ids) (m.i f) (m.j f) (m.k f)
   facet_supports f i = record {
     has_i = z.corners f i (m.i f) (inl refl);
@@ -186,7 +186,7 @@ module _ (at : ℕ → Vector) (ids : List ℕ) (m : Surface) (z : IsFinished at
         });
       }
 
-  -- ---- one side outside
+  -- ---- the same side outside
   module _ (i j k a b c : ℕ) (t : IsSupportingTriple at (Members ids) i j k) (r : IsSupportingTriple at (Members ids) a b c)
       (e : vol (at i) (at j) (at k) (at a) ≡ pos 0) where
     -- no two planes that support the set are opposite
@@ -229,18 +229,18 @@ module _ (at : ℕ → Vector) (ids : List ℕ) (m : Surface) (z : IsFinished at
       record { f = q.f; live = q.live; along = one.0; same = one.1 }
 
 -- ---- the laws
--- the law
+-- proof of the law `ExtremesAreCorners`
 pub extremes_are_corners : ExtremesAreCorners
 extremes_are_corners = corner_of_extreme
 
--- the law
+-- proof of the law `FacetsSupport`
 pub facets_support : FacetsSupport
 facets_support = facet_supports
 
--- the law
+-- proof of the law `ExtremesOfPlaneAreCorners`
 pub extremes_of_plane_are_corners : ExtremesOfPlaneAreCorners
 extremes_of_plane_are_corners = corner_of_plane
 
--- the law
+-- proof of the law `PlanesHaveFacets`
 pub planes_have_facets : PlanesHaveFacets
 planes_have_facets = facet_of_plane

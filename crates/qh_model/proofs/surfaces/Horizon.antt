@@ -1,4 +1,4 @@
--- The horizon: where one side of it ends exactly one begins, and the other way round.
+-- The horizon: at the end of a side exactly one side begins, and at its start exactly one ends.
 use Rattle.qh_model.specs.contract.{Rewired.IsHorizonSide, SoundSurface.IsSound, SoundSurface.perturbed, SoundSurface.towards}
 use Rattle.qh_model.specs.contract.Surface.{Side, Surface, IsWhole, end, rise, start, Side.first, Side.second, Side.third}
 use Rattle.qh_model.specs.{contract.Weighted.Weighted, contract.Weighted.above, headline.Sets.In, laws.Horizons.HasHorizonSide}
@@ -12,7 +12,7 @@ use Rattle.qh_model.proofs.surfaces.{Determinants.swap14, Facets.corner_start, F
 use Rattle.qh_model.proofs.surfaces.PerturbedHorizon.{Scene, HorizonSide, Joined, horizon_below, horizon_once, horizon_next}
 use Rattle.qh_model.proofs.surfaces.PerturbedInwards.{Choice, choose}
 
--- ---- and where it starts another ends
+-- ---- at the start of a horizon side another ends
 -- a horizon side that ends at u
 pub record Ended (m : Surface) (at : ℕ → Weighted) (top : Weighted) (u : ℕ) : Type 0 where
   pub f : ℕ
@@ -21,7 +21,7 @@ pub record Ended (m : Surface) (at : ℕ → Weighted) (top : Weighted) (u : ℕ
   pub ends : end m f s ≡ u
 
 module _ (m : Surface) (home : ℕ → Weighted) (o : Weighted) (c : Scene m home o) where
-  -- a horizon side is known by its end
+  -- a horizon side is determined by its end
   pub horizon_once_end : (f g : ℕ) (s t : Side) → HorizonSide m c.at c.top f s → HorizonSide m c.at c.top g t
       → end m f s ≡ end m g t → start m f s ≡ start m g t
   horizon_once_end f g s t a b e = dite (ℕ_discrete (start m f s) (start m g t)) (λ k. k) (λ n. absurd (never n))
@@ -34,13 +34,13 @@ module _ (m : Surface) (home : ℕ → Weighted) (o : Weighted) (c : Scene m hom
           (horizon_below m home o c f s a (start m g t) (g, b.live, corner_start m g t) (λ q. n (sym q))
           (λ q. ends_differ m home o c.sound.inner g b.live t (q ∙ e)))
 
-  -- where a horizon side starts another ends: from side to side the way leads back to the first, and each side is the next of one alone
+  -- at the start of a horizon side another ends: the way from side to side returns to the first, and each side follows only one
   pub horizon_prev : (f : ℕ) (s : Side) → HorizonSide m c.at c.top f s → Ended m c.at c.top (start m f s)
   horizon_prev f s r =
       let back = comes_back start_of corners within one_way in let j = (side back.0).1 in
       record { f = j.f; s = j.s; horizon = j.horizon; ends = back.1 }
     where
-      -- the sides from this one on, each by its start
+      -- the sides from this one, each given by its start
       side : ℕ → (v : ℕ) × Joined m c.at c.top v
       side zero = (start m f s, record { f = f; s = s; horizon = r; starts = refl })
       side (suc k) = let j = (side k).1 in (end m j.f j.s, horizon_next m home o c j.f j.s j.horizon)
@@ -74,7 +74,7 @@ pub record Shown (m : Surface) (home : ℕ → Weighted) (o p : Weighted) : Type
   pub edge : (f : ℕ) (s : Side) → HorizonSide m scene.at scene.top f s → IsHorizonSide m home p f s
 
 module _ (m : Surface) (home : ℕ → Weighted) (o : Weighted) (w : IsWhole m) (z : IsSound m home o) (p : Weighted) where
-  -- for a real point the scene can be set
+  -- a real point satisfies the assumptions above
   pub shown : Shown m home o p
   shown = record {
     scene = record {
@@ -113,23 +113,23 @@ module _ (m : Surface) (home : ℕ → Weighted) (o : Weighted) (w : IsWhole m) 
       down_back : (f : ℕ) → In f m.live → rise m at f top <ℤ pos 0 → rise m home f p ≤ℤ pos 0
       down_back f i h = by_lt_z (pos 0) (rise m home f p) (λ k. absurd (less_one_way _ _ (up f i k) h)) (λ k. k)
 
-  -- THEOREM: each horizon edge has one next and one before, told by its ends alone
+  -- THEOREM: each horizon edge has exactly one successor and one predecessor, determined by its ends
   pub edge_next : (f : ℕ) (s : Side) → IsHorizonSide m home p f s → HasHorizonSide m home p (λ g t. start m g t ≡ end m f s)
   edge_next f s e =
       let h = shown in let j = horizon_next m home o h.scene f s (h.horizon f s e) in
       record { f = j.f; s = j.s; edge = h.edge j.f j.s j.horizon; is = j.starts }
 
-  -- and one before it
+  -- each horizon edge has one predecessor
   pub edge_prev : (f : ℕ) (s : Side) → IsHorizonSide m home p f s → HasHorizonSide m home p (λ g t. end m g t ≡ start m f s)
   edge_prev f s e =
       let h = shown in let j = horizon_prev m home o h.scene f s (h.horizon f s e) in
       record { f = j.f; s = j.s; edge = h.edge j.f j.s j.horizon; is = j.ends }
 
-  -- known by its start
+  -- the start of a horizon side determines it
   pub edge_known_by_start : (f g : ℕ) (s t : Side) → IsHorizonSide m home p f s → IsHorizonSide m home p g t → start m f s ≡ start m g t → (f ≡ g) × (s ≡ t)
   edge_known_by_start f g s t a b = let h = shown in horizon_once m home o h.scene f g s t (h.horizon f s a) (h.horizon g t b)
 
-  -- known by its end
+  -- the end of a horizon side determines it
   pub edge_known_by_end : (f g : ℕ) (s t : Side) → IsHorizonSide m home p f s → IsHorizonSide m home p g t → end m f s ≡ end m g t → (f ≡ g) × (s ≡ t)
   edge_known_by_end f g s t a b e =
       let h = shown in edge_known_by_start f g s t a b (horizon_once_end m home o h.scene f g s t (h.horizon f s a) (h.horizon g t b) e)

@@ -6,7 +6,7 @@ use Rattle.qh_model.specs.{headline.Predicates.vol, headline.Sets.In, headline.S
 use Rattle.qh_model.proofs.algebra.{Signs.less_differ, Signs.less_le, VectorIdentities.vol-first, VectorIdentities.vol-second, VectorIdentities.vol-third}
 use Rattle.qh_model.proofs.{extremes.ExtremeIds.combination_within, surfaces.Facets.of_corners, surfaces.Finished.extremes_are_corners}
 
--- with one more id that is above no facet a surface is finished, too
+-- a surface stays finished with one more id that is above no facet
 pub finished_with : (at : ℕ → Vector) (ids : List ℕ) (m : Surface) → IsFinished at ids m → (l : ℕ)
     → ((f : ℕ) → In f m.live → vol (at (m.i f)) (at (m.j f)) (at (m.k f)) (at l) ≤ℤ pos 0) → IsFinished at (l ∷ ids) m
 finished_with at ids m z l b = record {
@@ -39,7 +39,7 @@ module _ (at : ℕ → Vector) (part : List ℕ) (m : Surface) (z : IsFinished a
       let p = at (m.i f) in let q = at (m.j f) in let r = at (m.k f) in
       less_differ _ _ (below f i) (of_corners m f (λ n. vol p q r (at n) ≡ pos 0) (vol-first p q r) (vol-second p q r) (vol-third p q r) l c)
 
-  -- so it is not extreme in a set with the part
+  -- so the point is not extreme in a set that includes the part
   pub inner_is_not_extreme : (ids : List ℕ) → ((i : ℕ) → In i part → In i ids) → ¬ (Extreme at (Members ids) l)
   inner_is_not_extreme ids sub x = no_corner (extremes_are_corners at (l ∷ part) m (finished_with at part m z l (λ f i. less_le _ _ (below f i))) l
       (inl refl, λ c. x.1 (combination_within at (Others (Members (l ∷ part)) l) (Others (Members ids) l) (at l) c others)))

@@ -1,4 +1,4 @@
--- What a surface keeps where a cone replaces the facets that see an id, and which points see none of it.
+-- The invariant of a surface if a cone replaces the facets that see an id, and the points that see none of the new surface.
 use Rattle.qh_model.specs.contract.SoundSurface.{HasDistinctFacets, IsInner, IsSound, IsStrict, perturbed}
 use Rattle.qh_model.specs.contract.Surface.{IsCorner, Side, Surface, HasTwin, IsWhole, end, rise, start, rest, Side.first, Side.second, Side.third}
 use Rattle.qh_model.specs.{contract.Weighted.Weighted, headline.Sets.In}
@@ -9,12 +9,12 @@ use Rattle.qh_model.proofs.{algebra.Signs.not_less, surfaces.Cone.KeptOf, surfac
 use Rattle.qh_model.proofs.surfaces.{Cone.kept_corner, Cone.corner_kept, Cone.inner_kept, Cone.lifted_kept, ConePlanes.Old, Determinants.above-swap_last}
 use Rattle.qh_model.proofs.surfaces.Facets.{side_rise, side_below, corner_start, corner_end, corner_rest, corner_cases, corner_test, ends_differ}
 
--- all corners of a facet from those of a side
+-- all corners of a facet, from those of a side
 from_side : (m : Surface) (f : ℕ) (s : Side) (P : ℕ → Type 0) → P (start m f s) → P (end m f s) → P (rest m f s) → (l : ℕ) → IsCorner m f l → P l
 from_side m f s P a b c l k =
     ⊎_elim (λ e. subst P (sym e) a) (λ j. ⊎_elim (λ e. subst P (sym e) b) (λ e. subst P (sym e) c) j) (corner_cases m f s l k)
 
--- two facets with one side in common, the same way, are one
+-- two facets with the same directed side are equal
 pub edge_once : (m : Surface) (home : ℕ → Weighted) (o : Weighted) → IsSound m home o
     → (f g : ℕ) → In f m.live → In g m.live → (s t : Side) → start m f s ≡ start m g t → end m f s ≡ end m g t → f ≡ g
 edge_once m home o q f g i j s t e1 e2 = same (corner_test m f (rest m g t)) (corner_test m g (rest m f s))
@@ -39,7 +39,7 @@ edge_once m home o q f g i j s t e1 e2 = same (corner_test m f (rest m g t)) (co
         let low_g = side_below m at g t _ (st g f j i (rest m f s) (corner_rest m f s) b) in
         absurd (omega (arith, ints, low_f, low_g, swapped))
 
--- a side is known by its start
+-- a side is determined by its start
 pub side_once : (m : Surface) (home : ℕ → Weighted) (o : Weighted) → IsInner m home o → (f : ℕ) → In f m.live → (s t : Side) → start m f s ≡ start m f t → s ≡ t
 side_once m home o q f i = once
   where
@@ -57,7 +57,7 @@ side_once m home o q f i = once
     once third second e = absurd (apart second (sym e))
     once third third e = refl
 
--- three different numbers aren't of two
+-- three different numbers are not all among two
 two_places : (x y z u v : ℕ) → x ≢ y → y ≢ z → z ≢ x → (x ≡ u) ⊎ (x ≡ v) → (y ≡ u) ⊎ (y ≡ v) → (z ≡ u) ⊎ (z ≡ v) → ⊥
 two_places x y z u v a b c (inl p) (inl q) r = a (p ∙ sym q)
 two_places x y z u v a b c (inr p) (inr q) r = a (p ∙ sym q)
@@ -72,7 +72,7 @@ module _ {m m' : Surface} {home : ℕ → Weighted} {o : Weighted} {p : ℕ} (w 
   distinct_kept : HasDistinctFacets m'
   distinct_kept f' g' i j within = same (r.origin f' i) (r.origin g' j)
     where
-      -- an old corner of the cone's facet is an end of its side
+      -- an old corner of the cone's facet is an end of its base side
       end_of : (n : ConeOf m m' home p r.number g') (l : ℕ) → Old m l → IsCorner m' g' l → (l ≡ start m n.f n.s) ⊎ (l ≡ end m n.f n.s)
       end_of n l k (inl e) = inl (e ∙ n.i_is)
       end_of n l k (inr (inl e)) = inr (e ∙ n.j_is)
@@ -119,6 +119,6 @@ module _ {m m' : Surface} {home : ℕ → Weighted} {o : Weighted} {p : ℕ} (w 
       same (inr n) (inl k) = absurd (p_fresh w q r (g', k.live, corner_kept k p (within p (inr (inr (sym n.k_is))))))
       same (inr a) (inr b) = cone_cone a b
 
-  -- THEOREM: a replacement keeps it
+  -- THEOREM: a replacement keeps the invariant
   pub sound_kept : IsSound m' home o
   sound_kept = record { inner = inner_kept w q r; distinct = distinct_kept; lifted = lifted_kept w q r }

@@ -1,4 +1,4 @@
--- Each point lies over one facet, seen from the inner point: so what no facet sees is a mix of corners and the inner point.
+-- Each point lies over one facet, seen from the inner point. So a point that no facet sees is a convex combination of corners and the inner point.
 use Rattle.qh_model.specs.contract.SoundSurface.{IsSound, IsStrict, perturbed, towards}
 use Rattle.qh_model.specs.contract.Surface.{Side, Surface, IsWhole, end, rise, start, rest, Side.first, Side.second, Side.third}
 use Rattle.qh_model.specs.{contract.Weighted.Weighted, contract.Weighted.weighted_dot, contract.Weighted.above, headline.Sets.In, steps.FarCorners.far}
@@ -17,7 +17,7 @@ pub record Located (m : Surface) (home : ℕ → Weighted) (o x : Weighted) : Ty
   pub live : In f m.live
   pub within : (s : Side) → above (home (start m f s)) (home (end m f s)) x o ≤ℤ pos 0
 
--- drawing towards o moves nothing as seen from o
+-- moving a point towards o does not change the facet over which it lies
 above-perturbed : (o a b x : Weighted) (n h i : ℤ) → above (towards o n a h) (towards o n b i) x o ≡ n *ℤ n *ℤ above a b x o
 unfolding above
 above-perturbed o a b x n h i =
@@ -33,7 +33,7 @@ above-perturbed3 o a b c n h i j =
     (aboveE (towardsE (quad 0) (var 16) (quad 1) (var 17)) (towardsE (quad 0) (var 16) (quad 2) (var 18))
     (towardsE (quad 0) (var 16) (quad 3) (var 19)) (quad 0)) (mul (mul (mul (var 16) (var 16)) (var 16)) (above_of 1 2 3 0)) refl
 
--- there is one
+-- there is a facet over which x lies
 pub located : (m : Surface) (home : ℕ → Weighted) (o : Weighted) → IsWhole m → IsSound m home o → (f0 : ℕ) → In f0 m.live → (x : Weighted) → Located m home o x
 located m home o w z f0 i0 x = found (least (λ f. true) (λ f. neg_ℤ (rise m at f o)) (λ f. rise m at f x) m.live (λ g i e. neg-positive _ (inside g i)))
   where
@@ -94,7 +94,7 @@ located m home o w z f0 i0 x = found (least (λ f. true) (λ f. neg_ℤ (rise m 
                     subst (λ z. pos 0 <ℤ z) same
                     (crosses (at u) (at v) (at (rest m l.m s)) (at (far m l.m s)) o x (bends m at home o w z.inner st l.m l.there s) k)
 
--- ---- its coordinates over the facet's corners and o
+-- ---- the coordinates of x with respect to the facet's corners and o
 module _ {m : Surface} {home : ℕ → Weighted} {o x : Weighted} (l : Located m home o x) where
   -- the first corner
   abbrev pub first_corner : Weighted
@@ -129,7 +129,7 @@ module _ {m : Surface} {home : ℕ → Weighted} {o x : Weighted} (l : Located m
         neg-nonneg _ (l.within first),
       )
 
-  -- x is the mix of the corners and o by them
+  -- x is the combination of the corners and o with these shares
   pub mix : (n : Weighted) → neg_ℤ (rise m home l.f o) *ℤ weighted_dot n x
       ≡ first_share *ℤ weighted_dot n first_corner +ℤ second_share *ℤ weighted_dot n second_corner
       +ℤ third_share *ℤ weighted_dot n third_corner +ℤ neg_ℤ (rise m home l.f x) *ℤ weighted_dot n o

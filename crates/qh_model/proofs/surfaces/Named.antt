@@ -1,5 +1,5 @@
--- A surface with other names of its corners: where they tell the corners apart and have their points, it is as
--- sound as before, and as finished. So a surface over positions in a list of points is one over their ids.
+-- A surface with other names of its corners: if different corners have different names, with the same points, it is sound if it was sound before, and finished
+-- if it was finished before. So a surface over positions in a list of points is a surface over their ids.
 use Rattle.std.proofs.Common.{◌≡◌, ℕ, zero, suc, ◌+◌, ◌/◌, ◌%◌, ◌<◌, refl, sym, ap, subst, ◌∙◌, inl, inr, List, [], ◌∷◌, length, map, true, false, cond}
 use Rattle.std.proofs.{Common.slice_index, lemmas.Bool.both_ways, lemmas.List.get_or-map}
 use Rattle.std.specs.{List.range_with_len, Prelude.pos, Prelude.◌<ℤ◌, Prelude.◌≤ℤ◌}
@@ -12,7 +12,7 @@ use Rattle.qh_model.specs.headline.{Predicates.place, Predicates.vol, Sets.In, S
 use Rattle.qh_model.proofs.lists.{Images.in_map, Images.of_map, Ranges.range_below, Ranges.range_named}
 use Rattle.qh_model.proofs.{renamed.Positions.number_at, surfaces.Stored.live_is_marked}
 
--- m' is m with the names of its corners
+-- m' is m with renamed corners
 pub record IsNamed (m m' : Surface) (name : ℕ → ℕ) : Type 0 where
   pub live : m'.live ≡ m.live
   pub i_is : (f : ℕ) → In f m.live → m'.i f ≡ name (m.i f)
@@ -21,36 +21,36 @@ pub record IsNamed (m m' : Surface) (name : ℕ → ℕ) : Type 0 where
   pub over_is : (f : ℕ) (s : Side) → In f m.live → m'.over f s ≡ m.over f s
   pub back_is : (f : ℕ) (s : Side) → In f m.live → m'.back f s ≡ m.back f s
 
--- the numbers below n have different names, since position leads back, and each name has its number's point
+-- the numbers below n have different names, since position is the inverse, and each name has its number's point
 pub record IsNaming (at at' : ℕ → Vector) (n : ℕ) (name position : ℕ → ℕ) : Type 0 where
   pub back : (l : ℕ) → l < n → position (name l) ≡ l
   pub point : (l : ℕ) → l < n → at' (name l) ≡ at l
 
 -- ---- the corners
 module _ {m m' : Surface} {name : ℕ → ℕ} (r : IsNamed m m' name) where
-  -- a live facet after is one before
+  -- a live facet of m' is one of m
   live_named : (f : ℕ) → In f m'.live → In f m.live
   live_named f = subst (In f) r.live
 
-  -- where a side starts
+  -- the start of a side
   pub start_named : (f : ℕ) → In f m.live → (s : Side) → start m' f s ≡ name (start m f s)
   start_named f i first = r.i_is f i
   start_named f i second = r.j_is f i
   start_named f i third = r.k_is f i
 
-  -- and ends
+  -- the end of a side
   pub end_named : (f : ℕ) → In f m.live → (s : Side) → end m' f s ≡ name (end m f s)
   end_named f i first = r.j_is f i
   end_named f i second = r.k_is f i
   end_named f i third = r.i_is f i
 
-  -- a corner by its name
+  -- the name of a corner
   corner_named : (f : ℕ) → In f m.live → (l : ℕ) → IsCorner m f l → IsCorner m' f (name l)
   corner_named f i l (inl e) = inl (ap name e ∙ sym (r.i_is f i))
   corner_named f i l (inr (inl e)) = inr (inl (ap name e ∙ sym (r.j_is f i)))
   corner_named f i l (inr (inr e)) = inr (inr (ap name e ∙ sym (r.k_is f i)))
 
-  -- a corner after is the name of one before
+  -- a corner of m' is the name of one of m
   of_corner_named : (f : ℕ) → In f m.live → (l : ℕ) → IsCorner m' f l → (c : ℕ) × IsCorner m f c × (l ≡ name c)
   of_corner_named f i l (inl e) = (m.i f, inl refl, e ∙ r.i_is f i)
   of_corner_named f i l (inr (inl e)) = (m.j f, inr (inl refl), e ∙ r.j_is f i)
@@ -86,12 +86,12 @@ module _ {m m' : Surface} {name : ℕ → ℕ} (r : IsNamed m m' name) where
 abbrev ArePlaced : Surface → (home home' : ℕ → Weighted) → (ℕ → ℕ) → Type 0
 ArePlaced m home home' name = (f : ℕ) → In f m.live → (l : ℕ) → IsCorner m f l → home' (name l) ≡ home l
 
--- position leads back from the name of a corner
+-- position maps the name of a corner back to the corner
 abbrev LeadsBack : Surface → (name position : ℕ → ℕ) → Type 0
 LeadsBack m name position = (f : ℕ) → In f m.live → (l : ℕ) → IsCorner m f l → position (name l) ≡ l
 
 module _ {m m' : Surface} {name : ℕ → ℕ} (r : IsNamed m m' name) where
-  -- a point is as far above a facet as before
+  -- the height of a point above a facet stays the same
   rise_named : (home home' : ℕ → Weighted) → ArePlaced m home home' name → (f : ℕ) → In f m.live → (y : Weighted) → rise m home f y ≡ rise m' home' f y
   rise_named home home' p f i y =
       let a = at _ _ (r.i_is f i) (inl refl) in let b = at _ _ (r.j_is f i) (inr (inl refl)) in let c = at _ _ (r.k_is f i) (inr (inr refl)) in
@@ -204,13 +204,13 @@ module _ (name : ℕ → ℕ) where
   stored_live n [] = refl
   stored_live n (f ∷ fs) = let rest = stored_live (n + 1) fs in λ k. cond f.live (n ∷ rest k) (rest k)
 
-  -- a live place has its facet's corners by their names
+  -- a live place has its facet with renamed corners
   stored_facet : (fs : List StoredFacet) (f : ℕ) → (facet_at fs f).live ≡ true → facet_at (map (named_facet name) fs) f ≡ named_facet name (facet_at fs f)
   stored_facet [] f e = absurd (both_ways false refl e)
   stored_facet (x ∷ fs) zero e = refl
   stored_facet (x ∷ fs) (suc f) e = stored_facet fs f e
 
-  -- what a name doesn't touch is as it was
+  -- the parts of the facets that renaming does not change
   pub stored_part : {X : Type 0} (part : StoredFacet → X) (fs : List StoredFacet) (f : ℕ) → ((x : StoredFacet) → part (named_facet name x) ≡ part x)
       → part (facet_at (map (named_facet name) fs) f) ≡ part (facet_at fs f)
   stored_part part [] f h = refl

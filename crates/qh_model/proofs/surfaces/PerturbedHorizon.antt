@@ -1,4 +1,4 @@
--- The horizon at perturbed places: where one of its sides ends exactly one begins.
+-- The horizon of perturbed corners: at the end of a side exactly one begins.
 use Rattle.qh_model.specs.contract.SoundSurface.{IsSound, IsStrict}
 use Rattle.qh_model.specs.contract.Surface.{IsCorner, Side, Surface, HasTwin, IsWhole, end, rise, start, rest}
 use Rattle.qh_model.specs.{contract.Weighted.Weighted, contract.Weighted.above, headline.Sets.In, steps.FarCorners.far}
@@ -16,7 +16,7 @@ use Rattle.qh_model.proofs.surfaces.FacetSides.{side_next, start_next, end_next,
 use Rattle.qh_model.proofs.surfaces.Facets.{rise_over, corner_end, corner_rest, corner_test, ends_differ, rest_differs}
 use Rattle.qh_model.proofs.surfaces.{KeptSound.edge_once, KeptSound.side_once, PlanesThroughLine.line_product, VisibleFacets.Least, VisibleFacets.least}
 
--- ---- at perturbed places: every facet sees top or is seen to be above it
+-- ---- perturbed corners: top is strictly above or strictly below every facet
 pub record Scene (m : Surface) (home : ℕ → Weighted) (o : Weighted) : Type 0 where
   pub whole : IsWhole m
   pub sound : IsSound m home o
@@ -37,7 +37,7 @@ module _ (m : Surface) (home : ℕ → Weighted) (o : Weighted) (c : Scene m hom
       → (l : ℕ) → Old m l → l ≢ start m f s → l ≢ end m f s → apex_rise m c.at f s c.top (c.at l) <ℤ pos 0
   horizon_below f s r l k ns ne = corner_below_cone m home o c.whole c.sound.inner c.at c.strict f r.live s l k ns ne c.top r.seen r.blind
 
-  -- a horizon side is known by its start, and by its end
+  -- a horizon side is determined by its start, and by its end
   pub horizon_once : (f g : ℕ) (s t : Side) → HorizonSide m c.at c.top f s → HorizonSide m c.at c.top g t → start m f s ≡ start m g t → (f ≡ g) × (s ≡ t)
   horizon_once f g s t a b e = dite (ℕ_discrete (end m f s) (end m g t)) (λ k. let q = edge_once m home o c.sound f g a.live b.live s t e k in
       (q, side_once m home o c.sound.inner g b.live s t (ap (λ h. start m h s) (sym q) ∙ e))) (λ n. absurd (never n))
@@ -49,7 +49,7 @@ module _ (m : Surface) (home : ℕ → Weighted) (o : Weighted) (c : Scene m hom
           (horizon_below g t b (end m f s) (f, a.live, corner_end m f s) (λ q. ends_differ m home o c.sound.inner f a.live s (e ∙ sym q)) n)))
           (horizon_below f s a (end m g t) (g, b.live, corner_end m g t) (λ q. ends_differ m home o c.sound.inner g b.live t (sym e ∙ sym q)) (λ q. n (sym q)))
 
--- ---- where a horizon side ends another begins
+-- ---- at the end of a horizon side another begins
 -- a horizon side that starts at v
 pub record Joined (m : Surface) (at : ℕ → Weighted) (top : Weighted) (v : ℕ) : Type 0 where
   pub f : ℕ
@@ -57,7 +57,7 @@ pub record Joined (m : Surface) (at : ℕ → Weighted) (top : Weighted) (v : �
   pub horizon : HorizonSide m at top f s
   pub starts : start m f s ≡ v
 
--- where a horizon side ends another starts
+-- at the end of a horizon side another starts
 pub horizon_next : (m : Surface) (home : ℕ → Weighted) (o : Weighted) (c : Scene m home o) (f : ℕ) (s : Side) → HorizonSide m c.at c.top f s
     → Joined m c.at c.top (end m f s)
 horizon_next m home o c f s r = found (least mark p q m.live (λ g i e. p_pos g i e))
@@ -83,7 +83,7 @@ horizon_next m home o c f s r = found (least mark p q m.live (λ g i e. p_pos g 
     out : ℕ → ℕ
     out g = end m g (from m g v)
 
-    -- how far a point is above the plane through v, top and another
+    -- the height of a point above the plane through v, top and another point
     round : ℕ → Weighted → ℤ
     round l y = above (at v) top (at l) y
 
@@ -108,7 +108,7 @@ horizon_next m home o c f s r = found (least mark p q m.live (λ g i e. p_pos g 
     t : HasTwin m f s
     t = c.whole f r.live s
 
-    -- the way back over the horizon side is no seen facet's
+    -- the reversed horizon side is not a side of a visible facet
     out_not_u : (g : ℕ) → In g m.live → mark g ≡ true → out g ≢ u
     out_not_u g i e k =
         let one = edge_once m home o c.sound g (m.over f s) i t.live (from m g v) (m.back f s) (starts g e ∙ sym t.start_is)
@@ -126,7 +126,7 @@ horizon_next m home o c f s r = found (least mark p q m.live (λ g i e. p_pos g 
     vw : round u (at w) <ℤ pos 0
     vw = let d = rest_differs m home o c.sound.inner f r.live s in below w (f, r.live, corner_rest m f s) d.0 d.1
 
-    -- the facet over the side that starts at v comes before
+    -- the facet across the side that starts at v comes earlier
     further : (g : ℕ) → In g m.live → mark g ≡ true → (d : Side) → from m g v ≡ d → pos 0 <ℤ rise m at (m.over g d) top
         → (mark (m.over g d) ≡ true) × (pos 0 <ℤ (p g *ℤ q (m.over g d) -ℤ q g *ℤ p (m.over g d)))
     further g i e d de k = (g'_marked, after_g)

@@ -1,4 +1,4 @@
--- Corners perturbed a very little towards an inner point, each by its own share: what was level is then strictly below.
+-- Corners perturbed slightly towards an inner point, each by its own share: level corners are then strictly below.
 use Rattle.qh_model.specs.contract.{SoundSurface.IsInner, SoundSurface.perturbed, SoundSurface.towards, Surface.Surface, Surface.rise, Weighted.Weighted}
 use Rattle.qh_model.specs.{contract.Weighted.above, headline.Sets.In}
 use Rattle.std.proofs.Common.{◌≡◌, ℕ, zero, suc, ◌+◌, ◌≤◌, refl, List, [], ◌∷◌, arith, sym, subst}
@@ -9,11 +9,11 @@ use Rattle.qh_model.proofs.algebra.Order.{mul-nonneg, mul-nonneg_nonpos, mul-pos
 use Rattle.qh_model.proofs.algebra.Ring.{Expr, ring, Expr.var, Expr.con, Expr.add, Expr.sub as less, Expr.mul}
 use Rattle.qh_model.proofs.surfaces.Determinants.{above_of, quad, QE, aboveE, put4}
 
--- what the shares add
+-- the contribution of the shares
 abbrev pub tilt : (o a b c p : Weighted) (h i j k : ℤ) → ℤ
 tilt o a b c p h i j k = h *ℤ above o b c p +ℤ i *ℤ above a o c p +ℤ j *ℤ above a b o p +ℤ k *ℤ above a b c o
 
--- the same of expressions
+-- the same for expressions
 abbrev pub towardsE : QE → Expr → QE → Expr → QE
 towardsE o n p k = record { w = add (mul n p.w) (mul k o.w); x = add (mul n p.x) (mul k o.x); y = add (mul n p.y) (mul k o.y); z = add (mul n p.z) (mul k o.z) }
 
@@ -33,17 +33,17 @@ pub size : ℤ → ℕ
 size (pos n) = n
 size (negsuc n) = suc n
 
--- it is a bound
+-- this number is a bound
 pub size_le : (x : ℤ) → (x ≤ℤ pos (size x)) × (neg_ℤ x ≤ℤ pos (size x))
 unfolding size
 size_le (pos n) = (omega (arith, ints), omega (arith, ints))
 size_le (negsuc n) = (omega (arith, ints), omega (arith, ints))
 
--- one bound for all members
+-- a bound for all members
 abbrev Bounded : {X : Type 0} → (X → ℤ) → List X → Type 0
 Bounded {X} r xs = (m : ℕ) × ((f : X) → In f xs → (r f <ℤ pos m) × (neg_ℤ (r f) <ℤ pos m))
 
--- there is one
+-- there is a bound for all members
 pub bound : {X : Type 0} (r : X → ℤ) (xs : List X) → Bounded r xs
 bound r [] = (zero, λ f i. absurd i)
 bound r (x ∷ xs) =
@@ -69,7 +69,7 @@ scale e x m n h k q =
     spread : pos n *ℤ (x -ℤ pos 1) ≡ pos n *ℤ x -ℤ pos n
     spread = ring (pos n ∷ x ∷ []) (mul (var 0) (less (var 1) (con (pos 1)))) (less (mul (var 0) (var 1)) (var 0)) refl
 
--- and a large enough scale downwards
+-- a multiple of a number not above 0 plus a negative number is below 0
 scale_down : (e x : ℤ) (n : ℕ) → e <ℤ pos 0 → x ≤ℤ pos 0 → (pos n *ℤ x +ℤ e) <ℤ pos 0
 scale_down e x n h q = let s = mul-nonneg_nonpos (pos n) x (omega (arith, ints)) q in omega (arith, ints, h, s)
 
@@ -84,7 +84,7 @@ pub record Choice (m : Surface) (home : ℕ → Weighted) (o : Weighted) (h : �
   pub up : (n : ℕ) → from ≤ n → (f : ℕ) → In f m.live → pos 0 <ℤ rise m home f p → pos 0 <ℤ rise m (perturbed home o h n) f (towards o (pos n) p (pos k))
   pub down : (n : ℕ) → from ≤ n → (f : ℕ) → In f m.live → rise m home f p ≤ℤ pos 0 → rise m (perturbed home o h n) f (towards o (pos n) p (pos k)) <ℤ pos 0
 
--- there is one
+-- there is a share for a new point
 pub choose : (m : Surface) (home : ℕ → Weighted) (o : Weighted) → IsInner m home o → (h : ℕ → ℕ) (p : Weighted) → Choice m home o h p
 choose m home o inner h p = record { k = k; from = suc scale_to; up = up; down = down }
   where

@@ -1,4 +1,4 @@
--- The product laws of `above`: of planes through one line, and of a point over its coordinates.
+-- The product laws of `above`: for planes through one line, and for a point in terms of its coordinates.
 use Rattle.qh_model.specs.contract.Weighted.{Weighted, above}
 use Rattle.std.proofs.{Common.◌≡◌, Common.ℕ, Common.refl, Common.[], Common.◌∷◌, Common.arith, Common.ap, Common.◌∙◌, lemmas.Int.ints}
 use Rattle.std.specs.Prelude.{ℤ, pos, ◌+ℤ◌, ◌-ℤ◌, ◌*ℤ◌}
@@ -26,13 +26,13 @@ line u v =
       yz = u.y *ℤ v.z -ℤ u.z *ℤ v.y;
     }
 
--- how far q is above the plane through the line and p
+-- the height of q above the plane through the line and p
 unfoldable round : Line → Weighted → Weighted → ℤ
 round l p q =
     l.wx *ℤ (p.y *ℤ q.z -ℤ p.z *ℤ q.y) -ℤ l.wy *ℤ (p.x *ℤ q.z -ℤ p.z *ℤ q.x) +ℤ l.wz *ℤ (p.x *ℤ q.y -ℤ p.y *ℤ q.x)
     +ℤ l.xy *ℤ (p.w *ℤ q.z -ℤ p.z *ℤ q.w) -ℤ l.xz *ℤ (p.w *ℤ q.y -ℤ p.y *ℤ q.w) +ℤ l.yz *ℤ (p.w *ℤ q.x -ℤ p.x *ℤ q.w)
 
--- 0 for a line
+-- the condition of a line
 unfoldable skew : Line → ℤ
 skew l = l.wx *ℤ l.yz -ℤ l.wy *ℤ l.xz +ℤ l.wz *ℤ l.xy
 
@@ -64,28 +64,28 @@ lineE u v = record {
 abbrev freeE : LineE
 freeE = record { wx = var 16; wy = var 17; wz = var 18; xy = var 19; xz = var 20; yz = var 21 }
 
--- `round` of expressions
+-- `round` for expressions
 abbrev roundE : LineE → QE → QE → Expr
 roundE l p q =
     let yz = less (mul p.y q.z) (mul p.z q.y) in let xz = less (mul p.x q.z) (mul p.z q.x) in let xy = less (mul p.x q.y) (mul p.y q.x) in
     let wz = less (mul p.w q.z) (mul p.z q.w) in let wy = less (mul p.w q.y) (mul p.y q.w) in let wx = less (mul p.w q.x) (mul p.x q.w) in
     add (less (add (add (less (mul l.wx yz) (mul l.wy xz)) (mul l.wz xy)) (mul l.xy wz)) (mul l.xz wy)) (mul l.yz wx)
 
--- `skew` of expressions
+-- `skew` for expressions
 abbrev skewE : LineE → Expr
 skewE l = add (less (mul l.wx l.yz) (mul l.wy l.xz)) (mul l.wz l.xy)
 
--- it is `above`
+-- `round` of a line through two points is `above`
 round-is : (u v p q : Weighted) → above u v p q ≡ round (line u v) p q
 unfolding above round
 round-is u v p q = ring (put4 u (put4 v (put4 p (put4 q [])))) (above_of 0 1 2 3) (roundE (lineE (quad 0) (quad 1)) (quad 2) (quad 3)) refl
 
--- a line through two points is one
+-- the coordinates of a line through two points satisfy the condition
 skew-zero : (u v : Weighted) → skew (line u v) ≡ pos 0
 unfolding skew
 skew-zero u v = ring_zero (put4 u (put4 v [])) (skewE (lineE (quad 0) (quad 1))) refl
 
--- the product law over the coordinates of a line
+-- the product law in terms of the coordinates of a line
 round-product : (l : Line) (a b p q : Weighted)
     → round l a p *ℤ round l b q -ℤ round l a q *ℤ round l b p ≡ round l a b *ℤ round l p q -ℤ skew l *ℤ above a b p q
 unfolding round skew above

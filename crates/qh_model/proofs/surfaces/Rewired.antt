@@ -1,4 +1,4 @@
--- The cone's twins, told by the horizon's ends alone, make a whole surface again.
+-- The twins of the cone, determined by the ends of the horizon's sides, make a whole surface again.
 use Rattle.qh_model.specs.contract.{Rewired.IsHorizonSide, Rewired.LinksTo, Rewired.IsRewired, Rewired.KeepsCorners, SoundSurface.IsSound}
 use Rattle.qh_model.specs.contract.Surface.{Side, Surface, HasTwin, IsWhole, end, rise, start, Side.first, Side.second, Side.third}
 use Rattle.qh_model.specs.{contract.Weighted.Weighted, headline.Sets.In}
@@ -6,19 +6,19 @@ use Rattle.std.proofs.{Common.◌≡◌, Common.ℕ, Common.ap, Common.sym, Comm
 use Rattle.std.specs.Prelude.{pos, ◌≤ℤ◌, ◌<ℤ◌}
 use Rattle.qh_model.proofs.surfaces.{Cone.KeptOf, Cone.ConeOf, Cone.Replaced, Horizon.edge_next, Horizon.edge_prev, KeptSound.side_once, KeptSound.sound_kept}
 
--- a kept facet's sides start as before
+-- the sides of a kept facet start as before
 same_start : (m m' : Surface) (f : ℕ) → KeepsCorners m m' f → (s : Side) → start m' f s ≡ start m f s
 same_start m m' f c first = c.i_is
 same_start m m' f c second = c.j_is
 same_start m m' f c third = c.k_is
 
--- and end as before
+-- the sides of a kept facet end as before
 same_end : (m m' : Surface) (f : ℕ) → KeepsCorners m m' f → (s : Side) → end m' f s ≡ end m f s
 same_end m m' f c first = c.j_is
 same_end m m' f c second = c.k_is
 same_end m m' f c third = c.i_is
 
--- the twin of a side from where it links to
+-- the twin of a side, from the side that it links to
 linked : (m' : Surface) (f : ℕ) (s : Side) (g : ℕ) (t : Side) → LinksTo m' f s g t → In g m'.live
     → start m' g t ≡ end m' f s → end m' g t ≡ start m' f s → m'.over g t ≡ f → HasTwin m' f s
 linked m' f s g t l i a b c =
@@ -94,7 +94,7 @@ whole_kept m m' home o p w z r f' i s' = from (r.only f' i) s'
     from (inl k) s' = kept_side f' k.0 k.1 s'
     from (inr (f, s, e, q)) s' = subst (λ x. HasTwin m' x s') (sym q) (cone_side f s e s')
 
--- the same as a replacement
+-- a rewired surface is a replacement
 pub replaced : (m m' : Surface) (home : ℕ → Weighted) (p : ℕ) → IsRewired m m' home p → Replaced m m' home p
 replaced m m' home p r = record { number = r.number; f0 = r.f0; live = r.live; seen = r.seen; origin = λ f' i. from f' (r.only f' i) }
   where

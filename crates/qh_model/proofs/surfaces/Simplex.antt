@@ -11,7 +11,7 @@ use Rattle.qh_model.proofs.surfaces.CramersRule.{cramer_level}
 use Rattle.qh_model.proofs.surfaces.Determinants.{above_of, put4, above-together, above-first, above-second, above-third, above-turn_last}
 use Rattle.qh_model.proofs.surfaces.{Facets.rise_own, Facets.plane-is, SimplexBoundary.simplex_boundary_sound}
 
--- what holds of 0, 1, 2 and 3
+-- a fact about 0, 1, 2 and 3 holds for each number below 4
 pub four : (P : ℕ → Type 0) → P 0 → P 1 → P 2 → P 3 → (f : ℕ) → In f (0 ∷ 1 ∷ 2 ∷ 3 ∷ []) → P f
 four P p q r s f (inl e) = subst P (sym e) p
 four P p q r s f (inr (inl e)) = subst P (sym e) q
@@ -19,30 +19,30 @@ four P p q r s f (inr (inr (inl e))) = subst P (sym e) r
 four P p q r s f (inr (inr (inr (inl e)))) = subst P (sym e) s
 four P p q r s f (inr (inr (inr (inr x)))) = absurd x
 
--- what holds of the three sides
+-- a fact about the three sides holds for each side
 sides : (P : Side → Type 0) → P first → P second → P third → (s : Side) → P s
 sides P p q r first = p
 sides P p q r second = q
 sides P p q r third = r
 
--- by cases of three
+-- a proof by three cases
 three_cases : {A B C X : Type 0} → (A → X) → (B → X) → (C → X) → A ⊎ B ⊎ C → X
 three_cases p q r (inl a) = p a
 three_cases p q r (inr (inl b)) = q b
 three_cases p q r (inr (inr c)) = r c
 
--- by cases of four
+-- a proof by four cases
 four_cases : {A B C D X : Type 0} → (A → X) → (B → X) → (C → X) → (D → X) → A ⊎ B ⊎ C ⊎ D → X
 four_cases p q r s (inl a) = p a
 four_cases p q r s (inr z) = three_cases q r s z
 
 -- ---- orders
--- the facets' orders are even, as `above-turn_last` says of a c d b: a d b c
+-- the facets' orders are even permutations; `above-turn_last` says it for a c d b and a d b c
 order_adb : (a b c d : Weighted) → above a d b c ≡ above a b c d
 unfolding above
 order_adb a b c d = ring (put4 a (put4 b (put4 c (put4 d [])))) (above_of 0 3 1 2) (above_of 0 1 2 3) refl
 
--- b d c a
+-- the same for b d c a
 order_bdc : (a b c d : Weighted) → above b d c a ≡ above a b c d
 unfolding above
 order_bdc a b c d = ring (put4 a (put4 b (put4 c (put4 d [])))) (above_of 1 3 2 0) (above_of 0 1 2 3) refl
@@ -73,7 +73,7 @@ module _ (a b c d : ℕ) where
   abbrev missing : ℕ → ℕ
   missing = one_of d c b a
 
-  -- one of the four ids
+  -- the number is one of the four ids
   abbrev Ids : ℕ → Type 0
   Ids l = (l ≡ a) ⊎ (l ≡ b) ⊎ (l ≡ c) ⊎ (l ≡ d)
 
@@ -84,7 +84,7 @@ module _ (a b c d : ℕ) where
       (λ l. three_cases inl (λ e. inr (inr (inr e))) (λ e. inr (inl e))) (λ l. three_cases inl (λ e. inr (inr (inl e))) (λ e. inr (inr (inr e))))
       (λ l. three_cases (λ e. inr (inl e)) (λ e. inr (inr (inr e))) (λ e. inr (inr (inl e))))
 
-  -- each id is a corner of a facet or the one that it lacks
+  -- each id is a corner of a facet or the id that it lacks
   place : (f : ℕ) → In f S.live → (l : ℕ) → Ids l → IsCorner S f l ⊎ (l ≡ missing f)
   place =
       four (λ f. (l : ℕ) → Ids l → IsCorner S f l ⊎ (l ≡ missing f)) (λ l. four_cases (λ e. inl (inl e)) (λ e. inl (inr (inl e))) (λ e. inl (inr (inr e))) inr)
@@ -92,11 +92,11 @@ module _ (a b c d : ℕ) where
       (λ l. four_cases (λ e. inl (inl e)) inr (λ e. inl (inr (inl e))) (λ e. inl (inr (inr e))))
       (λ l. four_cases inr (λ e. inl (inl e)) (λ e. inl (inr (inr e))) (λ e. inl (inr (inl e))))
 
-  -- a facet has what each other facet lacks
+  -- a facet has the id that another facet lacks
   abbrev HasOther : ℕ → ℕ → Type 0
   HasOther f g = (f ≡ g) ⊎ IsCorner S f (missing g)
 
-  -- all have
+  -- the same for all facets
   other : (f : ℕ) → In f S.live → (g : ℕ) → In g S.live → HasOther f g
   other =
       four (λ f. (g : ℕ) → In g S.live → HasOther f g) (four (HasOther 0) (inl refl) (inr (inr (inr refl))) (inr (inr (inl refl))) (inr (inl refl)))
@@ -140,7 +140,7 @@ module _ (home : ℕ → Weighted) (a b c d : ℕ) (h : above (home a) (home b) 
       one f g i e (inr k) =
           absurd (less_differ _ _ (below f i) (ap (λ t. rise (S a b c d) home f (home t)) e ∙ rise_own (S a b c d) home f (missing a b c d g) k))
 
--- the law
+-- proof of the law `SimplexIsSound`
 pub simplex_sound : SimplexIsSound
 simplex_sound home a b c d h = (
   whole a b c d,
@@ -148,7 +148,7 @@ simplex_sound home a b c d h = (
       (boundary home a b c d h),
 )
 
--- the law
+-- proof of the law `MiddleIsBelow`
 pub middle_is_below : MiddleIsBelow
 middle_is_below a b c s t u v p h hs ht hu hv off =
     by_lt_z (above a b c (middle_of s t u v)) (pos 0) (λ q. q) (λ q. absurd (off (level (zeros _ _ _ _ _ (above-together a b c s t u v) q hs ht hu hv))))
@@ -168,7 +168,7 @@ middle_is_below a b c s t u v p h hs ht hu hv off =
         sym (plane-is a b c p) ∙ cancel-zero_neg (above s t u v) (weighted_dot n p) h
         (cramer_level n s t u v p (on s z.0) (on t z.1) (on u z.2) ∙ product_zero (above s t u p) _ (on v z.3))
 
--- the middle is the same in another order
+-- the middle of the same points in another order is the same
 pub middle-turned : (a b c d : Weighted) → middle_of a c b d ≡ middle_of a b c d
 middle-turned a b c d = λ i. record { w = swap a.w b.w c.w d.w i; x = swap a.x b.x c.x d.x i; y = swap a.y b.y c.y d.y i; z = swap a.z b.z c.z d.z i }
   where

@@ -9,7 +9,7 @@ use Rattle.qh_model.proofs.algebra.{Order.mul-pos_neg, Signs.less_differ}
 use Rattle.qh_model.proofs.surfaces.{Facets.rise_own, PerturbedInwards.above-perturbed_all, PerturbedInwards.cube}
 
 module _ (m : Surface) (home : ℕ → Weighted) (r : IsSimplexBoundary m home) where
-  -- all is strict as it stands
+  -- the surface is strict without perturbation
   strict_home : IsStrict m home
   strict_home f g i j l c n =
       ⊎_elim (λ k. absurd (n k)) (λ e. subst (λ t. rise m home f (home t) <ℤ pos 0) (sym e) (r.below f i)) (r.covers f g i j l c)
@@ -19,7 +19,7 @@ module _ (m : Surface) (home : ℕ → Weighted) (r : IsSimplexBoundary m home) 
   distinct_home f g i j within = ⊎_elim (λ k. absurd (less_differ _ _ (r.below g j) (rise_own m home g (r.missing g) (within (r.missing g) k))))
       (λ e. r.once f g i j (sym e)) (r.known f g i j)
 
--- with no share at all
+-- the surface is strict with shares of 0
 strict_perturbed : (m : Surface) (home : ℕ → Weighted) (o : Weighted) → IsStrict m home → (n : ℕ) → 1 ≤ n → IsStrict m (perturbed home o (λ l. 0) n)
 strict_perturbed m home o st n b f g i j l c nc =
     subst (λ v. v <ℤ pos 0) (sym value) (mul-pos_neg (pos n *ℤ pos n *ℤ pos n) _ (cube 0 n b) (mul-pos_neg (pos n) _ (omega (arith, ints)) (st f g i j l c nc)))

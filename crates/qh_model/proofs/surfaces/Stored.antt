@@ -5,11 +5,11 @@ use Rattle.std.proofs.Common.{◌≡◌, ℕ, zero, suc, ◌+◌, ◌<◌, lengt
 use Rattle.std.proofs.lemmas.{Bool.both_ways, Bool.cases_lt, List.get_or_past, List.Sums.sum_by-cons}
 use Rattle.std.specs.Prelude.{count_by}
 
--- g is the live facet k places on from n
+-- g is the live facet k places after n
 abbrev IsMarked : ℕ → List StoredFacet → ℕ → Type 0
 IsMarked n fs g = (k : ℕ) × (g ≡ n + k) × ((facet_at fs k).live ≡ true)
 
--- a live number is of a marked place
+-- a live number is that of a marked place
 marked_of : (n : ℕ) (fs : List StoredFacet) (g : ℕ) → In g (live_from n fs) → IsMarked n fs g
 marked_of n [] g i = absurd i
 marked_of n (f ∷ fs) g i = split f.live refl i (marked_of (n + 1) fs g)
@@ -28,7 +28,7 @@ live_of n (f ∷ fs) (suc k) e =
     let j : In (n + suc k) (live_from (n + 1) fs) = subst (λ g. In g (live_from (n + 1) fs)) (omega arith) (live_of (n + 1) fs k e) in
     elim f.live as (λ b. In (n + suc k) (cond b (n ∷ live_from (n + 1) fs) (live_from (n + 1) fs))) [ true ↦ inr j | false ↦ j ]
 
--- the law
+-- proof of the law `LiveIsMarked`
 pub live_is_marked : LiveIsMarked
 live_is_marked fs f = (
   λ i. let r = marked_of 0 fs f i in subst (λ g. (facet_at fs g).live ≡ true) (sym (r.1 ∙ (omega arith))) r.2,
@@ -39,7 +39,7 @@ live_is_marked fs f = (
 pub live_in : (fs : List StoredFacet) (f : ℕ) → In f (live_from 0 fs) → (facet_at fs f).live ≡ true
 live_in fs f = (live_is_marked fs f).0
 
--- and a live one is of the surface
+-- a live facet is a facet of the surface
 pub in_live : (fs : List StoredFacet) (f : ℕ) → (facet_at fs f).live ≡ true → In f (live_from 0 fs)
 in_live fs f = (live_is_marked fs f).1
 
@@ -52,7 +52,7 @@ live_once n (f ∷ fs) = by_mark f.live (live_once (n + 1) fs)
     by_mark true o = ((λ i. let r = marked_of (n + 1) fs n i in absurd (omega (arith, r.1))), o)
     by_mark false o = o
 
--- the law
+-- proof of the law `LiveIsListedOnce`
 pub live_is_listed_once : LiveIsListedOnce
 live_is_listed_once fs = live_once 0 fs
 
@@ -63,7 +63,7 @@ live_inside fs f l = elim (cases_lt f (length fs)) [
   | inr h ↦ absurd (both_ways (facet_at fs f).live (ap (λ (t : StoredFacet). t.live) (get_or_past fs f no_facet h)) l)
 ]
 
--- the number of live places listed is that of the facets marked live
+-- the number of live places listed is the number of facets marked live
 pub live_len : (n : ℕ) (fs : List StoredFacet) → length (live_from n fs) ≡ count_by (λ t. t.live) fs
 live_len n [] = refl
 live_len n (t ∷ fs) =

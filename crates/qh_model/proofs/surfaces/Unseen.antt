@@ -1,4 +1,4 @@
--- Points that see a removed facet and none of the cone see nothing; points that see nothing see nothing of the cone.
+-- Points that see a removed facet and no facet of the cone see no facet; points that see no facet see no facet of the cone.
 use Rattle.qh_model.specs.contract.{SoundSurface.IsSound, Surface.Side, Surface.Surface, Surface.IsWhole, Surface.end, Surface.rise, Surface.start}
 use Rattle.qh_model.specs.{contract.Weighted.Weighted, headline.Sets.In, laws.Horizons.IsConeUnseen, steps.FarCorners.far}
 use Rattle.std.proofs.Common.{◌≡◌, ℕ, refl, sym, ◌∙◌, ◌⊎◌, inl, inr, Bool, true, ⊎_elim}
@@ -10,7 +10,7 @@ use Rattle.qh_model.proofs.surfaces.Cone.{KeptOf, ConeOf, Replaced, cone_rise, k
 use Rattle.qh_model.proofs.surfaces.{ConePlanes.apex_blind, ConePlanes.apex_seen, Connected.Grown}
 use Rattle.qh_model.proofs.surfaces.{Connected.sees, Connected.connected, Connected.cert, Determinants.above-third, Facets.corner_rest}
 
--- THEOREM: then q sees no kept facet, if it saw a removed one
+-- THEOREM: q sees no kept facet, if it saw a removed one and sees no facet of the cone
 pub dropped_stay_unseen : (m : Surface) (home : ℕ → Weighted) (o : Weighted) → IsWhole m → IsSound m home o
     → (p q : Weighted) (f0 : ℕ) → In f0 m.live → pos 0 <ℤ rise m home f0 p → pos 0 <ℤ rise m home f0 q → IsConeUnseen m home p q
     → (f : ℕ) → In f m.live → rise m home f p ≤ℤ pos 0 → rise m home f q ≤ℤ pos 0
@@ -41,7 +41,7 @@ dropped_stay_unseen m home o w z p q f0 i0 sp sq unseen f i blind =
     grown = record { f0 = f0; live = i0; sees_p = told (less_or_not (pos 0) (rise m home f0 q)) sq; has = joined f0 sp sq; grows = grows }
 
 module _ {m m' : Surface} {home : ℕ → Weighted} {p : ℕ} (r : Replaced m m' home p) where
-  -- THEOREM: what no facet sees stays so
+  -- THEOREM: a point that no facet sees stays unseen
   pub settled_kept : (o : Weighted) → IsWhole m → IsSound m home o → (y : Weighted) → ((f : ℕ) → In f m.live → rise m home f y ≤ℤ pos 0)
       → (f' : ℕ) → In f' m'.live → rise m' home f' y ≤ℤ pos 0
   settled_kept o w z y h f' i = from (r.origin f' i)

@@ -1,4 +1,4 @@
--- The facets that see a point hang together: no group of them is cut off from a first one.
+-- The facets that see a point are connected: no group of them is separated from a first one.
 use Rattle.qh_model.specs.{contract.Weighted.Weighted, contract.Weighted.above, contract.Weighted.weighted_dot, headline.Sets.In}
 use Rattle.std.proofs.Common.{◌≡◌, refl, List, [], ◌∷◌, arith, ap, sym, ◌∙◌, Bool, true, false, ◌⊎◌, inl, inr, ⊎_elim, subst}
 use Rattle.std.proofs.lemmas.Int.{ints, by_lt_z}
@@ -14,12 +14,12 @@ pub record Corners : Type 0 where
   pub b : Weighted
   pub c : Weighted
 
--- how far a point is above the facet
+-- the height of a point above the facet
 abbrev pub over : Corners → Weighted → ℤ
 over t y = above t.a t.b t.c y
 
 -- ---- one facet
--- the way from y to p leaves the triangle over one of its sides
+-- the line from y to p leaves the triangle across one of its sides
 pub leaves : (n : Weighted) (t : Corners) (y p : Weighted) → over t y <ℤ pos 0 → pos 0 <ℤ weighted_dot n p → weighted_dot n y ≡ pos 0
     → weighted_dot n t.a ≤ℤ pos 0 → weighted_dot n t.b ≤ℤ pos 0 → weighted_dot n t.c ≤ℤ pos 0
     → (pos 0 <ℤ above t.a t.b p y) ⊎ (pos 0 <ℤ above t.b t.c p y) ⊎ (pos 0 <ℤ above t.c t.a p y)
@@ -37,11 +37,11 @@ leaves n t y p h hp hy ha hb hc =
         let c = mul-nonpos (above t.a t.b p y) (weighted_dot n t.c) c1 hc in
         let d = product_zero (above t.a t.b t.c p) (weighted_dot n y) hy in omega (arith, ints, sum, low, a, b, c, d)
 
--- f comes after g on the way from y to p (both see p)
+-- f comes after g on the line from y to p (both see p)
 abbrev pub after : (f g : Corners) (y p : Weighted) → ℤ
 after f g y p = over f p *ℤ over g y -ℤ over f y *ℤ over g p
 
--- the neighbour over a side beyond which p lies is met before
+-- the neighbour across a side that p is beyond is met earlier
 pub crosses : (u v a b y p : Weighted) → above u v a b <ℤ pos 0 → pos 0 <ℤ above u v p y
     → pos 0 <ℤ (above u v a p *ℤ above v u b y -ℤ above u v a y *ℤ above v u b p)
 crosses u v a b y p h k = subst (λ z. pos 0 <ℤ z) (sym product) (neg-positive _ (mul-neg_pos (above u v a b) (above u v p y) h k))
@@ -56,14 +56,14 @@ crosses u v a b y p h k = subst (λ z. pos 0 <ℤ z) (sym product) (neg-positive
         (turned (above u v a p) (above u v b y) (above u v a y) (above u v b p) ∙ ap neg_ℤ (line_product u v a b p y))
 
 -- ---- a least element by cross products
--- a marked member that is met after no marked one
+-- a marked member that no marked one precedes
 pub record Least {X : Type 0} (W : X → Bool) (P Q : X → ℤ) (xs : List X) : Type 0 where
   pub m : X
   pub there : In m xs
   pub marked : W m ≡ true
   pub least : (g : X) → In g xs → W g ≡ true → pos 0 <ℤ (P m *ℤ Q g -ℤ Q m *ℤ P g) → ⊥
 
--- m after x and x after g give m after g
+-- if m comes after x and x after g, m comes after g
 chain : (pm qm px qx pg qg : ℤ) → pos 0 <ℤ pm → pos 0 <ℤ px → pos 0 <ℤ pg → pos 0 <ℤ (pm *ℤ qx -ℤ qm *ℤ px)
     → pos 0 <ℤ (px *ℤ qg -ℤ qx *ℤ pg) → pos 0 <ℤ (pm *ℤ qg -ℤ qm *ℤ pg)
 chain pm qm px qx pg qg hm hx hg h k =
@@ -75,7 +75,7 @@ chain pm qm px qx pg qg hm hx hg h k =
         ring (pm ∷ qm ∷ px ∷ qx ∷ pg ∷ qg ∷ []) (mul (var 2) (less (mul (var 0) (var 5)) (mul (var 1) (var 4))))
         (add (mul (var 0) (less (mul (var 2) (var 5)) (mul (var 3) (var 4)))) (mul (var 4) (less (mul (var 0) (var 3)) (mul (var 1) (var 2))))) refl
 
--- a marked member with none before it, or no marked one
+-- a marked member with no marked one before it, or no marked member
 pub least : {X : Type 0} (W : X → Bool) (P Q : X → ℤ) (xs : List X) → ((g : X) → In g xs → W g ≡ true → pos 0 <ℤ P g)
     → ((g : X) → In g xs → W g ≡ true → ⊥) ⊎ Least W P Q xs
 least W P Q [] h = inl (λ g i e. i)
@@ -101,7 +101,7 @@ least {X} W P Q (x ∷ xs) h = split (W x) refl (least W P Q xs (λ g i e. h g (
         (λ k. kept l (λ w q. not_less _ _ q k)))
 
 -- ---- the theorem, over weighted points
--- over the side u v of f (third corner t) lies the marked or not seeing g, with the third corner b below f
+-- across the side u v of f (third corner t) lies g, which is marked or does not see p, with its third corner b below f
 pub record Over {X : Type 0} (at : X → Corners) (live : List X) (W : X → Bool) (y p : Weighted) (f : X) (u v t : Weighted) : Type 0 where
   pub g : X
   pub b : Weighted
@@ -112,7 +112,7 @@ pub record Over {X : Type 0} (at : X → Corners) (live : List X) (W : X → Boo
   pub under : over (at g) y ≤ℤ pos 0
   pub joined : pos 0 <ℤ over (at g) p → W g ≡ true
 
--- what a marked facet has where a group is cut off
+-- the property of a marked facet if a group is separated
 pub record Cut {X : Type 0} (at : X → Corners) (live : List X) (W : X → Bool) (n y p : Weighted) (f : X) : Type 0 where
   pub sees : pos 0 <ℤ over (at f) p
   pub below : over (at f) y <ℤ pos 0
@@ -123,33 +123,33 @@ pub record Cut {X : Type 0} (at : X → Corners) (live : List X) (W : X → Bool
   pub bc : Over at live W y p f (at f).b (at f).c (at f).a
   pub ca : Over at live W y p f (at f).c (at f).a (at f).b
 
--- a marked facet that is met before
+-- a marked facet that is met earlier
 pub record Earlier {X : Type 0} (at : X → Corners) (live : List X) (W : X → Bool) (y p : Weighted) (f : X) : Type 0 where
   pub g : X
   pub live_g : In g live
   pub marked : W g ≡ true
   pub earlier : pos 0 <ℤ after (at f) (at g) y p
 
--- the neighbour that is met before sees p as well
+-- the neighbour that is met earlier sees p as well
 sees_too : (fp gy fy gp : ℤ) → pos 0 <ℤ (fp *ℤ gy -ℤ fy *ℤ gp) → pos 0 <ℤ fp → fy <ℤ pos 0 → gy ≤ℤ pos 0 → pos 0 <ℤ gp
 sees_too fp gy fy gp h hf hy hg =
     by_lt_z (pos 0) gp (λ q. q) (λ q. absurd (omega (arith, ints, h, mul-nonneg_nonpos fp gy (positive_le fp hf) hg, mul-nonpos fy gp (negative_le fy hy) q)))
 
 module _ {X : Type 0} (at : X → Corners) (live : List X) (W : X → Bool) (n y p : Weighted) (hp : pos 0 <ℤ weighted_dot n p)
     (hy : weighted_dot n y ≡ pos 0) where
-  -- each marked facet has one that is met before
+  -- each marked facet has a marked one that is met earlier
   earlier_one : (f : X) → Cut at live W n y p f → Earlier at live W y p f
   earlier_one f c =
       ⊎_elim (λ k. over_side (at f).a (at f).b (at f).c c.ab k) (λ t. ⊎_elim (λ k. over_side (at f).b (at f).c (at f).a c.bc k)
       (λ k. over_side (at f).c (at f).a (at f).b c.ca k) t) (leaves n (at f) y p c.below hp hy c.under_a c.under_b c.under_c)
     where
-      -- over a side beyond which p lies
+      -- across a side that p is beyond
       over_side : (u v t : Weighted) (o : Over at live W y p f u v t) → pos 0 <ℤ above u v p y → Earlier at live W y p f
       over_side u v t o k =
           let e : pos 0 <ℤ after (at f) (at o.g) y p = rw (o.at_f p, o.at_f y, o.at_g y, o.at_g p) (crosses u v t o.b y p o.bends k) in
           record { g = o.g; live_g = o.live_g; marked = o.joined (sees_too _ _ _ (over (at o.g) p) e c.sees c.below o.under); earlier = e }
 
-  -- nothing is marked
+  -- no facet is marked
   pub none_cut_off : ((f : X) → In f live → W f ≡ true → Cut at live W n y p f) → (f : X) → In f live → W f ≡ true → ⊥
   none_cut_off h f i w =
       ⊎_elim (λ k. k f i w) (λ l. let e = earlier_one l.m (h l.m l.there l.marked) in l.least e.g e.live_g e.marked e.earlier)

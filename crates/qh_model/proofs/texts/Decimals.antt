@@ -1,4 +1,4 @@
--- Decimals as they are written are numbers: what they stand for, and their bytes.
+-- Decimals as they are written are numbers: their values and their bytes.
 use Rattle.std.proofs.Common.{◌≡◌, ℕ, zero, suc, ◌+◌, ◌-◌, ◌*◌, ◌/◌, ◌%◌, ◌^◌, ◌<◌, ◌≤◌, ◌==◌, Bool, true, false, cond, refl, List, [], ◌∷◌, length, arith, sym}
 use Rattle.std.proofs.Common.{ap, subst, ◌∙◌, decimal, ne_eqb}
 use Rattle.std.proofs.lemmas.{Bool.le-leb, Bool.lt-ltb, Fmt.decimal_is_IsNumeral_wide, Str.digit_value_digit}
@@ -21,12 +21,12 @@ AreSomeDigits cs = (0 < length cs) × Every IsDigit cs
 glyph_digit : (n : ℕ) → IsDigit (digit_glyph false (n % 10))
 glyph_digit n = subst (λ (b : Bool). IsDigit (cond b (48 + n % 10) (87 + n % 10))) (sym (lt-ltb (n % 10) 10 (omega arith))) (omega arith, omega arith)
 
--- digits either way
+-- digits in both cases
 either_digits : (b : Bool) (cs ds : List ℕ) → AreSomeDigits cs → AreSomeDigits ds → AreSomeDigits (cond b cs ds)
 either_digits true cs ds h k = h
 either_digits false cs ds h k = k
 
--- digits before digits
+-- digits in front of digits
 onto_digits : (k n : ℕ) (acc : List ℕ) → AreSomeDigits acc → AreSomeDigits (digits_onto k 10 false n acc)
 onto_digits zero n acc h = h
 onto_digits (suc k) n acc h =
@@ -34,7 +34,7 @@ onto_digits (suc k) n acc h =
     let more : AreSomeDigits longer = (omega arith, (glyph_digit n, h.1)) in
     either_digits (n / 10 == 0) longer (digits_onto k 10 false (n / 10) longer) more (onto_digits k (n / 10) longer more)
 
--- a decimal of any size has some digits
+-- a decimal of any size has at least one digit
 pub decimal_digits : (n : ℕ) → AreSomeDigits (decimal n)
 unfolding digits
 decimal_digits n =
@@ -42,7 +42,7 @@ decimal_digits n =
     let one : AreSomeDigits ones = (omega arith, (glyph_digit n, tt)) in
     either_digits (n / 10 == 0) ones (digits_onto 63 10 false (n / 10) ones) one (onto_digits 63 (n / 10) ones one)
 
--- ---- what digits stand for
+-- ---- the values of digits
 -- the test
 digits_told : (cs : List ℕ) → Every IsDigit cs → are_digits cs ≡ true
 digits_told [] h = refl
@@ -53,11 +53,11 @@ magnitude_of_digits : (cs : List ℕ) → AreSomeDigits cs → magnitude_of cs �
 magnitude_of_digits [] h = absurd (omega (arith, h.0))
 magnitude_of_digits (c ∷ cs) h = ap (λ (b : Bool). cond b (Some (read_digits 0 (c ∷ cs))) None) (digits_told (c ∷ cs) h.1)
 
--- neither of two tests
+-- neither of two tests passes
 neither : {X : Type 0} (p q : Bool) (x y z : X) → p ≡ false → q ≡ false → cond p x (cond q y z) ≡ z
 neither p q x y z e f = ap (λ (b : Bool). cond b x (cond q y z)) e ∙ ap (λ (b : Bool). cond b y z) f
 
--- and a number
+-- digits are a number
 pub number_of_digits : (cs : List ℕ) → AreSomeDigits cs → number_of cs ≡ Some (pos (read_digits 0 cs))
 number_of_digits [] h = absurd (omega (arith, h.0))
 number_of_digits (c ∷ cs) h =
@@ -67,7 +67,7 @@ number_of_digits (c ∷ cs) h =
     neither (c == 43) (c == 45) (option_map pos (magnitude_of cs)) (option_map (λ n. neg_ℤ (pos n)) (magnitude_of cs)) _ plus minus
     ∙ ap (option_map pos) (magnitude_of_digits (c ∷ cs) h)
 
--- their value is that of std
+-- the value of digits is that of std
 value_of_digits : (n : ℕ) (cs : List ℕ) → Every IsDigit cs → read_digits n cs ≡ digits_value_after 10 n cs
 value_of_digits n [] h = refl
 value_of_digits n (c ∷ cs) h =
@@ -79,11 +79,11 @@ decimal_value : (n : ℕ) → n < 10 ^ 64 → read_digits 0 (decimal n) ≡ n
 decimal_value n h = value_of_digits 0 (decimal n) (decimal_digits n).1 ∙ (decimal_is_IsNumeral_wide n h).1
 
 -- ---- decimals are numbers
--- of a natural number
+-- the decimal of a natural number is a number
 pub number_of_decimal : (n : ℕ) → n < 10 ^ 64 → number_of (decimal n) ≡ Some (pos n)
 number_of_decimal n h = number_of_digits (decimal n) (decimal_digits n) ∙ ap (λ m. Some (pos m)) (decimal_value n h)
 
--- of a whole number
+-- the decimal of a whole number is a number
 pub number_of_signed : (z : ℤ) → unsigned_abs z < 10 ^ 64 → number_of (signed_decimal z) ≡ Some z
 number_of_signed (pos n) h = number_of_decimal n h
 number_of_signed (negsuc n) h =
@@ -99,11 +99,11 @@ IsOfNumber c = IsInRange 45 57 c
 abbrev pub IsNumberWord : List ℕ → Type 0
 IsNumberWord cs = (0 < length cs) × Every IsOfNumber cs
 
--- a decimal is made of them
+-- a decimal consists of these bytes
 pub decimal_word : (n : ℕ) → IsNumberWord (decimal n)
 decimal_word n = let d = decimal_digits n in (d.0, every_map IsDigit IsOfNumber (decimal n) (λ c e. (omega (arith, e.0), omega (arith, e.1))) d.1)
 
--- with a sign too
+-- a decimal with a sign consists of these bytes
 pub signed_word : (z : ℤ) → IsNumberWord (signed_decimal z)
 signed_word (pos n) = decimal_word n
 signed_word (negsuc n) = (omega arith, ((omega arith, omega arith), (decimal_word (suc n)).1))

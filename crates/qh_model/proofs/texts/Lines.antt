@@ -1,4 +1,4 @@
--- Joined lines and spaced words, taken apart again.
+-- Joined lines and spaced words, split again.
 use Rattle.std.proofs.Common.{◌≡◌, ℕ, suc, ◌+◌, ◌<◌, ◌==◌, Bool, true, false, cond, refl, List, [], ◌∷◌, ◌++◌, length, map, filter, append_assoc, arith, sym}
 use Rattle.std.proofs.{Common.ap, Common.◌∙◌, Common.ne_eqb, lemmas.List.Splits.slice_split-cons_yes, lemmas.List.Splits.slice_split-cons_no}
 use Rattle.std.specs.List.{AllByRecursion as Every, slice_split, onto_first, flat_map}
@@ -8,21 +8,21 @@ use Rattle.qh_model.proofs.{Members.every_map, texts.Decimals.IsOfNumber, texts.
 
 -- ---- splitting
 module _ (p : ℕ → Bool) where
-  -- no byte of the list is one that splits
+  -- no byte of the list splits
   abbrev pub Clear : List ℕ → Type 0
   Clear w = Every (λ c. p c ≡ false) w
 
-  -- what comes before the first byte that splits
+  -- the bytes before the first byte that splits
   pub split_clear : (w : List ℕ) (c : ℕ) (l : List ℕ) → Clear w → p c ≡ true → slice_split p (w ++ c ∷ l) ≡ w ∷ slice_split p l
   split_clear [] c l h e = slice_split-cons_yes p c l e
   split_clear (b ∷ w) c l h e = slice_split-cons_no p b (w ++ c ∷ l) h.0 ∙ ap (onto_first b) (split_clear w c l h.1 e)
 
-  -- a list without one is left whole
+  -- a list without a byte that splits is one part
   pub split_whole : (w : List ℕ) → Clear w → slice_split p w ≡ w ∷ []
   split_whole [] h = refl
   split_whole (b ∷ w) h = slice_split-cons_no p b w h.0 ∙ ap (onto_first b) (split_whole w h.1)
 
--- what holds of the elements of two lists holds of both joined
+-- a fact about the elements of two lists holds for both joined
 pub every_append : {X : Type 0} (P : X → Type 0) (xs ys : List X) → Every P xs → Every P ys → Every P (xs ++ ys)
 every_append P [] ys h k = k
 every_append P (x ∷ xs) ys h k = (h.0, every_append P xs ys h.1 k)
@@ -60,7 +60,7 @@ words_from-append parts n (l ∷ ls) ms =
 abbrev pub is_hash : ℕ → Bool
 is_hash c = c == 35
 
--- a line with none is data to its end
+-- a line without a comment is data to its end
 pub before_hash_clear : (l : List ℕ) → Clear is_hash l → before_hash l ≡ l
 before_hash_clear [] h = refl
 before_hash_clear (c ∷ cs) h = ap (λ (b : Bool). cond b [] (c ∷ before_hash cs)) h.0 ∙ ap (λ (t : List ℕ). c ∷ t) (before_hash_clear cs h.1)
@@ -93,18 +93,18 @@ last_word (c ∷ w) h = ap (filter is_word) (split_whole is_blank (c ∷ w) (num
 abbrev pub three : List ℕ → List ℕ → List ℕ → List ℕ
 three u v w = u ++ 32 ∷ v ++ 32 ∷ w
 
--- whose bytes are those of numbers, other than the blanks
+-- the bytes of these words are those of numbers, except the blanks
 three_clear : (p : ℕ → Bool) → ((c : ℕ) → IsOfNumber c → p c ≡ false) → p 32 ≡ false
     → (u v w : List ℕ) → IsNumberWord u → IsNumberWord v → IsNumberWord w → Clear p (three u v w)
 three_clear p f blank u v w a b c =
     let first : Clear p (u ++ 32 ∷ v) = every_append (λ k. p k ≡ false) u (32 ∷ v) (number_clear p f u a) (blank, number_clear p f v b) in
     every_append (λ k. p k ≡ false) (u ++ 32 ∷ v) (32 ∷ w) first (blank, number_clear p f w c)
 
--- they stand in one line
+-- the words are in one line
 pub three_in_line : (u v w : List ℕ) → IsNumberWord u → IsNumberWord v → IsNumberWord w → Clear ends_line (three u v w)
 three_in_line = three_clear ends_line (λ c h. other_byte 10 c (omega arith) h) refl
 
--- and are its words
+-- the three words are the words of this line
 pub three_words : (u v w : List ℕ) → IsNumberWord u → IsNumberWord v → IsNumberWord w → words_of (before_hash (three u v w)) ≡ u ∷ v ∷ w ∷ []
 three_words u v w a b c =
     ap words_of (before_hash_clear (three u v w) (three_clear is_hash (λ k h. other_byte 35 k (omega arith) h) refl u v w a b c))

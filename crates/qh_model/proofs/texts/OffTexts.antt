@@ -8,7 +8,7 @@ use Rattle.qh_model.specs.laws.RoundTrip.{CanBeRead}
 use Rattle.qh_model.proofs.texts.Decimals.{decimal_digits, number_of_digits, number_of_decimal, number_of_signed, decimal_word, signed_word}
 use Rattle.qh_model.proofs.texts.Lines.{Clear, ends_line, first_line, joined_lines, words_from-append, three, three_in_line, three_words}
 
--- the words of a line that stand in no comment
+-- the words of a line outside comments
 abbrev parts : List ℕ → List (List ℕ)
 parts l = words_of (before_hash l)
 
@@ -17,7 +17,7 @@ parts l = words_of (before_hash l)
 abbrev vertex_line : Vector → List ℕ
 vertex_line p = three (signed_decimal p.x) (signed_decimal p.y) (signed_decimal p.z)
 
--- its words
+-- the words of this line
 vertex_words : (p : Vector) → parts (vertex_line p) ≡ signed_decimal p.x ∷ signed_decimal p.y ∷ signed_decimal p.z ∷ []
 vertex_words p = three_words _ _ _ (signed_word p.x) (signed_word p.y) (signed_word p.z)
 
@@ -28,11 +28,11 @@ counts_line m f e = decimal m ++ spaced f ++ spaced e
 counts_words : (m f e : ℕ) → parts (counts_line m f e) ≡ decimal m ∷ decimal f ∷ decimal e ∷ []
 counts_words m f e = three_words _ _ _ (decimal_word m) (decimal_word f) (decimal_word e)
 
--- the text of vertices and of faces, of which only the number is told
+-- the text of vertices and of faces, of which only the number matters
 abbrev pub surface_text : List Vector → ℕ → ℕ → List ℕ → List ℕ
 surface_text ps faces edges rest = line (codes "OFF") ++ line (counts_line (length ps) faces edges) ++ flat_map vertex_text ps ++ rest
 
--- its lines
+-- the lines of this text
 lines_of_surface : (ps : List Vector) (faces edges : ℕ) (rest : List ℕ) → lines_of (surface_text ps faces edges rest)
     ≡ codes "OFF" ∷ counts_line (length ps) faces edges ∷ (map vertex_line ps ++ lines_of rest)
 lines_of_surface ps faces edges rest =
@@ -60,11 +60,11 @@ lines_of_surface ps faces edges rest =
 abbrev count_words : List Vector → ℕ → ℕ → List (List ℕ)
 count_words ps faces edges = decimal (length ps) ∷ decimal faces ∷ decimal edges ∷ []
 
--- these, and those of the vertices
+-- these numbers, and those of the vertices
 abbrev numbered_words : List Vector → ℕ → ℕ → List Word
 numbered_words ps faces edges = on_line 2 (count_words ps faces edges) ++ words_from parts 3 (map vertex_line ps)
 
--- the words after them
+-- the words after these numbers
 abbrev other_words : List Vector → List ℕ → List Word
 other_words ps rest = words_from parts (3 + length (map vertex_line ps)) (lines_of rest)
 
@@ -77,7 +77,7 @@ words_of_surface ps faces edges rest =
     (counts_words (length ps) faces edges) (words_from-append parts 3 (map vertex_line ps) (lines_of rest)))
 
 -- ---- numbers
--- a coordinate is small enough to be written
+-- a coordinate is within the limit of decimals
 number_of_coordinate : (z : ℤ) → IsCoordinate z → number_of (signed_decimal z) ≡ Some z
 number_of_coordinate z h = number_of_signed z (omega (arith, h))
 
@@ -94,7 +94,7 @@ vertex_numbers (p ∷ ps) n h =
     ap (λ (t : List (List ℕ)). map (λ (w : Word). number_of w.text) (on_line n t ++ others)) (vertex_words p) ∙ cc (x, y, z, rest)
 
 -- ---- the reading
--- the text of vertices that can be read is an OFF file of them, whatever its faces are
+-- the text of vertices that can be read is an OFF file of them, for any faces
 pub reads_surface : (ps : List Vector) (faces edges : ℕ) (rest : List ℕ) → CanBeRead ps
     → length (surface_text ps faces edges rest) ≤ BYTE_LIMIT → ReadsOff (surface_text ps faces edges rest) ps
 reads_surface ps faces edges rest can small =

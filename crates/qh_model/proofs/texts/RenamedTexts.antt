@@ -1,4 +1,4 @@
--- The text of faces, of the points of the extreme ids, is that of the set.
+-- The text of faces, computed from the points of the extreme ids, is that of the set.
 use Rattle.std.proofs.Common.{◌≡◌, ℕ, suc, refl, List, [], ◌∷◌, ◌++◌, map, sym, ap, ap₂, ◌∙◌, inl, inr, eq-eqb, ne_eqb}
 use Rattle.std.proofs.{Common.get_or, Common.decimal, lemmas.List.length-map, lemmas.List.map-append, lemmas.List.Folds.flat_map-map}
 use mathlib.Core.Logic.{dite}
@@ -9,23 +9,23 @@ use Rattle.qh_model.specs.headline.{Text.vertex_number, Text.vertex_text, Text.f
 use Rattle.qh_model.proofs.renamed.{Bodies.renamed_body, Lists.AreWithin}
 use Rattle.qh_model.proofs.renamed.Positions.{vertex_numbers, points_of, at_number, point_at}
 
--- texts that are the same for each member are the same joined
+-- joined texts are the same if they are the same for each member
 pub flat_map_same : {X : Type 0} (s t : X → List ℕ) (xs : List X) → ((x : X) → In x xs → s x ≡ t x) → flat_map s xs ≡ flat_map t xs
 flat_map_same s t [] h = refl
 flat_map_same s t (x ∷ xs) h = ap₂ (λ (a b : List ℕ). a ++ b) (h x (inl refl)) (flat_map_same s t xs (λ y m. h y (inr m)))
 
--- names that keep members apart keep positions
+-- different names of members keep positions
 vertex_number-map : (f : ℕ → ℕ) (xs : List ℕ) (i : ℕ) → ((j : ℕ) → In j xs → f j ≡ f i → j ≡ i) → vertex_number (map f xs) (f i) ≡ vertex_number xs i
 vertex_number-map f [] i apart = refl
 vertex_number-map f (x ∷ xs) i apart = dite (ℕ_discrete x i) (λ e. rw (eq-eqb x i e, eq-eqb (f x) (f i) (ap f e)) refl)
     (λ n. rw (ne_eqb x i n, ne_eqb (f x) (f i) (λ d. n (apart x (inl refl) d))) (ap suc (vertex_number-map f xs i (λ j m. apart j (inr m)))))
 
--- the position of a position is the same, since members have their own positions
+-- a position is its own position, since members have different positions
 number_again : (xs : List ℕ) (i : ℕ) → In i xs → vertex_number (vertex_numbers xs) (vertex_number xs i) ≡ vertex_number xs i
 number_again xs i m =
     vertex_number-map (vertex_number xs) xs i (λ j n e. sym (at_number xs j n).1 ∙ ap (λ k. get_or xs k 0) e ∙ (at_number xs i m).1)
 
--- a face of members has its text
+-- a face of members has the same text
 face_text_renamed : (xs q : List ℕ) → ((i : ℕ) → In i q → In i xs) → face_text (vertex_numbers xs) (map (vertex_number xs) q) ≡ face_text xs q
 face_text_renamed xs q within = ap₂ (λ (n : ℕ) (t : List ℕ). line (decimal n ++ t)) (length-map q (vertex_number xs)) numbers
   where
@@ -57,7 +57,7 @@ off_text_renamed pts b within = cc (length-map xs number, length-map b.polygons 
         ∙ flat_map_same _ _ b.polygons (λ q m. face_text_renamed xs q (within q m))
 
 -- ---- the same in triangles
--- triangles by other names
+-- renamed triangles
 triangles_along-map : (f : ℕ → ℕ) (t u : ℕ) (r : List ℕ) → triangles_along (f t) (f u) (map f r) ≡ map (map f) (triangles_along t u r)
 triangles_along-map f t u [] = refl
 triangles_along-map f t u (v ∷ r) = ap (λ (ts : List (List ℕ)). (f t ∷ f u ∷ f v ∷ []) ∷ ts) (triangles_along-map f t v r)

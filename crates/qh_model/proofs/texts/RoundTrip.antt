@@ -1,4 +1,4 @@
--- What is written as an OFF file is read as the extreme points, which are written as the same bytes.
+-- An OFF file that is written is read as the extreme points, which are written as the same bytes.
 use Rattle.std.proofs.Common.{◌≡◌, ℕ, ◌≤◌, List, [], ◌∷◌, ◌++◌, length, map, sym, ap, subst, ◌∙◌}
 use Rattle.std.proofs.lemmas.List.{length-map, append-nil, Folds.flat_map-map}
 use Rattle.std.specs.List.{flat_map}
@@ -23,7 +23,7 @@ off_text_surface pts b =
     let count = length-map b.extremes (place pts) in
     cc (vertices, count)
 
--- it is read as the points of its vertices
+-- the text is read as the points of its vertices
 reads_body : (pts : List Vector) (b : BodyValue) → CanBeRead (points_of pts b.extremes)
     → length (off_text b pts) ≤ BYTE_LIMIT → ReadsOff (off_text b pts) (points_of pts b.extremes)
 reads_body pts b can small =
@@ -31,7 +31,7 @@ reads_body pts b can small =
     let read = reads_surface (points_of pts b.extremes) (length b.polygons) b.edges (flat_map (face_text b.extremes) b.polygons) can in
     subst (λ t. ReadsOff t (points_of pts b.extremes)) (sym same) (read (subst (λ t. length t ≤ BYTE_LIMIT) same small))
 
--- the law
+-- proof of the law `IsReadAsExtremePoints`
 pub is_read_as_extreme_points : IsReadAsExtremePoints
 is_read_as_extreme_points pts h Rank can s o small = absurd o
 is_read_as_extreme_points pts h Summary can s o small = absurd o
@@ -51,7 +51,7 @@ module _ (pts : List Vector) (h : HullValue) (s : IsHull pts h) where
       let apart = distinct_apart pts s.ids s.distinct_ids in
       polygon_members (place pts) E h.body.dim h.body.polygons ((body_of_extremes (place pts) s.ids h.body apart).1 s.body).polygons
 
-  -- and so are those of triangles
+  -- the corners of triangles are extreme ids
   triangles_extreme : AreWithin E (fans h.body.polygons)
   triangles_extreme t m i j = let r = of_flat_map fan h.body.polygons t m in corners_extreme r.0 r.1 i (fan_members r.0 t r.2 i j)
 
@@ -82,13 +82,13 @@ module _ (pts : List Vector) (h : HullValue) (s : IsHull pts h) where
       ap (λ b. off_text b (extreme_points pts h)) triangles_again
       ∙ off_text_renamed pts (in_triangles h.body) (λ t m i j. (s.body.extremes.members i).1 (triangles_extreme t m i j))
 
--- the law
+-- proof of the law `ExtremePointsHaveText`
 pub extreme_points_have_text : ExtremePointsHaveText
 extreme_points_have_text pts h out text s o t =
     let same : text ≡ hull_text h pts (out ∷ []) = t.is ∙ ap (λ k. hull_text k pts (out ∷ [])) (hull_is_unique pts t.hull h t.right s) in
     record { hull = hull_of_extremes h; right = extreme_points_have_hull pts h s; is = same ∙ ap (λ bytes. bytes ++ []) (sym (text_again pts h s out o)) }
 
--- the law
+-- proof of the law `IsWrittenAgain`
 pub is_written_again : IsWrittenAgain
 is_written_again pts out text can o t small =
     let same : text ≡ output_text t.hull pts out = t.is ∙ append-nil (output_text t.hull pts out) in

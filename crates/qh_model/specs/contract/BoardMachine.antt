@@ -3,7 +3,7 @@
 -- Source: this project's own.
 use Rattle.std.specs.Prelude.{if◌then◌else◌, ◌≡◌, ◌≢◌, ◌==◌, ℕ, zero, suc, ◌+◌, ◌-◌, ◌/◌, ◌%◌, ◌<◌, ◌≤◌, Bool, true, false, List, [], ◌∷◌}
 
--- where a node is on its way: no pass has it yet; a pass works at it; it waits for its sibling; it was joined; it is the root's value
+-- the state of a node: no pass has reached it; a pass holds it; it waits for its sibling; it was joined; it is the root and its value is published
 pub data Place : Type 0 where
   untouched : Place
   held : (pass : ℕ) → Place
@@ -17,7 +17,7 @@ pub data Mark : Type 0 where
   left : Mark
   gave_up : Mark
 
--- the number of claims; and of each pass whether it was told that all blocks are claimed
+-- the number of claims; and for each pass true if it has learned that all blocks are claimed
 pub record Machine : Type 0 where
   pub claims : ℕ
   pub node : ℕ → Place
@@ -27,11 +27,11 @@ pub record Machine : Type 0 where
 abbrev pub start : Machine
 start = record { claims = 0; node = λ _. untouched; over = λ _. false; mark = λ _. none }
 
--- f, but a at i
+-- f with the value a at i
 abbrev pub put : {A : Type 0} → (ℕ → A) → ℕ → A → ℕ → A
 put f i a j = if j == i then a else f j
 
--- the node above
+-- the parent of a node
 abbrev pub parent : ℕ → ℕ
 parent i = i / 2
 
@@ -49,11 +49,11 @@ pub data Event : Type 0 where
   leave : (pass : ℕ) → Event
   give_up : (pass node : ℕ) → Event
 
--- the pass has no node
+-- the pass holds no node
 abbrev pub HoldsNothing : Machine → ℕ → Type 0
 HoldsNothing m w = (i : ℕ) → m.node i ≢ held w
 
--- the pass is one of the W, and has not ended
+-- the pass is one of the W passes, and has not ended
 abbrev pub Acts : ℕ → Machine → ℕ → Type 0
 Acts W m w = (w < W) × (m.mark w ≡ none)
 
@@ -68,7 +68,7 @@ module _ (B W : ℕ) where
   Can m (leave w) = Acts W m w × HoldsNothing m w
   Can m (give_up w i) = Acts W m w × (m.node i ≡ held w)
 
-  -- what it leaves
+  -- the state after the event
   abbrev pub after : Machine → Event → Machine
   after m (claim_got w) = record m { claims = m.claims + 1; node = put m.node (B + m.claims) (held w) }
   after m (claim_over w) = record m { claims = m.claims + 1; over = put m.over w true }
@@ -78,21 +78,21 @@ module _ (B W : ℕ) where
   after m (leave w) = record m { mark = put m.mark w left }
   after m (give_up w i) = record m { mark = put m.mark w gave_up }
 
-  -- after all events, the first first
+  -- the state after all events in order
   abbrev pub run : Machine → List Event → Machine
   run m [] = m
   run m (e ∷ es) = run (after m e) es
 
-  -- each is possible where it stands
+  -- each event is possible in the state before it
   abbrev pub CanRun : Machine → List Event → Type 0
   CanRun m [] = Unit {0}
   CanRun m (e ∷ es) = Can m e × CanRun (after m e) es
 
-  -- events lead to it from the start
+  -- events lead from the start to the state
   abbrev pub Reachable : Machine → Type 0
   Reachable m = (es : List Event) × CanRun start es × (run start es ≡ m)
 
--- 1 for a node that was delivered
+-- 1 for a node that was delivered, otherwise 0
 abbrev pub settled : Place → ℕ
 settled untouched = 0
 settled (held w) = 0
@@ -105,7 +105,7 @@ abbrev pub ancestor : ℕ → ℕ → ℕ
 ancestor zero i = i
 ancestor (suc k) i = parent (ancestor k i)
 
--- in a board with this number of blocks, the span of node i has block j: its leaf is i or below i
+-- the span of node i has block j in a board with this number of blocks: the leaf of j is i or a descendant of i
 abbrev pub InSpan : ℕ → ℕ → ℕ → Type 0
 InSpan blocks i j = (j < blocks) × ((k : ℕ) × (ancestor k (blocks + j) ≡ i))
 

@@ -8,12 +8,12 @@ use Rattle.qh_model.specs.headline.SupportingPlane.{IsSupportingTriple}
 use Rattle.qh_model.specs.headline.Polygons.{IsFacePolygon}
 use Rattle.qh_model.specs.contract.ClosedSurface.{is_edge}
 
--- the steps on the way from t along the list to e
+-- the steps along the path from t through the list to e
 abbrev pub steps_along : ℕ → List ℕ → ℕ → List (ℕ × ℕ)
 steps_along t [] e = (t, e) ∷ []
 steps_along t (w ∷ r) e = (t, w) ∷ steps_along w r e
 
--- the steps round a polygon, from each corner to the next, from the last to the first
+-- the steps round a polygon, from each corner to the next and from the last to the first
 abbrev pub steps_round : List ℕ → List (ℕ × ℕ)
 steps_round [] = []
 steps_round (t ∷ r) = steps_along t r t
@@ -30,7 +30,7 @@ AreClosed qs = (u v : ℕ) → step_count qs u v ≡ step_count qs v u
 abbrev pub IsFace : (ℕ → Vector) → (ℕ → Type 0) → List ℕ → Type 0
 IsFace at A q = (i j k : ℕ) × IsSupportingTriple at A i j k × IsFacePolygon at A i j k q
 
--- faces of the set, one at least, that close up
+-- faces of the set, at least one, that close up
 pub record AreClosedFaces (at : ℕ → Vector) (A : ℕ → Type 0) (qs : List (List ℕ)) : Type 0 where
   pub some : List ℕ
   pub there : In some qs

@@ -23,18 +23,18 @@ is_edge e f = e.0 == f.0 && e.1 == f.1
 abbrev pub IsClosed : List Triple → Type 0
 IsClosed ts = (u v : ℕ) → count_by (is_edge (u, v)) (edges ts) ≡ count_by (is_edge (v, u)) (edges ts)
 
--- some triangles, none of them in line, that close up
+-- some triangles that close up; the corners of none are in line
 pub record IsClosedSurface (at : ℕ → Vector) (ts : List Triple) : Type 0 where
   pub some : 1 ≤ length ts
   pub area : (t : Triple) → In t ts → ¬ (AreInLine (at t.i) (at t.j) (at t.k))
   pub closed : IsClosed ts
 
--- the sum of the volumes of the triangles with p: six times the volume inside, with its sign turned
+-- the sum of the volumes of the triangles with p: minus six times the volume inside
 abbrev pub signed_volume : (ℕ → Vector) → List Triple → Vector → ℤ
 signed_volume at [] p = pos 0
 signed_volume at (t ∷ ts) p = vol (at t.i) (at t.j) (at t.k) p +ℤ signed_volume at ts p
 
--- the corners of facets, and those of a surface's live ones
+-- the corners of facets, and those of the live facets of a surface
 abbrev pub triples_from : Surface → List ℕ → List Triple
 triples_from m [] = []
 triples_from m (f ∷ fs) = record { i = m.i f; j = m.j f; k = m.k f } ∷ triples_from m fs

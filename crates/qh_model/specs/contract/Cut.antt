@@ -3,15 +3,15 @@
 use Rattle.std.specs.Prelude.{ℕ, ◌≡◌, ◌+◌, ◌*◌, ◌-◌, ◌/◌, ◌%◌, ◌≤◌, ◌<◌, List, length, min, slice_index_or}
 use Rattle.qh_model.specs.declared.limits.TheConstants.{BLOCK_LIMIT, POINT_LIMIT}
 
--- bound j: the first position of block j, and the position past the last of the block before
+-- bound j: the first position of block j, which is also the position past the last of the previous block
 abbrev pub bound : List ℕ → ℕ → ℕ
 bound bounds j = slice_index_or bounds j 0
 
--- how many blocks there are
+-- the number of blocks
 abbrev pub block_count : List ℕ → ℕ
 block_count bounds = length bounds - 1
 
--- how many positions are cut: they are those from 0 on
+-- the number of positions that are cut; they begin at 0
 abbrev pub positions : List ℕ → ℕ
 positions bounds = bound bounds (block_count bounds)
 
@@ -19,7 +19,7 @@ positions bounds = bound bounds (block_count bounds)
 abbrev pub Rises : List ℕ → Type 0
 Rises bounds = (j : ℕ) → j + 1 < length bounds → bound bounds j < bound bounds (j + 1)
 
--- rising bounds from 0 on, of at least one position and at most POINT_LIMIT
+-- rising bounds that begin with 0, of at least one position and at most POINT_LIMIT
 pub record AreBounds (bounds : List ℕ) : Type 0 where
   pub some : 2 ≤ length bounds
   pub begins : bound bounds 0 ≡ 0

@@ -1,4 +1,4 @@
--- A finished surface: what Quickhull has reached when no facet sees a point.
+-- A finished surface: the state of Quickhull when no facet sees a point.
 -- Source: Barber, Dobkin and Huhdanpaa 1996 (no facet has an outside set left).
 use Rattle.std.specs.Prelude.{ℕ, List, pos, ◌≤ℤ◌, ◌<ℤ◌}
 use Rattle.qh_model.specs.headline.Vector.{Vector}

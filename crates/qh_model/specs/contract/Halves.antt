@@ -6,13 +6,13 @@ use Rattle.qh_model.specs.declared.keys.packed.TheConstants.{HALF_ROOM}
 abbrev pub packed : ℕ → ℕ → ℕ
 packed high low = high * HALF_ROOM + low
 
--- the halves of a number
+-- the high half and the low half of a number
 abbrev pub high_of : ℕ → ℕ
 high_of key = key / HALF_ROOM
 
 abbrev pub low_of : ℕ → ℕ
 low_of key = key % HALF_ROOM
 
--- both of them
+-- both halves of a number
 abbrev pub halves : ℕ → ℕ × ℕ
 halves key = (high_of key, low_of key)

@@ -1,4 +1,4 @@
--- What the type of a point keeps: a vector within the limit, which the program can have as data.
+-- The invariant of the type of a point: a vector within the limit, which can be data of the program.
 use Rattle.qh_model.specs.headline.Vector.{Vector}
 use Rattle.qh_model.specs.headline.Limits.{IsCoordinate}
 use Rattle.std.specs.Prelude.{ℤ, refl}

@@ -6,7 +6,7 @@ use Rattle.qh_model.specs.contract.Surface.{Side, Surface, start, end, Sees, IsB
 use Rattle.qh_model.specs.contract.Weighted.{Weighted}
 use Rattle.qh_model.specs.contract.Surface.Side.{first, second, third}
 
--- a horizon side: its facet sees p, and the neighbour over it does not
+-- a horizon side: its facet sees p, and the neighbour across it does not
 pub record IsHorizonSide (m : Surface) (home : ℕ → Weighted) (p : Weighted) (f : ℕ) (s : Side) : Type 0 where
   pub live : In f m.live
   pub seen : Sees m home f p
@@ -26,13 +26,13 @@ pub record IsTriangle (m' : Surface) (f' u v p : ℕ) : Type 0 where
   pub j_is : m'.j f' ≡ v
   pub k_is : m'.k f' ≡ p
 
--- over side s of f lies side t of g
+-- side t of g is the twin of side s of f
 pub record LinksTo (m' : Surface) (f : ℕ) (s : Side) (g : ℕ) (t : Side) : Type 0 where
   pub over_is : m'.over f s ≡ g
   pub back_is : m'.back f s ≡ t
 
--- m' is m with the facets that see p replaced by its cone: each new facet is a kept one or stands over a horizon
--- side, and the twins are as the ends of the horizon sides tell
+-- m' is m with the facets that see p replaced by its cone: each new facet is a kept one or lies on a horizon side, and the ends of the horizon sides determine
+-- the twins
 pub record IsRewired (m m' : Surface) (home : ℕ → Weighted) (p : ℕ) : Type 0 where
   pub number : ℕ → Side → ℕ
   pub f0 : ℕ

@@ -1,10 +1,10 @@
--- A surface as a list stores it: a place for each facet, numbered half-edges, and marks of the live places.
+-- The storage of a surface in a list: a place for each facet, numbered half-edges, and marks of the live places.
 use Rattle.std.specs.Prelude.{ℕ, ◌+◌, ◌/◌, ◌%◌, List, [], ◌∷◌, Bool, false, cond, slice_index_or}
 use Rattle.qh_model.specs.contract.Simplex.{one_of, by_side}
 use Rattle.qh_model.specs.contract.Surface.{Surface}
 use Rattle.qh_model.specs.contract.Surface.Side.{first, second, third}
 
--- three ids, the half-edges over the three sides, 3 f + s for side s of facet f, and whether it is live
+-- three ids, the half-edges across the three sides (3 f + s for side s of facet f), and a mark that is set if the facet is live
 pub record StoredFacet : Type 0 where
   pub i : ℕ
   pub j : ℕ
@@ -14,7 +14,7 @@ pub record StoredFacet : Type 0 where
   pub ki : ℕ
   pub live : Bool
 
--- a place past the end
+-- the value of a place past the end
 abbrev pub no_facet : StoredFacet
 no_facet = record { i = 0; j = 0; k = 0; ij = 0; jk = 0; ki = 0; live = false }
 
@@ -26,7 +26,7 @@ named_facet name f = record f { i = name f.i; j = name f.j; k = name f.k }
 abbrev pub facet_at : List StoredFacet → ℕ → StoredFacet
 facet_at fs f = slice_index_or fs f no_facet
 
--- the places marked live, counted from n
+-- the places marked live, numbered from n
 abbrev pub live_from : ℕ → List StoredFacet → List ℕ
 live_from n [] = []
 live_from n (f ∷ fs) = cond f.live (n ∷ live_from (n + 1) fs) (live_from (n + 1) fs)

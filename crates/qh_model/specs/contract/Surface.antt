@@ -1,4 +1,4 @@
--- Surfaces: triangular facets, each with a neighbour over each of its three sides.
+-- Surfaces: triangular facets, each with a neighbour across each of its three sides.
 -- Source: Barber, Dobkin and Huhdanpaa 1996 (facets with neighbours over ridges).
 use Rattle.std.specs.Prelude.{◌≡◌, ℕ, ◌⊎◌, List, ℤ, pos, ◌≤ℤ◌, ◌<ℤ◌}
 use Rattle.qh_model.specs.headline.Sets.{In}
@@ -10,7 +10,7 @@ pub data Side : Type 0 where
   second : Side
   third : Side
 
--- the numbers of the live facets, the three ids of each facet, and over each side the neighbour and its side there
+-- the numbers of the live facets, the three ids of each facet, and for each side the neighbour across it and the number of the twin
 pub record Surface : Type 0 where
   pub live : List ℕ
   pub i : ℕ → ℕ
@@ -25,13 +25,13 @@ start m f first = m.i f
 start m f second = m.j f
 start m f third = m.k f
 
--- the id at which it ends
+-- the id at which a side ends
 abbrev pub end : Surface → ℕ → Side → ℕ
 end m f first = m.j f
 end m f second = m.k f
 end m f third = m.i f
 
--- the facet's third id, across from the side
+-- the third id of the facet, which is not on the side
 abbrev pub rest : Surface → ℕ → Side → ℕ
 rest m f first = m.k f
 rest m f second = m.i f
@@ -41,7 +41,7 @@ rest m f third = m.j f
 abbrev pub IsCorner : Surface → ℕ → ℕ → Type 0
 IsCorner m f l = (l ≡ m.i f) ⊎ (l ≡ m.j f) ⊎ (l ≡ m.k f)
 
--- over the side lies a live facet that has the side the other way round and leads back
+-- the neighbour across the side is a live facet that has the reversed side and leads back
 pub record HasTwin (m : Surface) (f : ℕ) (s : Side) : Type 0 where
   pub live : In (m.over f s) m.live
   pub start_is : start m (m.over f s) (m.back f s) ≡ end m f s
@@ -52,7 +52,7 @@ pub record HasTwin (m : Surface) (f : ℕ) (s : Side) : Type 0 where
 abbrev pub IsWhole : Surface → Type 0
 IsWhole m = (f : ℕ) → In f m.live → (s : Side) → HasTwin m f s
 
--- how far y is above the facet's plane
+-- the height of y above the facet's plane
 abbrev pub rise : Surface → (ℕ → Weighted) → ℕ → Weighted → ℤ
 rise m at f y = above (at (m.i f)) (at (m.j f)) (at (m.k f)) y
 
@@ -60,6 +60,6 @@ rise m at f y = above (at (m.i f)) (at (m.j f)) (at (m.k f)) y
 abbrev pub Sees : Surface → (ℕ → Weighted) → ℕ → Weighted → Type 0
 Sees m at f y = pos 0 <ℤ rise m at f y
 
--- it does not see y
+-- the facet does not see y
 abbrev pub IsBlindTo : Surface → (ℕ → Weighted) → ℕ → Weighted → Type 0
 IsBlindTo m at f y = rise m at f y ≤ℤ pos 0

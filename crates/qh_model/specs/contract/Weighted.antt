@@ -1,4 +1,4 @@
--- Weighted points: (w, x, y, z) stands for the point (x, y, z) / w, or for a direction where w is 0.
+-- Weighted points: (w, x, y, z) represents the point (x, y, z) / w, or a direction if w is 0.
 -- Source: homogeneous coordinates; the orientation predicate is a determinant of four of them.
 use Rattle.std.specs.Prelude.{ℤ, pos, ◌+ℤ◌, ◌-ℤ◌, ◌*ℤ◌, neg_ℤ}
 use Rattle.qh_model.specs.headline.Vector.{Vector}
@@ -18,7 +18,7 @@ weighted p = record { w = pos 1; x = p.x; y = p.y; z = p.z }
 abbrev pub weighted_dot : Weighted → Weighted → ℤ
 weighted_dot n p = n.w *ℤ p.w +ℤ n.x *ℤ p.x +ℤ n.y *ℤ p.y +ℤ n.z *ℤ p.z
 
--- the middle of four points, with their weights together
+-- the middle of four points; its weight is the sum of theirs
 abbrev pub middle_of : Weighted → Weighted → Weighted → Weighted → Weighted
 middle_of a b c d = record { w = a.w +ℤ b.w +ℤ c.w +ℤ d.w; x = a.x +ℤ b.x +ℤ c.x +ℤ d.x; y = a.y +ℤ b.y +ℤ c.y +ℤ d.y; z = a.z +ℤ b.z +ℤ c.z +ℤ d.z }
 
@@ -36,6 +36,6 @@ plane_of a b c =
       z = minor a.w a.x a.y b.w b.x b.y c.w c.x c.y;
     }
 
--- how far p is above the plane of a, b, c: a determinant, by the weights above 0 on the outer side
+-- the height of p above the plane of a, b, c: a determinant, above 0 on the outer side if the weights are above 0
 unfoldable pub above : Weighted → Weighted → Weighted → Weighted → ℤ
 above a b c p = weighted_dot (plane_of a b c) p

@@ -1,4 +1,4 @@
--- The distinct points of a list: of equal points the lowest id stands for all.
+-- The distinct points of a list: of equal points the lowest id represents all.
 use Rattle.std.specs.Prelude.{ℕ, ◌≢◌, ◌<◌, ◌↔◌, List, length}
 use Rattle.std.specs.List.Sorted.{IsStrictlyIncreasing}
 use Rattle.qh_model.specs.headline.Vector.{Vector}

@@ -9,23 +9,23 @@ use Rattle.qh_model.specs.headline.Limits.{is_coordinate}
 use Rattle.qh_model.specs.headline.Words.{data_words, Word}
 use Rattle.qh_model.specs.headline.Numbers.{number_of}
 
--- what is wrong with a coordinate on this line
+-- the fault of a coordinate on this line
 abbrev pub coordinate_fault : Option ℤ → ℕ → Option ReadFault
 coordinate_fault None line = Some (BadNumber line)
 coordinate_fault (Some z) line = if is_coordinate z then None else Some (Range line)
 
--- a number of coordinates are to come, and then what is wrong with the rest; of two faults the one of the earlier word
+-- the first fault of a number of coordinates and then of the words after them; of two faults the one of the earlier word
 abbrev pub coordinates_fault : (List Word → Option ReadFault) → ℕ → List Word → Option ReadFault
 coordinates_fault after zero ws = after ws
 coordinates_fault after (suc k) [] = Some Short
 coordinates_fault after (suc k) (w ∷ ws) = option_or (coordinate_fault (number_of w.text) w.line) (coordinates_fault after k ws)
 
--- the count is from 1 to the limit, and then the coordinates follow
+-- the count is from 1 to the limit, and the coordinates follow it
 abbrev pub counted_fault : (List Word → Option ReadFault) → ℤ → List Word → Option ReadFault
 counted_fault after (pos n) ws = if nat_le 1 n && nat_le n POINT_LIMIT then coordinates_fault after (3 * n) ws else Some Count
 counted_fault after (negsuc n) ws = Some Count
 
--- a number of the header, the line of its word, the words after it, and what is wrong with these
+-- the first fault of a number of the header, on the line of its word, and then of the words after it
 abbrev pub number_fault : (ℤ → List Word → Option ReadFault) → Option ℤ → ℕ → List Word → Option ReadFault
 number_fault after None line ws = Some (BadNumber line)
 number_fault after (Some z) line ws = after z ws
@@ -44,17 +44,17 @@ abbrev pub is_three : ℤ → Bool
 is_three (pos n) = n == 3
 is_three (negsuc n) = false
 
--- a 3 that stands first is the dimension, and the other number the count
+-- a first number 3 is the dimension, and the other number is the count
 abbrev pub headed_fault : ℤ → ℤ → List Word → Option ReadFault
 headed_fault first second ws =
     if is_three first then counted_fault long_fault second ws
     else if is_three second then counted_fault long_fault first ws
     else Some NotThree
 
--- the two numbers of the header, and then the rest
+-- the first fault of the two numbers of the header, and then of the rest
 abbrev pub words_fault : List Word → Option ReadFault
 words_fault ws = next_number_fault (λ first. next_number_fault (headed_fault first)) ws
 
--- the first fault; more bytes than the limit go before all others
+-- the first fault; more bytes than the limit have precedence over all others
 abbrev pub first_fault : List ℕ → Option ReadFault
 first_fault bytes = if nat_lt BYTE_LIMIT (length bytes) then Some Big else words_fault (data_words bytes)

@@ -1,4 +1,4 @@
--- What a byte string stands for, by the form in which it is read.
+-- The meaning of a byte string in each form.
 use Rattle.std.specs.Prelude.{ℕ, ◌≡◌, List, Option, Some}
 use Rattle.qh_model.specs.declared.form.Form.{Form}
 use Rattle.qh_model.specs.declared.form.Form.TheVariants.{Qhull, Off}
@@ -14,7 +14,7 @@ abbrev pub ReadsIn : Form → List ℕ → List Vector → Type 0
 ReadsIn Qhull bytes points = Reads bytes points
 ReadsIn Off bytes points = ReadsOff bytes points
 
--- their first fault, if they are a file of none
+-- the first fault of the bytes, if they are a file of no points
 abbrev pub first_fault_in : Form → List ℕ → Option ReadFault
 first_fault_in Qhull bytes = first_fault bytes
 first_fault_in Off bytes = first_off_fault bytes

@@ -1,4 +1,4 @@
--- What is right as the hull of a set of ids, and of a list of points.
+-- Definitions of the right hull of a set of ids, and of a list of points.
 use Rattle.std.specs.Prelude.{◌≡◌, ℕ, ◌↔◌, List, length}
 use Rattle.std.specs.List.Sorted.{IsStrictlyIncreasing}
 use Rattle.qh_model.specs.headline.Vector.{Vector}

@@ -6,6 +6,6 @@ use Rattle.qh_model.specs.declared.limits.TheConstants.{COORDINATE_LIMIT}
 abbrev pub IsCoordinate : ℤ → Type 0
 IsCoordinate z = unsigned_abs z ≤ COORDINATE_LIMIT
 
--- the same, as a test
+-- the same range, as a test
 abbrev pub is_coordinate : ℤ → Bool
 is_coordinate z = nat_le (unsigned_abs z) COORDINATE_LIMIT

@@ -1,8 +1,8 @@
--- The number that a word stands for, of any length: an optional sign and one or more decimal digits.
+-- The number that a word represents, of any length: an optional sign and one or more decimal digits.
 use Rattle.std.specs.Prelude.{ℕ, ℤ, pos, neg_ℤ, Bool, true, List, [], ◌∷◌, ◌==◌, ◌&&◌, ◌+◌, ◌-◌, ◌*◌, if◌then◌else◌, Option, Some, None, option_map}
 use Rattle.std.specs.Char.{is_ascii_digit}
 
--- the value of decimal digits, after the number so far
+-- the value of decimal digits that follow a number
 abbrev pub read_digits : ℕ → List ℕ → ℕ
 read_digits n [] = n
 read_digits n (c ∷ cs) = read_digits (10 * n + (c - 48)) cs

@@ -8,8 +8,8 @@ use Rattle.qh_model.specs.headline.Words.{Word}
 use Rattle.qh_model.specs.headline.FileFault.{counted_fault, next_number_fault}
 use Rattle.qh_model.specs.headline.OffFile.{off_words}
 
--- the numbers of vertices, faces and edges, of which the first alone is looked at, once all three are there; then the
--- coordinates of the vertices, and then whatever
+-- the first fault of the numbers of vertices, faces and edges, all of which are required, and then of the coordinates of the vertices; only the first number is
+-- used, and any words may follow
 abbrev pub counts_fault : List Word → Option ReadFault
 counts_fault ws =
     next_number_fault (λ vertices. next_number_fault (λ faces. next_number_fault (λ edges. counted_fault (λ rest. None) vertices))) ws
@@ -18,6 +18,6 @@ abbrev pub off_words_fault : List Word → Option ReadFault
 off_words_fault [] = Some NoHeader
 off_words_fault (w ∷ ws) = if bytes_eq w.text (codes "OFF") then counts_fault ws else Some NotOff
 
--- the first fault; more bytes than the limit go before all others
+-- the first fault; more bytes than the limit have precedence over all others
 abbrev pub first_off_fault : List ℕ → Option ReadFault
 first_off_fault bytes = if nat_lt BYTE_LIMIT (length bytes) then Some Big else off_words_fault (off_words bytes)

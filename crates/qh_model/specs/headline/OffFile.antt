@@ -1,6 +1,6 @@
--- The points that a byte string stands for as an OFF file.
--- Source: Geomview OFF: the keyword, the numbers of vertices, faces and edges, the vertices, the faces. That the keyword
--- has to stand, that a comment begins at any byte `#`, and that faces are not looked at is this project's profile.
+-- The points of a byte string that is read as an OFF file.
+-- Source: Geomview OFF: the keyword, the numbers of vertices, faces and edges, the vertices, the faces. This project's profile: the keyword is required, a
+-- comment begins at any byte `#`, and faces are not read.
 use Rattle.std.specs.Prelude.{ℕ, ℤ, pos, List, [], ◌∷◌, ◌++◌, ◌≡◌, ◌≤◌, ◌==◌, if◌then◌else◌, map, length, codes, Some}
 use Rattle.std.specs.List.{AllByRecursion}
 use Rattle.qh_model.specs.declared.limits.TheConstants.{POINT_LIMIT, BYTE_LIMIT}
@@ -15,7 +15,7 @@ abbrev pub before_hash : List ℕ → List ℕ
 before_hash [] = []
 before_hash (c ∷ cs) = if c == 35 then [] else c ∷ before_hash cs
 
--- all words that stand in no comment, in their order over the whole file
+-- all words outside comments, in order over the whole file
 abbrev pub off_words : List ℕ → List Word
 off_words bytes = words_from (λ line. words_of (before_hash line)) 1 (lines_of bytes)
 

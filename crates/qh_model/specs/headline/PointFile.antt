@@ -1,6 +1,6 @@
--- The points that a byte string stands for.
+-- The points of a byte string that is read as a point file.
 -- Source: Qhull manual, "Qhull input: point coordinates": a dimension, a number of points, the coordinates.
--- That the two numbers of the header may come in either order is this project's profile.
+-- This project's profile: the two numbers of the header may have either order.
 use Rattle.std.specs.Prelude.{ℕ, ℤ, pos, List, [], ◌∷◌, ◌≡◌, ◌≢◌, ◌≤◌, ◌⊎◌, map, length, Some}
 use Rattle.std.specs.List.{AllByRecursion}
 use Rattle.qh_model.specs.declared.limits.TheConstants.{POINT_LIMIT, BYTE_LIMIT}
@@ -14,7 +14,7 @@ abbrev pub coordinates : List Vector → List ℤ
 coordinates [] = []
 coordinates (p ∷ ps) = p.x ∷ p.y ∷ p.z ∷ coordinates ps
 
--- the header gives dimension 3 and this count, in either order; a 3 that stands first is the dimension
+-- the header has dimension 3 and this count, in either order; a first number 3 is the dimension
 abbrev pub IsHeader : ℤ → ℤ → ℕ → Type 0
 IsHeader first second count =
     ((first ≡ pos 3) × (second ≡ pos count)) ⊎ ((first ≢ pos 3) × (second ≡ pos 3) × (first ≡ pos count))

@@ -4,22 +4,21 @@ use Rattle.qh_model.specs.headline.Vector.{Vector}
 use Rattle.qh_model.specs.headline.Predicates.{left}
 use Rattle.qh_model.specs.headline.Sets.{In, Once, BeginsWithLeast}
 
--- v follows u on the way from t along the list to e
+-- v follows u along the path from t through the list to e
 abbrev pub FollowsAlong : ℕ → ℕ → ℕ → List ℕ → ℕ → Type 0
 FollowsAlong u v t [] e = (t ≡ u) × (e ≡ v)
 FollowsAlong u v t (w ∷ r) e = ((t ≡ u) × (w ≡ v)) ⊎ FollowsAlong u v w r e
 
--- v follows u round the polygon, the first the last
+-- v follows u round the polygon; the first follows the last
 abbrev pub Follows : ℕ → ℕ → List ℕ → Type 0
 Follows u v [] = ⊥
 Follows u v (t ∷ r) = FollowsAlong u v t r t
 
--- every other member of q lies to the left of the way from u to v, seen from the side that n points to
+-- every other member of q lies to the left of the line from u to v, seen from the side to which n points
 abbrev pub TurnsLeft : (ℕ → Vector) → Vector → List ℕ → ℕ → ℕ → Type 0
 TurnsLeft at n q u v = (w : ℕ) → In w q → w ≢ u → w ≢ v → pos 0 <ℤ left n (at u) (at v) (at w)
 
--- q has just the members of X, each once, goes counterclockwise seen from the side that n points to,
--- and begins with the least id
+-- q has exactly the members of X, each once, is counterclockwise seen from the side to which n points, and begins with the least id
 pub record IsPolygon (at : ℕ → Vector) (X : ℕ → Type 0) (n : Vector) (q : List ℕ) : Type 0 where
   pub members : (i : ℕ) → In i q ↔ X i
   pub once : Once q

@@ -8,7 +8,7 @@ use Rattle.qh_model.specs.headline.Extreme.{Extreme}
 use Rattle.qh_model.specs.headline.SupportingPlane.{IsSupportingTriple, OnPlane}
 use Rattle.qh_model.specs.headline.Polygon.{Follows, IsPolygon}
 
--- lexicographic order of lists: at the first place where they differ p has the lower number, or p ends there
+-- lexicographic order of lists: at the first difference p has the lower number, or p ends there
 abbrev pub ComesBefore : List ℕ → List ℕ → Type 0
 ComesBefore p [] = ⊥
 ComesBefore [] (v ∷ q) = Unit {0}
@@ -27,7 +27,7 @@ RiseStrictly (q ∷ qs) = RisesFrom q qs
 abbrev pub IsFacePolygon : (ℕ → Vector) → (ℕ → Type 0) → ℕ → ℕ → ℕ → List ℕ → Type 0
 IsFacePolygon at A i j k q = IsPolygon at (OnPlane at (Extreme at A) i j k) (cross (at i) (at j) (at k)) q
 
--- dimension 3: the polygon of every supporting triple and nothing else, in rising order
+-- dimension 3: exactly the polygons of the supporting triples, in rising order
 pub record AreFaces (at : ℕ → Vector) (A : ℕ → Type 0) (qs : List (List ℕ)) : Type 0 where
   pub rising : RiseStrictly qs
   pub each : (i j k : ℕ) → IsSupportingTriple at A i j k → (q : List ℕ) × In q qs × IsFacePolygon at A i j k q
@@ -56,7 +56,7 @@ pub record IsSegmentFace (at : ℕ → Vector) (A : ℕ → Type 0) (q : List �
   pub lower : i < j
   pub is : q ≡ i ∷ j ∷ []
 
--- dimension 0: the one id
+-- dimension 0: the only id
 pub record IsPointFace (A : ℕ → Type 0) (q : List ℕ) : Type 0 where
   pub i : ℕ
   pub has_i : A i
@@ -74,7 +74,7 @@ ArePolygons at A dim qs =
 abbrev pub IsEdge : List (List ℕ) → ℕ → ℕ → Type 0
 IsEdge qs u v = (u < v) × ((q : List ℕ) × In q qs × (Follows u v q ⊎ Follows v u q))
 
--- the number of edges: the length of a list that has each edge once and nothing else
+-- the number of edges: the length of a list that has exactly the edges, each once
 pub record IsEdgeCount (qs : List (List ℕ)) (edges : ℕ) : Type 0 where
   pub list : List (ℕ × ℕ)
   pub once : Once list

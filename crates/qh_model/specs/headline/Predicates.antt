@@ -7,11 +7,11 @@ use Rattle.qh_model.specs.headline.Vector.{Vector, origin, minus, cross_product,
 unfoldable pub cross : Vector → Vector → Vector → Vector
 cross a b c = cross_product (minus b a) (minus c a)
 
--- six times the volume of the tetrahedron a, b, c, d, above 0 where d is on the side of the normal
+-- six times the volume of the tetrahedron a, b, c, d, above 0 if d is on the side of the normal
 unfoldable pub vol : Vector → Vector → Vector → Vector → ℤ
 vol a b c d = dot (cross a b c) (minus d a)
 
--- the turn from u over v to w, above 0 where it is to the left seen from the side that n points to
+-- the turn from u over v to w, above 0 if it is to the left seen from the side to which n points
 unfoldable pub left : Vector → Vector → Vector → Vector → ℤ
 left n u v w = dot (cross u v w) n
 
@@ -19,6 +19,6 @@ left n u v w = dot (cross u v w) n
 abbrev pub AreInLine : Vector → Vector → Vector → Type 0
 AreInLine a b c = cross a b c ≡ origin
 
--- the point of an id; past the end of the list the origin
+-- the point of an id; the origin for an id past the end of the list
 unfoldable pub place : List Vector → ℕ → Vector
 place pts i = slice_index_or pts i origin

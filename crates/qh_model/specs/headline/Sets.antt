@@ -10,7 +10,7 @@ In x (y ∷ ys) = (x ≡ y) ⊎ In x ys
 abbrev pub Members : List ℕ → ℕ → Type 0
 Members ids i = In i ids
 
--- each member stands once in the list
+-- each member occurs once in the list
 abbrev pub Once : {X : Type 0} → List X → Type 0
 Once [] = Unit {0}
 Once (x ∷ xs) = (¬ (In x xs)) × Once xs

@@ -11,26 +11,26 @@ use Rattle.qh_model.specs.headline.Predicates.{place}
 use Rattle.qh_model.specs.headline.Fan.{fans, edge_count}
 use Rattle.qh_model.specs.headline.Hull.{HullValue, BodyValue, IsHull}
 
--- a line ends with byte 10
+-- a text followed by byte 10, which ends the line
 abbrev pub line : List ℕ → List ℕ
 line text = text ++ 10 ∷ []
 
--- a blank and then the number
+-- a blank followed by the number
 abbrev pub spaced : ℕ → List ℕ
 spaced n = 32 ∷ decimal n
 
--- `rank`: how many points, how many distinct ones, the dimension
+-- `rank`: the number of points, the number of distinct points, the dimension
 abbrev pub rank_text : HullValue → List ℕ
 rank_text h = line (decimal h.given ++ spaced h.distinct ++ spaced h.body.dim)
 
--- the first three lines of `s`: what was given
+-- the first three lines of `s`: the input
 abbrev pub given_text : HullValue → List ℕ
 given_text h =
     line (codes "Convex hull of " ++ decimal h.given ++ codes " points in 3-d:")
     ++ line (codes "  dimension: " ++ decimal h.body.dim)
     ++ line (codes "  distinct points: " ++ decimal h.distinct)
 
--- the last three lines of `s`: what was found
+-- the last three lines of `s`: the result
 abbrev pub found_text : BodyValue → List ℕ
 found_text b =
     line (codes "  extreme points: " ++ decimal (length b.extremes))
@@ -66,7 +66,7 @@ off_text b pts =
     ++ flat_map (λ i. vertex_text (place pts i)) b.extremes
     ++ flat_map (face_text b.extremes) b.polygons
 
--- the fans of the polygons in place of the polygons, and their edges
+-- the body with the fans of the polygons instead of the polygons, and with their edges
 abbrev pub in_triangles : BodyValue → BodyValue
 in_triangles b = record b { polygons = fans b.polygons; edges = edge_count (fans b.polygons) }
 
@@ -82,7 +82,7 @@ output_text h pts OffTriangles = off_text (in_triangles h.body) pts
 abbrev pub hull_text : HullValue → List Vector → List Out → List ℕ
 hull_text h pts outs = flat_map (output_text h pts) outs
 
--- the one text that the points define, for a list of outputs
+-- the only text that the points define for a list of outputs
 pub record IsText (pts : List Vector) (outs : List Out) (text : List ℕ) : Type 0 where
   pub hull : HullValue
   pub right : IsHull pts hull

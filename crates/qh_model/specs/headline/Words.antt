@@ -25,7 +25,7 @@ abbrev pub is_data : List ℕ → Bool
 is_data [] = false
 is_data (c ∷ w) = is_ascii_digit c || c == 43 || c == 45 || c == 46
 
--- the leftmost other word begins a comment, which runs to the end of the line
+-- the words before the first word that is not data, which begins a comment to the end of the line
 abbrev pub before_comment : List (List ℕ) → List (List ℕ)
 before_comment [] = []
 before_comment (w ∷ ws) = if is_data w then w ∷ before_comment ws else []
@@ -38,11 +38,11 @@ pub record Word : Type 0 where
 abbrev pub on_line : ℕ → List (List ℕ) → List Word
 on_line n ws = map (λ w. record { text = w; line = n }) ws
 
--- the words of lines from line n on, given which bytes of a line are words
+-- the words of lines that are numbered from n, for a function that splits a line into words
 abbrev pub words_from : (List ℕ → List (List ℕ)) → ℕ → List (List ℕ) → List Word
 words_from parts n [] = []
 words_from parts n (line ∷ lines) = on_line n (parts line) ++ words_from parts (n + 1) lines
 
--- all words that stand in no comment, in their order over the whole file
+-- all words outside comments, in order over the whole file
 abbrev pub data_words : List ℕ → List Word
 data_words bytes = words_from (λ line. before_comment (words_of line)) 1 (lines_of bytes)

@@ -1,4 +1,4 @@
--- Laws of supporting triangles and of faces that close up: they leave nothing of the hull out.
+-- Laws of supporting triangles and of faces that close up: they include all of the hull.
 use Rattle.std.specs.Prelude.{ℕ, ◌≡◌, ◌↔◌, List, pos}
 use Rattle.qh_model.specs.headline.Vector.{Vector}
 use Rattle.qh_model.specs.headline.Predicates.{cross, vol}
@@ -23,13 +23,13 @@ pub record TriangleOfPlane (at : ℕ → Vector) (ts : List Triple) (i j k : ℕ
   pub along : IsAlong (cross (at t.i) (at t.j) (at t.k)) (cross (at i) (at j) (at k))
   pub level : vol (at t.i) (at t.j) (at t.k) (at i) ≡ pos 0
 
--- supporting triangles that close up have one in each supporting plane
+-- supporting triangles that close up include one in each supporting plane
 abbrev pub ClosedMissNoPlane : Type 0
 ClosedMissNoPlane = (at : ℕ → Vector) (ids : List ℕ) (ts : List Triple)
     → IsClosedSurface at ts → AreSupporting at (Members ids) ts
     → (i j k : ℕ) → IsSupportingTriple at (Members ids) i j k → TriangleOfPlane at ts i j k
 
--- and one in a plane through each extreme id
+-- supporting triangles that close up include one in a plane through each extreme id
 abbrev pub ClosedMissNoExtreme : Type 0
 ClosedMissNoExtreme = (at : ℕ → Vector) (ids : List ℕ) (ts : List Triple)
     → IsClosedSurface at ts → AreSupporting at (Members ids) ts → (l : ℕ) → Extreme at (Members ids) l
@@ -40,7 +40,7 @@ abbrev pub ClosedFacesAreAll : Type 0
 ClosedFacesAreAll = (at : ℕ → Vector) (ids : List ℕ) (qs : List (List ℕ)) → HasDistinctPoints at (Members ids)
     → AreClosedFaces at (Members ids) qs → RiseStrictly qs → AreFaces at (Members ids) qs
 
--- and their corners are the extreme ids
+-- the corners of faces that close up are the extreme ids
 abbrev pub ClosedFacesHaveExtremes : Type 0
 ClosedFacesHaveExtremes = (at : ℕ → Vector) (ids : List ℕ) (qs : List (List ℕ)) → HasDistinctPoints at (Members ids)
     → AreClosedFaces at (Members ids) qs

@@ -26,7 +26,7 @@ abbrev pub SoundIsClosed : Type 0
 SoundIsClosed = (at : ℕ → Vector) (m : Surface) (s t u v f0 : ℕ) → In f0 m.live → Once m.live → IsWhole m → IsSound m (weighted_at at) (middle_at at s t u v)
     → IsClosedSurface at (triples_of m)
 
--- and their signed volume is below 0
+-- the signed volume of these facets is below 0
 abbrev pub SoundHasVolume : Type 0
 SoundHasVolume = (at : ℕ → Vector) (m : Surface) (s t u v f0 : ℕ) → In f0 m.live → Once m.live → IsWhole m → IsSound m (weighted_at at) (middle_at at s t u v)
     → (p : Vector) → signed_volume at (triples_of m) p <ℤ pos 0

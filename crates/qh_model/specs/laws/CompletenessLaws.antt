@@ -1,5 +1,4 @@
--- Laws of finished surfaces: their facets support the set, they miss no extreme id and no supporting plane, and so
--- they tell the polygons.
+-- Laws of finished surfaces: their facets support the set, and include all extreme ids and all supporting planes. So they determine the polygons.
 use Rattle.std.specs.Prelude.{ℕ, ◌≡◌, ◌↔◌, List, pos}
 use Rattle.qh_model.specs.headline.Vector.{Vector}
 use Rattle.qh_model.specs.headline.Predicates.{cross, vol}

@@ -1,4 +1,4 @@
--- Laws of sound surfaces: nothing that no facet sees lies outside, and the live facets cover each supporting plane.
+-- Laws of sound surfaces: a point that no facet sees is not outside, and the live facets cover each supporting plane.
 use Rattle.std.specs.Prelude.{◌≡◌, ℕ, pos, ◌≤ℤ◌, ◌<ℤ◌}
 use Rattle.qh_model.specs.laws.CoveredPoints.{FacetInPlane, CombinationWithInner, CombinationInPlane}
 use Rattle.qh_model.specs.headline.Sets.{In}
@@ -31,7 +31,7 @@ abbrev pub SettledIsCombination : Type 0
 SettledIsCombination = (m : Surface) (home : ℕ → Weighted) (o : Weighted) → IsWhole m → IsSound m home o → (f0 : ℕ) → In f0 m.live
     → (x : Weighted) → IsUnseen m home x → CombinationWithInner m home o x
 
--- in a supporting plane it is a convex combination of the corners of a live facet of that plane
+-- in a supporting plane the point is a convex combination of the corners of a live facet of that plane
 abbrev pub LevelIsCombination : Type 0
 LevelIsCombination = (m : Surface) (home : ℕ → Weighted) (o : Weighted) → IsWhole m → IsSound m home o → (f0 : ℕ) → In f0 m.live
     → (a b c e : Weighted) → SupportsAt m home o a b c e → AreUnseen m home a b c e → CombinationInPlane m home a b c e

@@ -1,4 +1,4 @@
--- Points as convex combinations of a facet's corners, told by all linear functions at once.
+-- Points as convex combinations of a facet's corners, determined by all linear functions at once.
 use Rattle.std.specs.Prelude.{◌≡◌, ℕ, ℤ, pos, ◌+ℤ◌, ◌*ℤ◌, ◌≤ℤ◌, ◌<ℤ◌}
 use Rattle.qh_model.specs.headline.Sets.{In}
 use Rattle.qh_model.specs.contract.Surface.{Side, Surface, start, end, IsCorner, rise}

@@ -12,11 +12,11 @@ pub record IsInBlock (bounds : List ℕ) (j p : ℕ) : Type 0 where
 abbrev pub BlocksCover : Type 0
 BlocksCover = (bounds : List ℕ) (p : ℕ) → IsCut bounds → p < positions bounds → (j : ℕ) × IsInBlock bounds j p
 
--- and in one block alone
+-- a position lies in only one block
 abbrev pub BlocksAreApart : Type 0
 BlocksAreApart = (bounds : List ℕ) (i j p : ℕ) → IsCut bounds → IsInBlock bounds i p → IsInBlock bounds j p → i ≡ j
 
--- a block has nothing else
+-- a block has positions of the list only
 abbrev pub BlocksAreInside : Type 0
 BlocksAreInside = (bounds : List ℕ) (j p : ℕ) → IsCut bounds → IsInBlock bounds j p → p < positions bounds
 

@@ -1,4 +1,4 @@
--- Laws of extreme ids: which member is extreme, and the extremes of a union.
+-- Laws of extreme ids: a member that is extreme, and the extremes of a union.
 use Rattle.std.specs.Prelude.{ℕ, ◌≡◌, ◌<◌, ◌⊎◌, ◌↔◌, List, ◌<ℤ◌}
 use Rattle.qh_model.specs.headline.Vector.{Vector, dot}
 use Rattle.qh_model.specs.headline.Sets.{Members}
@@ -14,7 +14,7 @@ IsLower w p q = (dot w p <ℤ dot w q) ⊎ ((dot w p ≡ dot w q) × ((p.x <ℤ 
 abbrev pub InBlocks : ℕ → (ℕ → ℕ → Type 0) → ℕ → Type 0
 InBlocks n block i = (k : ℕ) × (k < n) × block k i
 
--- the member that is greatest along w, by its coordinates where others are level with it, is extreme
+-- the member that is greatest along w is extreme; among equals, the coordinates decide
 abbrev pub GreatestIsExtreme : Type 0
 GreatestIsExtreme = (at : ℕ → Vector) (ids : List ℕ) (w : Vector) (e : ℕ) → Members ids e
     → ((j : ℕ) → Others (Members ids) e j → IsLower w (at j) (at e)) → Extreme at (Members ids) e

@@ -1,4 +1,4 @@
--- Laws of supporting planes: they belong to the extreme ids as to the whole set.
+-- Laws of supporting planes: the extreme ids have the same ones as the whole set.
 use Rattle.std.specs.Prelude.{ℕ, ◌≡◌, ◌<◌, ◌↔◌, List, pos, ◌*ℤ◌}
 use Rattle.qh_model.specs.headline.Vector.{Vector}
 use Rattle.qh_model.specs.headline.Predicates.{cross, vol, AreInLine}
@@ -7,7 +7,7 @@ use Rattle.qh_model.specs.contract.IdSets.{HasDistinctPoints}
 use Rattle.qh_model.specs.headline.Extreme.{Extreme}
 use Rattle.qh_model.specs.headline.SupportingPlane.{Supports, IsSupportingTriple, OnPlane}
 
--- n and m have one direction: s n = t m with s and t above 0
+-- n and m have the same direction: s n = t m with s and t above 0
 pub record IsAlong (n m : Vector) : Type 0 where
   pub s : ℕ
   pub t : ℕ
@@ -35,7 +35,7 @@ abbrev pub ExtremesOfFace : Type 0
 ExtremesOfFace = (at : ℕ → Vector) (ids : List ℕ) (i j k : ℕ) → Supports at (Members ids) i j k
     → (l : ℕ) → Extreme at (OnPlane at (Members ids) i j k) l ↔ OnPlane at (Extreme at (Members ids)) i j k l
 
--- a plane that has no extreme id outside has no member outside
+-- a plane with no extreme id outside has no member outside
 abbrev pub SupportOfExtremes : Type 0
 SupportOfExtremes = (at : ℕ → Vector) (ids : List ℕ) → HasDistinctPoints at (Members ids)
     → (i j k : ℕ) → Supports at (Extreme at (Members ids)) i j k → Supports at (Members ids) i j k

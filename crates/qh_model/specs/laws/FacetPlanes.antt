@@ -15,17 +15,17 @@ IsLevelWith at m f l = vol (at (m.i f)) (at (m.j f)) (at (m.k f)) (at l) ≡ pos
 abbrev pub IsLevelFacet : (ℕ → Vector) → Surface → ℕ → ℕ → Type 0
 IsLevelFacet at m f g = (l : ℕ) → IsCorner m g l → IsLevelWith at m f l
 
--- f and g span one plane, with the same side outside
+-- f and g span the same plane, with the same side outside
 pub record HaveOnePlane (at : ℕ → Vector) (m : Surface) (f g : ℕ) : Type 0 where
   pub along : IsAlong (cross (at (m.i f)) (at (m.j f)) (at (m.k f))) (cross (at (m.i g)) (at (m.j g)) (at (m.k g)))
   pub same : (l : ℕ) → IsLevelWith at m f l ↔ IsLevelWith at m g l
 
--- a set c of facets that has f and, with a facet, each neighbour in the plane of f
+-- a set c of facets that has f and, for each of its facets, every neighbour in the plane of f
 pub record IsPlaneWalk (at : ℕ → Vector) (m : Surface) (f : ℕ) (c : ℕ → Bool) : Type 0 where
   pub has : c f ≡ true
   pub grows : (g : ℕ) → In g m.live → (s : Side) → c g ≡ true → IsLevelFacet at m f (m.over g s) → c (m.over g s) ≡ true
 
--- a facet in the plane of another spans it
+-- a facet in the plane of another spans that plane
 abbrev pub LevelFacetsSpan : Type 0
 LevelFacetsSpan = (at : ℕ → Vector) (ids : List ℕ) (m : Surface) → IsFinished at ids m → (f g : ℕ) → In f m.live → In g m.live
     → IsLevelFacet at m f g → HaveOnePlane at m f g

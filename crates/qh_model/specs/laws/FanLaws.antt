@@ -1,4 +1,4 @@
--- Laws of fans: in a solid their triangles are supporting triples; and the number of edges of faces, as a function.
+-- Laws of fans: in a solid their triangles are supporting triples; and a function computes the number of edges of faces.
 -- Source: Preparata and Hong 1977 (supporting planes).
 use Rattle.std.specs.Prelude.{ℕ, ◌≡◌, ◌≢◌, List, [], ◌∷◌}
 use Rattle.qh_model.specs.headline.Vector.{Vector}
@@ -23,6 +23,6 @@ abbrev pub FansSupport : Type 0
 FansSupport = (at : ℕ → Vector) (ids : List ℕ) (qs : List (List ℕ)) → HasDistinctPoints at (Members ids) → AreFaces at (Members ids) qs
     → (t : List ℕ) → In t (fans qs) → IsSupportingTriangle at (Members ids) t
 
--- the function finds the number of edges of any faces
+-- the function returns the number of edges of any faces
 abbrev pub EdgesAreCounted : Type 0
 EdgesAreCounted = (qs : List (List ℕ)) → IsEdgeCount qs (edge_count qs)

@@ -1,4 +1,4 @@
--- Laws of hulls: a set and its extreme ids have one hull, and each part of a hull is one value.
+-- Laws of hulls: a set and its extreme ids have the same hull, and each part of a hull is unique.
 use Rattle.std.specs.Prelude.{ℕ, ◌≡◌, ◌↔◌, List}
 use Rattle.std.specs.List.Sorted.{IsStrictlyIncreasing}
 use Rattle.qh_model.specs.declared.out.Out.{Out}
@@ -25,40 +25,40 @@ abbrev pub PolygonsOfExtremes : Type 0
 PolygonsOfExtremes = (at : ℕ → Vector) (ids : List ℕ) (dim : ℕ) (qs : List (List ℕ)) → HasDistinctPoints at (Members ids) → IsDimension at (Members ids) dim
     → ArePolygons at (Extreme at (Members ids)) dim qs ↔ ArePolygons at (Members ids) dim qs
 
--- a set has one list of polygons
+-- a set has at most one list of polygons
 abbrev pub PolygonsAreUnique : Type 0
 PolygonsAreUnique = (at : ℕ → Vector) (ids : List ℕ) (dim : ℕ) (ps qs : List (List ℕ)) → IsDimension at (Members ids) dim
     → ArePolygons at (Members ids) dim ps → ArePolygons at (Members ids) dim qs → ps ≡ qs
 
--- polygons have one number of edges
+-- polygons have at most one number of edges
 abbrev pub EdgeCountIsUnique : Type 0
 EdgeCountIsUnique = (qs : List (List ℕ)) (m n : ℕ) → IsEdgeCount qs m → IsEdgeCount qs n → m ≡ n
 
--- a set of ids has one rising list
+-- a set of ids has at most one rising list
 abbrev pub RisingListIsUnique : Type 0
 RisingListIsUnique = (xs ys : List ℕ) → IsStrictlyIncreasing xs → IsStrictlyIncreasing ys → ((i : ℕ) → In i xs ↔ In i ys) → xs ≡ ys
 
--- a list of points has one list of distinct ids
+-- a list of points has at most one list of distinct ids
 abbrev pub DistinctIdsAreUnique : Type 0
 DistinctIdsAreUnique = (pts : List Vector) (xs ys : List ℕ) → AreDistinctIds pts xs → AreDistinctIds pts ys → xs ≡ ys
 
--- what is right as the hull of the extreme ids is right for the set, and the other way round
+-- a body is right for the extreme ids exactly if it is right for the set
 abbrev pub BodyOfExtremes : Type 0
 BodyOfExtremes = (at : ℕ → Vector) (ids : List ℕ) (b : BodyValue) → HasDistinctPoints at (Members ids)
     → IsBody at (Extreme at (Members ids)) b ↔ IsBody at (Members ids) b
 
--- ids of a set, all its extreme ids among them
+-- ids of a set that include all its extreme ids
 pub record HasExtremes (pts : List Vector) (ids part : List ℕ) : Type 0 where
   pub within : (i : ℕ) → In i part → In i ids
   pub extremes : (i : ℕ) → Extreme (place pts) (Members ids) i → In i part
 
--- a part of a set that has all its extreme ids has the same extreme ids
+-- a part of a set that has all extreme ids of the set has the same extreme ids
 abbrev pub ExtremesOfPart : Type 0
 ExtremesOfPart = (at : ℕ → Vector) (ids part : List ℕ) → HasDistinctPoints at (Members ids)
     → ((i : ℕ) → Members part i → Members ids i) → ((i : ℕ) → Extreme at (Members ids) i → Members part i)
     → (i : ℕ) → Extreme at (Members part) i ↔ Extreme at (Members ids) i
 
--- and what is right as its hull is right for the set
+-- a body that is right for this part is right for the set
 abbrev pub BodyOfPart : Type 0
 BodyOfPart = (at : ℕ → Vector) (ids part : List ℕ) (b : BodyValue) → HasDistinctPoints at (Members ids)
     → ((i : ℕ) → Members part i → Members ids i) → ((i : ℕ) → Extreme at (Members ids) i → Members part i)

@@ -1,12 +1,12 @@
--- Which facets of a stored surface are live.
+-- The live facets of a stored surface.
 use Rattle.std.specs.Prelude.{◌≡◌, ℕ, ◌↔◌, List, true}
 use Rattle.qh_model.specs.headline.Sets.{In, Once}
 use Rattle.qh_model.specs.contract.StoredSurface.{StoredFacet, facet_at, surface_of}
 
--- its live facets are the places that are marked so
+-- the live facets are the places that are marked live
 abbrev pub LiveIsMarked : Type 0
 LiveIsMarked = (fs : List StoredFacet) (f : ℕ) → In f (surface_of fs).live ↔ ((facet_at fs f).live ≡ true)
 
--- and each of them is listed once
+-- each live facet is listed once
 abbrev pub LiveIsListedOnce : Type 0
 LiveIsListedOnce = (fs : List StoredFacet) → Once (surface_of fs).live

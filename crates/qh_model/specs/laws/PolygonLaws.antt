@@ -1,11 +1,11 @@
--- Laws of a polygon: it is one list, and depends on the direction of its normal alone.
+-- Laws of a polygon: it is unique, and depends on the direction of its normal alone.
 use Rattle.std.specs.Prelude.{ℕ, ◌≡◌, List}
 use Rattle.qh_model.specs.headline.Vector.{Vector}
 use Rattle.qh_model.specs.headline.Sets.{Members}
 use Rattle.qh_model.specs.headline.Polygon.{IsPolygon}
 use Rattle.qh_model.specs.laws.FaceLaws.{IsAlong}
 
--- no two lists are the polygon of one set and normal
+-- at most one list is the polygon of a set and a normal
 abbrev pub PolygonIsUnique : Type 0
 PolygonIsUnique = (at : ℕ → Vector) (ids : List ℕ) (n : Vector) (p q : List ℕ) → IsPolygon at (Members ids) n p → IsPolygon at (Members ids) n q → p ≡ q
 

@@ -5,11 +5,11 @@ use Rattle.qh_model.specs.declared.form.Form.{Form}
 use Rattle.qh_model.specs.declared.read_fault.ReadFault.{ReadFault}
 use Rattle.qh_model.specs.headline.Forms.{ReadsIn, first_fault_in, IsFirstFault}
 
--- a byte string is the file of one list of points at most
+-- a byte string is the file of at most one list of points
 abbrev pub ReadsOneList : Type 0
 ReadsOneList = (form : Form) (bytes : List ℕ) (ps qs : List Vector) → ReadsIn form bytes ps → ReadsIn form bytes qs → ps ≡ qs
 
--- it is the file of some points, or it has a first fault
+-- a byte string is the file of some points, or it has a first fault
 abbrev pub HasListOrFault : Type 0
 HasListOrFault = (form : Form) (bytes : List ℕ) →
     ((ps : List Vector) × ReadsIn form bytes ps × (first_fault_in form bytes ≡ None)) ⊎ ((f : ReadFault) × IsFirstFault form bytes f)

@@ -1,4 +1,4 @@
--- Laws of sound surfaces: what a walk finds, and what stays true where a cone replaces the facets that see a point.
+-- Laws of sound surfaces: the facets that a walk finds, and the facts that stay true if a cone replaces the facets that see a point.
 use Rattle.std.specs.Prelude.{◌≡◌, ℕ, ◌⊎◌, Bool, true, pos, ◌≤ℤ◌, ◌<ℤ◌}
 use Rattle.qh_model.specs.headline.Predicates.{vol}
 use Rattle.qh_model.specs.laws.Horizons.{IsWalked, HasHorizonSide, IsConeUnseen}
@@ -24,7 +24,7 @@ abbrev pub SimplexIsSound : Type 0
 SimplexIsSound = (home : ℕ → Weighted) (a b c d : ℕ) → above (home a) (home b) (home c) (home d) <ℤ pos 0
     → IsWhole (simplex_surface a b c d) × IsSound (simplex_surface a b c d) home (middle_of (home a) (home b) (home c) (home d))
 
--- a plane that no corner of the tetrahedron is beyond, and that not every point is on, has its middle strictly below
+-- a plane with no corner of the tetrahedron beyond it, and with some point off it, has the middle strictly below it
 abbrev pub MiddleIsBelow : Type 0
 MiddleIsBelow = (a b c s t u v p : Weighted) → above s t u v <ℤ pos 0
     → above a b c s ≤ℤ pos 0 → above a b c t ≤ℤ pos 0 → above a b c u ≤ℤ pos 0 → above a b c v ≤ℤ pos 0
@@ -36,13 +36,13 @@ WalkFindsAll = (m : Surface) (home : ℕ → Weighted) (o : Weighted) → IsWhol
     → (p : Weighted) (c : ℕ → Bool) → IsWalked m home p c
     → (f : ℕ) → In f m.live → Sees m home f p → c f ≡ true
 
--- at the end of a horizon side another starts, and at its start another ends
+-- at the end of a horizon side another one starts, and at its start another one ends
 abbrev pub HorizonGoesOn : Type 0
 HorizonGoesOn = (m : Surface) (home : ℕ → Weighted) (o : Weighted) → IsWhole m → IsSound m home o
     → (p : Weighted) (f : ℕ) (s : Side) → IsHorizonSide m home p f s
     → HasHorizonSide m home p (λ g t. start m g t ≡ end m f s) × HasHorizonSide m home p (λ g t. end m g t ≡ start m f s)
 
--- a horizon side is known by its start, and by its end
+-- a horizon side is determined by its start, and by its end
 abbrev pub HorizonIsKnown : Type 0
 HorizonIsKnown = (m : Surface) (home : ℕ → Weighted) (o : Weighted) → IsWhole m → IsSound m home o
     → (p : Weighted) (f g : ℕ) (s t : Side) → IsHorizonSide m home p f s → IsHorizonSide m home p g t
@@ -62,7 +62,7 @@ CornersAreSettled = (m : Surface) (home : ℕ → Weighted) (o : Weighted) → I
 abbrev pub AddedIsSettled : Type 0
 AddedIsSettled = (m m' : Surface) (home : ℕ → Weighted) (p : ℕ) → IsRewired m m' home p → IsUnseen m' home (home p)
 
--- a point that no facet sees is seen by none after the step
+-- a point that no facet sees is seen by no facet after the step
 abbrev pub SettledStayUnseen : Type 0
 SettledStayUnseen = (m m' : Surface) (home : ℕ → Weighted) (o : Weighted) (p : ℕ) → IsWhole m → IsSound m home o → IsRewired m m' home p
     → (y : Weighted) → IsUnseen m home y → IsUnseen m' home y

@@ -1,4 +1,4 @@
--- Points that no facet sees, and what holds of all corners.
+-- Points that no facet sees, and facts about all corners.
 use Rattle.std.specs.Prelude.{ℕ}
 use Rattle.qh_model.specs.headline.Sets.{In}
 use Rattle.qh_model.specs.contract.Weighted.{Weighted}
@@ -8,6 +8,6 @@ use Rattle.qh_model.specs.contract.Surface.{IsBlindTo, IsCorner, Surface}
 abbrev pub IsUnseen : Surface → (ℕ → Weighted) → Weighted → Type 0
 IsUnseen m at y = (f : ℕ) → In f m.live → IsBlindTo m at f y
 
--- P holds of each corner of a live facet
+-- P holds for each corner of a live facet
 abbrev pub HoldsOfCorners : Surface → (ℕ → Type 0) → Type 0
 HoldsOfCorners m P = (g : ℕ) → In g m.live → (i : ℕ) → IsCorner m g i → P i

@@ -1,9 +1,9 @@
--- The ids that a polygon keeps.
+-- The ids that a polygon stores.
 use Rattle.std.specs.Prelude.{ℕ, List}
 use Rattle.qh_model.specs.declared.polygon.Corners.{Corners}
 use Rattle.qh_model.specs.declared.polygon.Corners.TheVariants.{Three, Four, Listed}
 
--- in their order
+-- the ids in order
 abbrev pub ids_of : Corners → List ℕ
 ids_of (Three ids) = ids
 ids_of (Four ids) = ids

@@ -9,11 +9,11 @@ fn spread(number: u32) -> u32 {
     (pairs | pairs << 2) & 0x0924_9249
 }
 
-/// Returns the number of a cell in Morton order: the bits of its places along the three axes, taken in turn, the highest of
-/// `x` first.
+/// Returns the number of a cell in Morton order: the bits of its places along the three axes, interleaved, with the
+/// highest bit of `x` first.
 ///
-/// The places are from 0 to 1,023. The number is below 2^30, also that of greater places, which other places may have as
-/// well. No answer depends on it, so nothing is proved of it.
+/// The places are from 0 to 1,023. The number is below 2^30, even for greater places, but then it need not be unique.
+/// No answer depends on it, so nothing about it is proved.
 ///
 /// Source: Morton 1966 (the order of cells along a Z-shaped curve).
 #[inline]

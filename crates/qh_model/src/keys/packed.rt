@@ -4,7 +4,7 @@ ghost use Rattle.qh_model.specs.contract.Halves.{halves, high_of, low_of, packed
 
 use std::marker::Model;
 
-/// The numbers that a half has room for: 2^32.
+/// The number of values of a half: 2^32.
 pub const HALF_ROOM: u64 = 4294967296;
 
 /// Two numbers of 32 bits in one of 64. Packed pairs compare as the pairs do: by the high half, then by the low one.

@@ -9,9 +9,8 @@ pub fn closed_surface_encloses()
     ensures apart { NoneBelowAndBeyond }
 {}
 
-/// The live facets of a whole and sound surface, each listed once, are a closed surface whose signed
-/// volume is below 0. So what Quickhull keeps can be checked by counting edges, and no point sees every
-/// facet.
+/// The live facets of a whole and sound surface, each listed once, are a closed surface whose signed volume is below 0.
+/// So counting edges checks what Quickhull keeps, and no point sees every facet.
 pub fn sound_surface_closes()
     ensures closed { SoundIsClosed }
     ensures volume { SoundHasVolume }

@@ -1,17 +1,17 @@
-//! The laws of surfaces of facets, by which Quickhull's steps are right.
+//! The laws of surfaces of facets, which show that the steps of Quickhull are right.
 ghost use Rattle.qh_model.specs.laws.SurfaceLaws.{RiseIsVol, SimplexBoundaryIsSound, SimplexIsSound, MiddleIsBelow};
 ghost use Rattle.qh_model.specs.laws.SurfaceLaws.{WalkFindsAll, HorizonGoesOn, HorizonIsKnown, ReplaceKeeps};
 ghost use Rattle.qh_model.specs.laws.SurfaceLaws.{CornersAreSettled, AddedIsSettled, SettledStayUnseen, DroppedStayUnseen};
 ghost use Rattle.qh_model.specs.laws.CoverageLaws.{NothingOutside, PlaneIsCovered, SettledIsCombination, LevelIsCombination};
 ghost use Rattle.qh_model.specs.laws.LiveFacets.{LiveIsMarked, LiveIsListedOnce};
 
-/// For points of space, a facet sees a point by the sign of their volume.
+/// A facet sees a point exactly by the sign of their volume.
 pub fn rise_is_vol()
     ensures { RiseIsVol }
 {}
 
-/// The four facets of a tetrahedron are a whole and sound surface around its middle, and that middle is
-/// strictly below each supporting plane. So Quickhull may begin with them.
+/// The four facets of a tetrahedron are a whole and sound surface around its middle, and that middle is strictly below
+/// each supporting plane. So Quickhull can begin with them.
 pub fn simplex_is_sound()
     ensures boundary { SimplexBoundaryIsSound }
     ensures simplex { SimplexIsSound }
@@ -24,20 +24,20 @@ pub fn walk_finds_all()
     ensures { WalkFindsAll }
 {}
 
-/// At the end of each horizon side exactly one other starts, and at its start exactly one ends. So the
-/// twins of the cone can be found by a table of ids.
+/// At the end of each horizon side exactly one other side starts, and at its start exactly one ends. So a table of ids
+/// finds the twins of the cone.
 pub fn horizon_goes_round()
     ensures goes_on { HorizonGoesOn }
     ensures known { HorizonIsKnown }
 {}
 
-/// Where a cone replaces the facets that see a point, the surface stays whole and sound.
+/// The surface stays whole and sound if a cone replaces the facets that see a point.
 pub fn replace_keeps()
     ensures { ReplaceKeeps }
 {}
 
-/// After that step no facet sees the point, a corner, or a point that no facet saw before; and a point
-/// that lost its facet and sees none of the cone is seen by none. So no point is tested twice.
+/// After that step no facet sees the point, a corner, or a point that no facet saw before. No facet sees a point that
+/// lost its facet and is above no facet of the cone. So no point is tested twice.
 pub fn settled_stay_unseen()
     ensures corners { CornersAreSettled }
     ensures added { AddedIsSettled }
@@ -45,9 +45,9 @@ pub fn settled_stay_unseen()
     ensures dropped { DroppedStayUnseen }
 {}
 
-/// A point that no facet sees is beyond no plane of the hull, lies in a live facet of each supporting
-/// plane that it is on, and is a convex combination of corners. So a surface that no point sees misses
-/// no supporting plane and no extreme point.
+/// A point that no facet sees is beyond no plane of the hull, lies in a live facet of each supporting plane through it,
+/// and is a convex combination of corners. So a surface that no point sees has every supporting plane and every extreme
+/// point.
 pub fn surface_covers()
     ensures nothing_outside { NothingOutside }
     ensures plane { PlaneIsCovered }

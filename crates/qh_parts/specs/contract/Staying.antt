@@ -1,4 +1,4 @@
--- What stays of the parts of a set.
+-- The faces of the parts of a set that stay.
 -- This project's own.
 use Rattle.std.specs.Prelude.{ℕ, ◌++◌, List, Bool}
 use Rattle.std.specs.List.{flat_map}
@@ -13,13 +13,13 @@ use Rattle.qh_laws.specs.contract.Seam.{IsSeam, IsStrictRing}
 use Rattle.qh_parts_join.specs.declared.parts.Part.{Part}
 use Rattle.qh_parts_join.specs.contract.Parts.{ids_in, KeepsCorners}
 
--- a part whose marked facets stay where the corners of the other parts come in
+-- a part whose marked facets stay when the corners of the other parts are added
 pub record IsStayingPart (pts : List Vector) (shared : List ℕ) (parts : List Part) (p : Part) (stay : ℕ → Bool) : Type 0 where
   pub seam : (kept : List ℕ) → KeepsCorners parts shared kept → IsSeam (place pts) (surface_of (named p.surface)) stay (Members kept)
   pub ring : (kept : List ℕ) → KeepsCorners parts shared kept
       → IsStrictRing (place pts) kept p.ids.items (surface_of (named p.surface)) stay
 
--- polygons that stay of parts and those that go close up together, if the points of a set that has the ids of all parts are distinct
+-- if the points of a set that has the ids of all parts are distinct, the polygons of parts that stay and those that go close up together
 abbrev pub CloseUp : List Vector → List Part → (stay go : List (List ℕ)) → Type 0
 CloseUp pts parts stay go = (ids : List ℕ) → HasDistinctPoints (place pts) (Members ids)
     → ((l : ℕ) → In l (flat_map ids_in parts) → In l ids) → AreClosed (stay ++ go)

@@ -1,4 +1,4 @@
--- What is asked of a part, for one other part.
+-- The condition on a part, for one other part.
 -- This project's own.
 use Rattle.std.specs.Prelude.{ℕ, List, Bool}
 use Rattle.qh_model.specs.headline.Vector.{Vector}
@@ -10,7 +10,7 @@ use Rattle.qh_laws.specs.contract.Seam.{IsSeam}
 use Rattle.qh_parts_join.specs.declared.parts.Part.{Part}
 use Rattle.qh_parts.specs.steps.Witnesses.{IsRingOver}
 
--- the facets that stay have a seam to the others, which are strictly below the ring
+-- the facets that stay have a seam to the other ids, which are strictly below the ring
 pub record IsApart (pts : List Vector) (p : Part) (stay : ℕ → Bool) (others : List ℕ) : Type 0 where
   pub seam : IsSeam (place pts) (surface_of (named p.surface)) stay (Members others)
   pub ring : IsRingOver (place pts) (surface_of (named p.surface)) stay others

@@ -1,4 +1,4 @@
--- What is kept of a set in parts.
+-- The ids that are kept of a set in parts.
 -- This project's own.
 use Rattle.std.specs.Prelude.{ℕ, List}
 use Rattle.std.specs.List.{All, flat_map}
@@ -7,7 +7,7 @@ use Rattle.qh_laws.specs.contract.Parts.{AreKept}
 use Rattle.qh_parts_join.specs.declared.parts.Part.{Part}
 use Rattle.qh_parts_join.specs.contract.Parts.{ids_in, IsPartOf, KeepsCorners}
 
--- the parts' ids are in the set, and their corners stand for it
+-- the parts' ids are in the set, and their corners have its hull
 pub record HaveKept (parts : List Part) (shared ids : List ℕ) : Type 0 where
   pub kept : List ℕ
   pub corners : KeepsCorners parts shared kept

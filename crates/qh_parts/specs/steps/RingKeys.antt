@@ -1,4 +1,4 @@
--- The keys by which the facets of a ring are put in an order.
+-- The keys by which the facets of a ring are sorted.
 -- This project's own.
 use Rattle.std.specs.Prelude.{ℕ, ◌%◌}
 use Rattle.qh_parts.specs.declared.seam.rings.TheConstants.{PLACE}

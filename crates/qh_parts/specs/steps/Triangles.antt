@@ -10,7 +10,7 @@ use Rattle.qh_parts.specs.declared.seam.triangles.Four.{Four}
 abbrev pub four_vols : Vector → Vector → Vector → Four → ℤ
 four_vols a b c o = vol a b c o.s +ℤ vol a b c o.t +ℤ vol a b c o.u +ℤ vol a b c o.v
 
--- the points of four ids of a list, so turned that the fourth is below the triangle of the others
+-- the points of four ids of a list, ordered so that the fourth is below the triangle of the others
 pub record IsFourOf (pts : List Vector) (ids : List ℕ) (o : Four) : Type 0 where
   pub s : ℕ
   pub t : ℕ
@@ -26,7 +26,7 @@ pub record IsFourOf (pts : List Vector) (ids : List ℕ) (o : Four) : Type 0 whe
   pub v_is : o.v ≡ place pts v
   pub turned : vol o.s o.t o.u o.v <ℤ pos 0
 
--- p is not above the triangle, and beyond none of the planes through the middle of the four and a side
+-- p is not above the triangle, and beyond no plane through the middle of the four and a side
 pub record IsInCone (a b c : Vector) (o : Four) (p : Vector) : Type 0 where
   pub below : vol a b c p ≤ℤ pos 0
   pub first : four_vols a b p o ≤ℤ pos 0

@@ -11,7 +11,7 @@ use qh_model::Point;
 use qh_pred::point_at;
 use qh_surface::NamedMesh;
 
-/// The finished mesh of a part, and for each of its places whether the facet there is to stay.
+/// The finished mesh of a part, and for each of its places true if the facet there is marked to stay.
 #[derive(Clone, Copy, Drop)]
 pub(crate) struct Marked<'a> {
     pub pts: &'a [Point],

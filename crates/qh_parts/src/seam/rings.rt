@@ -1,4 +1,4 @@
-//! The ring of the facets that stay beside one that is removed.
+//! The ring: the facets that stay and have a removed neighbour.
 ghost use Rattle.std.specs.Prelude.{◌≡◌, ◌<◌, ◌↔◌, ◌⊎◌, ◌++◌, ◌∷◌, [], ℕ, List, map, IfOk, OnOk, IsTrue, false};
 ghost use Rattle.qh_model.specs.headline.Predicates.{place};
 ghost use Rattle.qh_model.specs.headline.Sets.{In};
@@ -22,11 +22,11 @@ use std::alloc::{AllocError, Global};
 /// The number of facets of the ring whose planes are tested together.
 const GROUP: usize = 4;
 
-/// The room of a facet in a key: 2^64.
+/// The range of facets in a key: 2^64.
 const PLACE: u128 = 18446744073709551616;
 
-/// Returns the position of a facet's first corner and the facet in one, so that a sort by positions is one of
-/// numbers.
+/// Packs the position of a facet's first corner and the facet into one number, so that sorting the numbers sorts by
+/// position.
 fn ring_key(first: Id, f: FacetNo) -> u128
     ensures { facet_in result ≡ f }
 {
@@ -65,7 +65,7 @@ impl Marked<'_> {
         self.goes_over(f, 0) || self.goes_over(f, 1) || self.goes_over(f, 2)
     }
 
-    /// Lists the key of a live facet if it is one of the ring.
+    /// Appends the key of a live facet if the facet is in the ring.
     fn list_ring(self, f: FacetNo, keys: &mut Vec<u128>) -> Result<(), AllocError>
         requires { IsLive self.surface.now.mesh f }
         ensures { OnOk result ((map facet_in keys.new.items ≡ map facet_in keys.old.items ++ f ∷ [])
@@ -79,7 +79,7 @@ impl Marked<'_> {
         Ok(())
     }
 
-    /// Returns the keys of the facets of the ring, as they come.
+    /// Returns the keys of the facets of the ring, unsorted.
     fn ring_keys(self, alloc: Global) -> Result<Vec<u128>, AllocError>
         ensures all { IfOk result (λ v. (f : ℕ) → IsRing (surface_of (named self.entry.surface.now)) (mark_at self.entry.stay.now) f
             → In f (map facet_in v.items)) }
@@ -92,7 +92,7 @@ impl Marked<'_> {
         Ok(keys)
     }
 
-    /// Returns the facets of the ring, near ones one after the other.
+    /// Returns the facets of the ring, ordered so that near ones follow each other.
     pub fn ring(self, alloc: Global) -> Result<Vec<FacetNo>, AllocError>
         ensures all { IfOk result (λ v. (f : ℕ) → IsRing (surface_of (named self.entry.surface.now)) (mark_at self.entry.stay.now) f
             → In f v.items) }
@@ -116,8 +116,8 @@ impl Marked<'_> {
         Ok(planes)
     }
 
-    /// Returns true if the points of all ids of the places are strictly below live facets, which best stand
-    /// in an order in which near ones follow each other. Returns false, too, where the budget does not last.
+    /// Returns true if the points of all ids of the places are strictly below live facets. It is faster if near facets
+    /// follow each other. Returns false, too, if the budget runs out.
     pub fn are_over(
         self,
         alloc: Global,

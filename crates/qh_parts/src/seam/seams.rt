@@ -18,9 +18,9 @@ use qh_places::Budget;
 use std::alloc::{AllocError, Global};
 
 impl Marked<'_> {
-    /// Returns true if the marked facets are seen to stay where the corners of another part come in: each of
-    /// these has a witness, by the middle of four points of the part, and all are strictly below the facets
-    /// of the ring. Returns false, too, where the budget does not last.
+    /// Returns true if it is shown that the marked facets stay when the corners of another part are added. Each of
+    /// these corners has a witness, by the middle of four points of the part, and all are strictly below the facets of
+    /// the ring. Returns false, too, if the budget runs out.
     pub fn is_apart(
         self,
         alloc: Global,

@@ -1,4 +1,4 @@
-//! The faces that a part contributes: those of its facets that stay where the corners of the other parts come in.
+//! The faces that a part contributes: those of its facets that stay when the corners of the other parts are added.
 ghost use Rattle.std.specs.Prelude.{◌≡◌, ◌<◌, ℕ, List, IfOk, IfSome, IsTrue, length, slice_index_or};
 ghost use Rattle.std.specs.List.{All, flat_map};
 ghost use Rattle.qh_model.specs.headline.Predicates.{place};
@@ -18,13 +18,14 @@ use qh_parts_join::{Divided, Guess, Part};
 use qh_places::Budget;
 use std::alloc::Global;
 
-/// The number of blocks and points that are looked at for each facet of a part and each part of the set, to see that the
-/// corners of the other parts are below the part's ring. Four parts of a round set look at 5, of an ellipsoid of the axes 9, 6
-/// and 2 at 16. The threads of all parts together then take a fifth of the time of the hull by one thread at most.
+/// The budget of blocks and points to test, for each facet of a part and each part of the set, when the corners of the
+/// other parts are shown to be below the part's ring. Four parts of a round set test 5; parts of an ellipsoid along the
+/// axes test 9, and 6 and 2 at 16. The threads of all parts together then take at most a fifth of the time of the hull
+/// by one thread.
 const LOOKED_FOR_EACH: u32 = 32;
 
-/// Returns true if the guess for the part of this number is seen to be right. A right one may be refused, as one is where
-/// too much would have to be looked at.
+/// Returns true if the guess for the part of this number is shown to be right. A right guess may be refused, as when
+/// the budget runs out.
 fn stays<'a>(
     alloc: Global,
     set: Divided<'a>,
@@ -71,12 +72,12 @@ fn stays<'a>(
     Ok(true)
 }
 
-/// Returns the faces of the part of this number, if the guess of what stays of it is seen to be right: the chosen ones,
-/// those of its marked facets, are faces of the set. The others go.
+/// Returns the faces of the part of this number, if the guess which facets of it stay is shown to be right. The chosen
+/// faces, those of its marked facets, are faces of the set. The other faces are removed.
 ///
 /// # Errors
 ///
-/// `Memory` where an allocation failed.
+/// `Memory` if an allocation failed.
 pub fn staying_faces<'a>(
     alloc: Global,
     set: Divided<'a>,

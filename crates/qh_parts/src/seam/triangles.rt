@@ -1,4 +1,4 @@
-//! Triangles of points: their planes, and what lies between them and the middle of four points.
+//! Triangles of points: their planes, and the space between a triangle and the middle of four points.
 ghost use Rattle.std.specs.Prelude.{◌≡◌, pos, ◌+ℤ◌, ◌≤ℤ◌, IfSome, IsTrue, false};
 ghost use Rattle.qh_model.specs.headline.Vector.{Vector};
 ghost use Rattle.qh_model.specs.headline.Predicates.{vol};
@@ -17,7 +17,7 @@ pub(crate) struct Triangle {
     pub c: Point,
 }
 
-/// Four points. Their middle is a place inside of every part that has them.
+/// Four points. Their middle lies inside every part that has them.
 #[derive(Clone, Copy, Drop)]
 pub(crate) struct Four {
     pub s: Point,
@@ -90,8 +90,8 @@ impl Triangle {
         Plane::through(self.a, self.b, self.c)
     }
 
-    /// Returns true if a point lies between the triangle and the middle of four points: not above the
-    /// triangle, and beyond none of the planes through the middle and a side.
+    /// Returns true if a point lies between the triangle and the middle of four points: it is not above the triangle,
+    /// and beyond no plane through the middle and a side.
     pub fn has_between(&self, four: &Four, p: Point) -> bool
         ensures { IsTrue result → IsInCone self.now.a self.now.b self.now.c four.now p }
     {

@@ -1,4 +1,4 @@
-//! Witnesses: a facet for each point of the other parts, which shows that no facet that stays need be tested.
+//! Witnesses: a facet for each point of the other parts, which shows that no facet that stays needs a test with it.
 ghost use Rattle.std.specs.Prelude.{◌≡◌, ◌<◌, ◌⊎◌, IsTrue, pos, ◌<ℤ◌, true, false};
 ghost use Rattle.qh_model.specs.headline.Vector.{Vector};
 ghost use Rattle.qh_model.specs.headline.Predicates.{place, vol};
@@ -17,7 +17,7 @@ use qh_model::Point;
 use qh_parts_join::Run;
 use qh_pred::Plane;
 
-/// A facet as a witness: its triangle and plane, whether it stays, and four points of the part.
+/// A facet as a witness: its triangle and plane, true if it stays, and four points of the part.
 #[derive(Clone, Copy, Drop)]
 struct Witness<'a> {
     triangle: Triangle,
@@ -28,7 +28,8 @@ struct Witness<'a> {
 }
 
 impl Witness<'_> {
-    /// Returns true if a point is above the facet, a removed one, or lies between it and the middle of the four points.
+    /// Returns true if the facet is a removed one and the point is above it, or if the point lies between the facet and
+    /// the middle of the four points.
     fn settles(&self, p: Point) -> bool
         ensures { let t = self.now.triangle in IsTrue result
             → ((self.now.stays ≡ false) × (pos 0 <ℤ vol t.a t.b t.c p)) ⊎ IsInCone t.a t.b t.c self.now.four.now p }
@@ -64,7 +65,7 @@ fn is_witness(part: Marked, four: &Four, f: FacetNo, points: &[Point]) -> bool
     true
 }
 
-/// Returns true if each of the points has a witness, by runs of them in the order of the points.
+/// Returns true if each of the points has a witness. The runs are in the order of the points.
 pub(crate) fn are_answered(part: Marked, four: &Four, runs: &[Run], points: &[Point]) -> bool
     ensures { IsTrue result → (p : Vector) → In p points.now → IsAnswered (place part.entry.pts.now)
         (surface_of (named part.entry.surface.now)) (mark_at part.entry.stay.now) four.now p }

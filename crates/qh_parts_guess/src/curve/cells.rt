@@ -1,5 +1,5 @@
-//! The numbers of cells along a curve: that of Hilbert through the larger cells, and within each of these that of
-//! Morton.
+//! The numbers of cells along a curve: the Hilbert curve through the larger cells, and within each of these the Morton
+//! curve.
 //!
 //! Source: Skilling 2004 (Hilbert's order from places, by exchanges and turns of their bits).
 use qh_model::Point;
@@ -13,10 +13,10 @@ const PLACE_BITS: u32 = 10;
 /// The bits of a larger cell's place along an axis.
 const LARGE_BITS: u32 = 5;
 
-/// How many larger cells there are: 2^15.
+/// The number of larger cells: 2^15.
 const LARGE_CELLS: u32 = 32768;
 
-/// The bits of a cell's number that tell it from others of its larger cell: three times 5.
+/// The bits of a cell's number that distinguish it from others in its larger cell: three times 5.
 const INNER_BITS: u32 = 15;
 
 /// The greatest place of a larger cell along an axis.
@@ -30,7 +30,7 @@ pub struct Cell {
     z: u32,
 }
 
-/// For each larger cell, by its number in Morton's order, its number in Hilbert's.
+/// The number of each larger cell in Hilbert's order, indexed by its number in Morton's order.
 #[derive(Drop)]
 pub(crate) struct Cells {
     turned: Vec<u32>,
@@ -43,13 +43,12 @@ impl Cell {
         Cell { x, y, z }
     }
 
-    /// Returns the number in Morton's order.
+    /// Returns the number of the cell in Morton's order.
     pub fn interleaved(self) -> u32 {
         morton_number(self.x, self.y, self.z)
     }
 
-    /// Returns the cell after the turns that a bit of its places asks for. `below` has the bits
-    /// below it.
+    /// Returns the cell after the turns that a bit of its places requires. `below` has the bits below it.
     fn turned_below(self, bit: u32, below: u32) -> Cell {
         let mut cell = self;
         if cell.x & bit != 0 {
@@ -72,7 +71,7 @@ impl Cell {
         cell
     }
 
-    /// Returns the cell whose number in Morton's order is that of this larger cell in Hilbert's.
+    /// Returns the cell whose number in Morton's order is the number of this larger cell in Hilbert's order.
     fn turned(self) -> Cell {
         let mut cell = self;
         for level in 1..LARGE_BITS {
@@ -107,7 +106,7 @@ impl Cells {
     ///
     /// # Errors
     ///
-    /// `AllocError` where an allocation failed.
+    /// `AllocError` if an allocation failed.
     pub fn in_order(alloc: Global) -> Result<Cells, AllocError> {
         let mut turned = vec![in alloc; 0; LARGE_CELLS as usize]?;
         for number in 0..LARGE_CELLS {

@@ -6,12 +6,12 @@ use qh_polygon::{Shape, rank};
 use qh_surface::starts::{Simplex, ends_of, wide_simplex};
 use std::alloc::Global;
 
-/// Returns the ids that are to belong to every part of a set: first four that are far apart and do not lie in one
-/// plane, then the ends of the set along the three axes that are not among these. Returns `None` if all lie in one plane.
+/// Returns the ids that belong to every part of a set: first four that are far apart and do not lie in one plane, then
+/// the ends of the set along the three axes, without repetition. Returns `None` if all points lie in one plane.
 ///
 /// # Errors
 ///
-/// `Memory` where an allocation failed.
+/// `Memory` if an allocation failed.
 #[tactic(auto, using(qh_surface::proofs::runs::FirstSimplexes::simplex_is))]
 pub fn shared_ids(alloc: Global, pts: &[Point], ids: &[Id]) -> Result<Option<Vec<Id>>, Memory>
     requires { AreIndices pts.now ids.now }

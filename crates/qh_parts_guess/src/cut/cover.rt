@@ -10,8 +10,8 @@ use qh_model::Point;
 use qh_parts_join::Run;
 use std::alloc::{AllocError, Global};
 
-/// Finds for each point of the others a facet that shows where it lies: one that is removed and below it,
-/// or the one through which the ray to it leaves.
+/// Finds, for each point of the others, a facet that proves its position: a removed one below the point, or the one
+/// through which the ray to the point leaves.
 #[derive(Drop)]
 pub(crate) struct Cover<'a> {
     alloc: Global,
@@ -30,8 +30,7 @@ fn add(runs: &mut Vec<Run>, facet: FacetNo, count: usize) -> Result<(), AllocErr
 }
 
 impl<'a> Cover<'a> {
-    /// Returns a cover by facets, with rays from the middle of four points; `None` if there is no
-    /// facet.
+    /// Returns a cover by facets, with rays from the middle of four points; `None` if there is no facet.
     pub fn start(alloc: Global, facets: Facets<'a>, four: [Point; 4]) -> Option<Cover<'a>> {
         let Some(rays) = Rays::from_middle(facets, four) else {
             return None;
@@ -68,8 +67,7 @@ impl<'a> Cover<'a> {
         }
     }
 
-    /// Returns a facet that is removed and below all points of a block, if one is found. `own` has the
-    /// points.
+    /// Returns a removed facet that is below all points of a block, if one is found. `own` has the points.
     fn witness_of_all(
         &mut self,
         cutting: &mut Cutting,
@@ -85,7 +83,7 @@ impl<'a> Cover<'a> {
         Ok(self.recent.under_all(block))
     }
 
-    /// Adds the witnesses for the points of a block, each by itself.
+    /// Adds the witness of each point of a block.
     fn add_each(
         &mut self,
         cutting: &mut Cutting,
@@ -98,7 +96,8 @@ impl<'a> Cover<'a> {
         Ok(())
     }
 
-    /// Returns the witnesses for the points of an outline, in their order: not for all where the budget does not last.
+    /// Returns the witnesses for the points of an outline, in their order. If the budget is exhausted, some are
+    /// missing.
     pub fn witnesses(
         &mut self,
         cutting: &mut Cutting,

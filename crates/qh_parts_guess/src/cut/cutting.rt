@@ -1,4 +1,4 @@
-//! The facets of a part that go and those that stay, as they are found.
+//! The state of the facets of a part: those that are removed and those that stay.
 use crate::cut::facets::Facets;
 use crate::outlines::Outline;
 use crate::sights::Sight;
@@ -7,29 +7,30 @@ use qh_model::Point;
 use qh_places::Budget;
 use std::alloc::{AllocError, Global};
 
-/// What is known of a facet.
+/// The state of a facet.
 #[derive(Clone, Copy, PartialEq, Eq, Drop)]
 pub(crate) enum State {
-    /// Nothing yet: it stays, if nothing more is found.
+    /// Not tested: the facet stays unless it is found to be removed.
     Unasked,
     /// All points of the others are strictly below it.
     Stays,
-    /// A point of the others is above it or in its plane, or all parts have it.
+    /// The facet is removed: a point of the others is above it or in its plane, or all parts have it.
     Goes,
 }
 
-/// The outlines of all parts, with the number of the one whose facets are tested.
+/// The outlines of all parts, with the number of the part whose facets are tested.
 #[derive(Clone, Copy, Drop)]
 pub(crate) struct Others<'a> {
     pub outlines: &'a [Outline],
     pub number: usize,
 }
 
-/// The number of blocks, points and facets that are looked at for each facet of a part until its guess is given up. A round
-/// set of 50,000 points looks at 4, an ellipsoid of the axes 9, 6 and 2 at 17; the hull by one thread takes as long as 200.
+/// The number of tests of blocks, points and facets, for each facet of a part, after which its guess is given up. A
+/// round set of 50,000 points takes 4, an ellipsoid of the axes 9, 6 and 2 takes 17; the hull by one thread takes as
+/// long as 200.
 const LOOKED_FOR_EACH: u32 = 32;
 
-/// The facets of a part, with what is known of each.
+/// The facets of a part, with the state of each.
 #[derive(Drop)]
 pub(crate) struct Cutting<'a> {
     facets: Facets<'a>,
@@ -37,17 +38,17 @@ pub(crate) struct Cutting<'a> {
     states: Vec<State>,
     /// The facets that are removed.
     gone: Vec<FacetNo>,
-    /// Facets beside removed ones, to be tested.
+    /// Neighbours of removed facets, still to be tested.
     waiting: Vec<FacetNo>,
     /// The facets of a plane.
     plane: Vec<FacetNo>,
-    /// What may still be looked at. Where nothing is left, the guess is of no use.
+    /// The remaining budget. If it is exhausted, the guess is of no use.
     pub budget: Budget,
 }
 
 impl Others<'_> {
-    /// Returns true if the corners of all other parts are strictly below a plane. Returns false, too, where the budget does
-    /// not last.
+    /// Returns true if the corners of all other parts are strictly below a plane. Also returns false if the budget is
+    /// exhausted.
     pub fn are_below(&self, sight: &Sight, budget: &mut Budget) -> bool {
         for other in 0..self.outlines.len() {
             if other != self.number && !self.outlines[other].is_below(sight, budget) {
@@ -59,7 +60,7 @@ impl Others<'_> {
 }
 
 impl<'a> Cutting<'a> {
-    /// Returns the facets of a part, of which nothing is known.
+    /// Returns the facets of a part, all in the initial state.
     pub fn start(
         alloc: Global,
         facets: Facets<'a>,
@@ -76,7 +77,7 @@ impl<'a> Cutting<'a> {
         })
     }
 
-    /// Returns what is known of a facet.
+    /// Returns the state of a facet.
     pub fn state(&self, f: FacetNo) -> State {
         match self.states.get(f.index()) {
             Some(state) => *state,
@@ -84,12 +85,12 @@ impl<'a> Cutting<'a> {
         }
     }
 
-    /// Returns the facets that go.
+    /// Returns the removed facets.
     pub fn gone(&self) -> &[FacetNo] {
         &self.gone
     }
 
-    /// Adds a facet to those of the plane whose state is set.
+    /// Sets the state of a facet, and adds it to the facets of the plane.
     fn enter(&mut self, f: FacetNo, state: State) -> Result<(), AllocError> {
         if let Some(known) = self.states.get_mut(f.index()) {
             *known = state;
@@ -101,8 +102,8 @@ impl<'a> Cutting<'a> {
         Ok(())
     }
 
-    /// Passes from a facet to its neighbours: those of the plane get the state, and others wait where the plane
-    /// is removed.
+    /// Visits the neighbours of a facet: those in the plane get the state; the others are queued for a test if the
+    /// plane is removed.
     fn spread(&mut self, f: FacetNo, corners: [Point; 3], state: State) -> Result<(), AllocError> {
         let sight = Sight::of(corners);
         for side in 0..3 {
@@ -138,7 +139,7 @@ impl<'a> Cutting<'a> {
         Ok(())
     }
 
-    /// Lets a facet go, with its plane, if it has not gone yet.
+    /// Removes a facet, with all facets of its plane, unless it is removed already.
     pub fn drop_facet(&mut self, f: FacetNo) -> Result<(), AllocError> {
         if self.state(f) == State::Goes {
             return Ok(());
@@ -146,7 +147,7 @@ impl<'a> Cutting<'a> {
         self.settle(f, State::Goes)
     }
 
-    /// Asks whether a facet stays, if nothing is known of it.
+    /// Tests whether a facet stays, unless that is known.
     pub fn ask(&mut self, f: FacetNo) -> Result<(), AllocError> {
         if self.state(f) != State::Unasked {
             return Ok(());
@@ -162,7 +163,7 @@ impl<'a> Cutting<'a> {
         self.settle(f, state)
     }
 
-    /// Asks the facets that wait, and those that come to wait meanwhile, while the budget lasts.
+    /// Tests the queued facets, and those that are queued meanwhile, until the budget is exhausted.
     pub fn ask_waiting(&mut self) -> Result<(), AllocError> {
         for _ in 0..self.states.len().saturating_mul(4) {
             if self.budget.is_spent() {
@@ -176,7 +177,7 @@ impl<'a> Cutting<'a> {
         Ok(())
     }
 
-    /// Returns a mark for each place: whether a facet stays there.
+    /// Returns a mark for each place: true if a facet stays there.
     pub fn marks(&self, alloc: Global) -> Result<Vec<bool>, AllocError> {
         let mut stay = Vec::with_capacity(alloc, self.states.len())?;
         for place in 0..self.states.len() {

@@ -1,4 +1,4 @@
-//! The facets of a part, with the points of their corners. What is asked of a place that is free has no answer.
+//! The facets of a part, with the points of their corners. Calls for a free place return nothing.
 ghost use Rattle.std.specs.Prelude.{IsTrue};
 ghost use Rattle.qh_mesh.specs.contract.Replacement.{IsLive};
 
@@ -13,7 +13,7 @@ pub(crate) struct Facets<'a> {
     surface: &'a NamedMesh,
 }
 
-/// The facet across a side of another, and its corner that does not lie on the side.
+/// The neighbour of a facet across a side, and the corner of the neighbour that is not on the side.
 #[derive(Clone, Copy, Drop)]
 pub(crate) struct Neighbour {
     pub facet: FacetNo,
@@ -26,7 +26,7 @@ impl<'a> Facets<'a> {
         Facets { surface }
     }
 
-    /// Returns the number of places, free ones with them.
+    /// Returns the number of places, including free ones.
     pub fn places(self) -> usize {
         self.surface.mesh.places()
     }
@@ -38,7 +38,7 @@ impl<'a> Facets<'a> {
         f.index() < self.surface.mesh.places() && self.surface.mesh.is_live(f)
     }
 
-    /// Returns the first facet from a place on.
+    /// Returns the first facet at or after a place.
     pub fn first_from(self, place: usize) -> Option<FacetNo> {
         for place in place..self.places() {
             let f = FacetNo::new(place);

@@ -11,23 +11,23 @@ use qh_parts_join::{Divided, Part, Run};
 use qh_places::Budget;
 use std::alloc::{AllocError, Global};
 
-/// The number of facets that all walks for the directions of an outline pass for each facet of a part. Directions that are
-/// wrong from there on make questions longer, and these have a budget of their own.
+/// The number of facets that all walks for the directions of an outline pass, for each facet of a part. After that the
+/// directions may be wrong, which makes tests longer; the tests have a separate budget.
 const STEPS_FOR_EACH: u32 = 4;
 
 /// A guess of what stays of a part.
 #[derive(Drop)]
 pub struct Marks {
-    /// For each place of the mesh whether the facet there stays.
+    /// For each place of the mesh, true if the facet there stays.
     pub stay: Vec<bool>,
-    /// For each part witnesses for its own corners, in their order; none for the part itself.
+    /// For each other part, witnesses for that part's own corners, in their order; empty for the part itself.
     pub runs: Vec<Vec<Run>>,
-    /// The ids of the corners of the facets that go. An id may stand several times.
+    /// The ids of the corners of the removed facets. An id may occur several times.
     pub seam: Vec<Id>,
 }
 
 impl Marks {
-    /// Returns marks that say nothing.
+    /// Returns empty marks.
     fn none(alloc: Global) -> Marks {
         Marks {
             stay: Vec::new(alloc),
@@ -49,7 +49,7 @@ impl Marks {
     }
 }
 
-/// Returns the points of ids. An id of no point is passed over.
+/// Returns the points of ids. An id without a point is skipped.
 fn points_of(alloc: Global, pts: &[Point], ids: &[Id]) -> Result<Vec<Point>, AllocError> {
     let mut points = Vec::with_capacity(alloc, ids.len())?;
     for id in ids {
@@ -65,7 +65,7 @@ fn point_of(pts: &[Point], id: Id) -> Option<Point> {
     pts.get(id.index()).copied()
 }
 
-/// Returns the points of the first four shared ids. Their middle is inside of every part.
+/// Returns the points of the first four shared ids. Their middle is inside every part.
 fn four_of(set: Divided) -> Option<[Point; 4]> {
     let [i, j, k, l, ..] = set.shared else {
         return None;
@@ -75,7 +75,7 @@ fn four_of(set: Divided) -> Option<[Point; 4]> {
     Some([a, b, c, d])
 }
 
-/// Returns for each `FACING_TOGETHER` points the direction in which the surface faces at the one in their middle.
+/// Returns, for each `FACING_TOGETHER` points, the direction in which the surface faces at the middle one.
 fn ways_out(
     alloc: Global,
     facets: Facets,
@@ -101,11 +101,11 @@ fn ways_out(
     Ok(ways)
 }
 
-/// Returns the outline of the part of a number: what the marks of the other parts ask of it.
+/// Returns the outline of the part with this number, which the marks of the other parts need.
 ///
 /// # Errors
 ///
-/// `Memory` where an allocation failed.
+/// `Memory` if an allocation failed.
 pub fn outline_of(alloc: Global, set: Divided, number: usize) -> Result<Outline, Memory> {
     let Some(part) = set.parts.get(number) else {
         return Ok(Outline::over(alloc, Vec::new(alloc), &[])?);
@@ -118,7 +118,7 @@ pub fn outline_of(alloc: Global, set: Divided, number: usize) -> Result<Outline,
     Ok(Outline::over(alloc, points, &ways)?)
 }
 
-/// Returns for each of some ids whether it is shared.
+/// Returns, for each of some ids, true if it is shared.
 fn marks_of_shared(alloc: Global, ids: &[Id], shared: &[Id]) -> Result<Vec<bool>, AllocError> {
     let mut marks = Vec::with_capacity(alloc, ids.len())?;
     for id in ids {
@@ -144,7 +144,7 @@ fn is_marked(facets: Facets, marks: &[bool], f: FacetNo) -> bool {
     is_marked_at(marks, a) && is_marked_at(marks, b) && is_marked_at(marks, c)
 }
 
-/// Lets the facets go all of whose corners are shared: each part may have them.
+/// Removes the facets whose corners are all shared, since every part may have them.
 fn drop_shared(
     alloc: Global,
     part: &Part,
@@ -162,7 +162,7 @@ fn drop_shared(
     Ok(())
 }
 
-/// Witnesses for the corners of each other part.
+/// Returns witnesses for the corners of each other part.
 fn all_witnesses(
     alloc: Global,
     facets: Facets,
@@ -196,8 +196,8 @@ fn corners_of(alloc: Global, facets: Facets, listed: &[FacetNo]) -> Result<Vec<I
     Ok(ids)
 }
 
-/// Guesses what stays of a part where the corners of the others come in, and gives up where the budget does not last. The
-/// middle of the four points is inside of the part.
+/// Guesses what stays of a part in the presence of the corners of the other parts, and gives up if the budget is
+/// exhausted. The middle of the four points is inside the part.
 fn marks_against<'a>(
     alloc: Global,
     part: &'a Part,
@@ -216,12 +216,12 @@ fn marks_against<'a>(
     Marks::made(alloc, facets, &cutting, runs)
 }
 
-/// Guesses what stays of the part of a number where the corners of the other parts come in. `outlines` has
-/// the outline of each part. Where too much would have to be looked at, the marks say nothing.
+/// Guesses what stays of the part with this number in the presence of the corners of the other parts. `outlines` has
+/// the outline of each part. Returns empty marks if too many tests would be needed.
 ///
 /// # Errors
 ///
-/// `Memory` where an allocation failed.
+/// `Memory` if an allocation failed.
 pub fn marks_of<'a>(
     alloc: Global,
     set: Divided<'a>,

@@ -1,4 +1,4 @@
-//! Rays from a point within a part: the facet through which each leaves.
+//! Rays from a point inside a part, and the facet through which each leaves.
 use crate::cut::facets::Facets;
 use qh_mesh::FacetNo;
 use qh_model::Point;
@@ -7,7 +7,7 @@ use qh_places::Budget;
 /// The number of facets after which a walk is given up, and all facets are tested instead.
 const STEP_LIMIT: usize = 4_096;
 
-/// Four times the way from the middle of four points to another point.
+/// Four times the vector from the middle of four points to another point.
 #[derive(Clone, Copy, Drop)]
 struct Way {
     x: i64,
@@ -15,7 +15,7 @@ struct Way {
     z: i64,
 }
 
-/// Returns the component of a way to a coordinate, where four coordinates have this sum.
+/// Returns the component of the vector to a coordinate, given the sum of four coordinates.
 fn way_along(coordinate: i32, sum: i64) -> i64 {
     i64::from(coordinate).wrapping_mul(4).wrapping_sub(sum)
 }
@@ -31,7 +31,7 @@ fn minor(a: i64, d: i64, b: i64, c: i64) -> i128 {
 }
 
 impl Way {
-    /// Returns true if a way lies beyond the plane through this one and another, as seen from within: the three go
+    /// Returns true if `way` lies beyond the plane through `self` and `to`, as seen from inside: the three are
     /// clockwise.
     fn turns_back(self, to: Way, way: Way) -> bool {
         let x = minor(self.y, to.z, self.z, to.y).wrapping_mul(i128::from(way.x));
@@ -50,7 +50,7 @@ pub(crate) struct Rays<'a> {
 }
 
 impl<'a> Rays<'a> {
-    /// Returns the rays from the middle of four points, if there is a facet at all.
+    /// Returns the rays from the middle of four points, if there is a facet.
     pub fn from_middle(facets: Facets<'a>, four: [Point; 4]) -> Option<Rays<'a>> {
         let mut sum = Way { x: 0, y: 0, z: 0 };
         for point in four {
@@ -67,7 +67,7 @@ impl<'a> Rays<'a> {
         })
     }
 
-    /// Returns the way to a point.
+    /// Returns the vector to a point.
     fn way(&self, point: Point) -> Way {
         Way {
             x: way_along(point.x(), self.sum.x),
@@ -76,7 +76,7 @@ impl<'a> Rays<'a> {
         }
     }
 
-    /// Returns a side of a facet that a way lies beyond, if there is one.
+    /// Returns a side of a facet beyond which a ray lies, if there is one.
     fn side_beyond(&self, f: FacetNo, way: Way) -> Option<usize> {
         let [a, b, c] = self.facets.corners(f)?;
         let (a, b, c) = (self.way(a), self.way(b), self.way(c));
@@ -91,7 +91,7 @@ impl<'a> Rays<'a> {
         }
     }
 
-    /// Returns the facet through which a way leaves, sought among all.
+    /// Returns the facet through which a ray leaves, by a search among all facets.
     fn sought(&self, way: Way) -> Option<FacetNo> {
         for place in 0..self.facets.places() {
             let f = FacetNo::new(place);
@@ -102,8 +102,8 @@ impl<'a> Rays<'a> {
         None
     }
 
-    /// Walks from the last facet towards the one through which a way leaves. Returns true if it came there. The last facet
-    /// is then the one where the walk ended.
+    /// Walks from the last facet towards the one through which a ray leaves. Returns true if the walk reached it. The
+    /// last facet is then the one where the walk ended.
     fn walk(&mut self, way: Way, budget: &mut Budget) -> bool {
         for _ in 0..STEP_LIMIT {
             if !budget.spend(1) {
@@ -117,7 +117,7 @@ impl<'a> Rays<'a> {
         false
     }
 
-    /// Returns the facet through which the ray to a point leaves. Where the budget does not last, it is any facet.
+    /// Returns the facet through which the ray to a point leaves. If the budget is exhausted, any facet is returned.
     pub fn leaves(&mut self, point: Point, budget: &mut Budget) -> FacetNo {
         let way = self.way(point);
         let is_there = self.walk(way, budget);

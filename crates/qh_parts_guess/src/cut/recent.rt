@@ -1,4 +1,4 @@
-//! The facets that points were found to be above last: most points near them are above one of these, too.
+//! The facets below recent points: most nearby points are above one of these facets, too.
 use crate::blocks::Block;
 use crate::sights::Sight;
 use qh_mesh::FacetNo;
@@ -15,7 +15,7 @@ struct Seeing {
     sight: Sight,
 }
 
-/// A few facets that go, the last one first.
+/// A few removed facets, the most recent one first.
 #[derive(Drop)]
 pub(crate) struct Recent {
     seeing: Vec<Seeing>,
@@ -29,7 +29,7 @@ impl Recent {
         }
     }
 
-    /// Puts a facet first.
+    /// Inserts a facet at the front.
     pub fn put(&mut self, facet: FacetNo, sight: Sight) -> Result<(), AllocError> {
         self.seeing.truncate(KEPT - 1);
         self.seeing.insert(0, Seeing { facet, sight })?;
@@ -46,13 +46,13 @@ impl Recent {
         Some(facet)
     }
 
-    /// Returns a facet that a point is above.
+    /// Returns a facet that is below a point.
     pub fn under(&mut self, point: Point) -> Option<FacetNo> {
         let position = self.seeing.iter().position(|s| s.sight.sees(point))?;
         self.moved_up(position)
     }
 
-    /// Returns a facet that all points of a block are above.
+    /// Returns a facet that is below all points of a block.
     pub fn under_all(&mut self, block: &Block) -> Option<FacetNo> {
         let position = self.seeing.iter().position(|s| s.sight.sees_all(block))?;
         self.moved_up(position)

@@ -1,9 +1,9 @@
-//! Edges from id to id round polygons, as keys that can be sorted.
+//! Directed edges of polygons, as keys that can be sorted.
 use qh_model::keys::Packed;
 use qh_model::{Memory, Polygon};
 use std::alloc::{AllocError, Global};
 
-/// Adds the keys of the edges round a polygon.
+/// Appends the keys of the edges of a polygon.
 pub(crate) fn list_edges(polygon: &Polygon, edges: &mut Vec<Packed>) -> Result<(), AllocError> {
     for (from, to) in polygon.sides() {
         edges.push(Packed::new(from.number(), to.number()))?;
@@ -11,10 +11,10 @@ pub(crate) fn list_edges(polygon: &Polygon, edges: &mut Vec<Packed>) -> Result<(
     Ok(())
 }
 
-/// The border of the faces of a part that stay, by those that go.
+/// The border of the faces of a part that stay, given by the removed faces.
 #[derive(Drop)]
 pub struct Border {
-    /// The edges of faces that go, sorted.
+    /// The edges of removed faces, sorted.
     edges: Vec<Packed>,
     /// True if no face stays.
     is_empty: bool,
@@ -27,12 +27,12 @@ impl Border {
     }
 }
 
-/// Returns the border between the faces of a part that stay and those that go. `stay` has a mark for each facet that
-/// stays.
+/// Returns the border between the faces of a part that stay and those that are removed. `stay` has a mark for each
+/// facet, set if it stays.
 ///
 /// # Errors
 ///
-/// `Memory` where an allocation failed.
+/// `Memory` if an allocation failed.
 pub fn border_of(alloc: Global, stay: &[bool], go: &[Polygon]) -> Result<Border, Memory> {
     let mut edges = Vec::new(alloc);
     for polygon in go {
@@ -45,15 +45,14 @@ pub fn border_of(alloc: Global, stay: &[bool], go: &[Polygon]) -> Result<Border,
     })
 }
 
-/// Returns how often an edge stands in a sorted list.
+/// Returns how often an edge occurs in a sorted list.
 fn count_of(edges: &[Packed], edge: Packed) -> usize {
     let before = edges.partition_point(|other| *other < edge);
     let up_to = edges.partition_point(|other| *other <= edge);
     up_to.saturating_sub(before)
 }
 
-/// Returns the edges of a sorted list that stand there more often than the edge that runs the other way, as much as
-/// they do.
+/// Returns the edges of a sorted list that occur more often than their opposites, each as often as the excess.
 fn unmatched(alloc: Global, edges: &[Packed]) -> Result<Vec<Packed>, AllocError> {
     let mut open = Vec::new(alloc);
     let mut last = None;
@@ -72,8 +71,8 @@ fn unmatched(alloc: Global, edges: &[Packed]) -> Result<Vec<Packed>, AllocError>
     Ok(open)
 }
 
-/// Returns the sorted edges of faces that go, those that no other one takes the other way. Polygons that close the gap
-/// take them.
+/// Returns the sorted edges of removed faces that no other removed face has in the opposite direction. Polygons that
+/// close the gap have these edges.
 pub(crate) fn open_edges(alloc: Global, borders: &[Border]) -> Result<Vec<Packed>, AllocError> {
     let mut edges = Vec::new(alloc);
     for border in borders {

@@ -1,4 +1,4 @@
-//! Polygons of a hull that open edges lead to.
+//! The polygons of a hull that are reachable from open edges.
 ghost use Rattle.std.specs.Prelude.{IfOk};
 ghost use Rattle.qh_model.specs.contract.IdSets.{AreIndices};
 
@@ -9,7 +9,7 @@ use qh_model::{Id, Memory, Point, Polygon};
 use qh_polygon::rising_ids;
 use std::alloc::{AllocError, Global};
 
-/// The room of a position in a side's key: 2^64.
+/// The number of values of a position in a side's key: 2^64.
 const POSITION_ROOM: u128 = 18446744073709551616;
 
 /// The edges of polygons, sorted, each with the position of its polygon.
@@ -18,7 +18,7 @@ struct Sides {
     keys: Vec<u128>,
 }
 
-/// Returns an edge and the position of a polygon in one.
+/// Returns a key that combines an edge and the position of a polygon.
 fn side_key(edge: Packed, position: u64) -> u128 {
     u128::from(edge.high()) << 96 | u128::from(edge.low()) << 64 | u128::from(position)
 }
@@ -52,8 +52,8 @@ impl Sides {
     }
 }
 
-/// A hull that open edges are led to, with marks of its polygons that are taken, and their positions in the order
-/// in which they were.
+/// A hull to be flooded from open edges, with marks of its polygons that are taken, and their positions in the order in
+/// which they were taken.
 #[derive(Drop)]
 struct Flood<'a> {
     polygons: &'a [Polygon],
@@ -61,13 +61,13 @@ struct Flood<'a> {
     open: &'a [Packed],
     taken: Vec<bool>,
     order: Vec<usize>,
-    /// Edges that a polygon has to take.
+    /// Edges whose polygons have to be taken.
     wanted: Vec<Packed>,
 }
 
 impl Flood<'_> {
-    /// Takes the polygon at a position, if it is not taken yet: the edges against its own are wanted, unless its own
-    /// are open.
+    /// Takes the polygon at a position, unless it is taken already. The opposites of its edges become wanted, except
+    /// for edges that are open.
     fn take(&mut self, position: usize, edges: &mut Vec<Packed>) -> Result<(), AllocError> {
         let Some(taken) = self.taken.get_mut(position) else {
             return Ok(());
@@ -90,7 +90,7 @@ impl Flood<'_> {
         Ok(())
     }
 
-    /// Takes polygons until none is wanted. False where no polygon has an edge that is wanted.
+    /// Takes polygons until no edge is wanted. Returns false if no polygon has a wanted edge.
     fn run(&mut self, alloc: Global) -> Result<bool, AllocError> {
         let mut edges = Vec::new(alloc);
         let most = self.open.len().saturating_add(self.sides.keys.len());
@@ -107,8 +107,8 @@ impl Flood<'_> {
     }
 }
 
-/// Returns the positions of the polygons that the open edges lead to, mostly neighbours one after the other; none
-/// where they lead to an edge that no polygon has.
+/// Returns the positions of the polygons that are reachable from the open edges, in an order in which neighbours mostly
+/// follow each other; `None` if an edge is reached that no polygon has.
 fn reached(
     alloc: Global,
     polygons: &[Polygon],
@@ -139,7 +139,7 @@ pub(crate) fn indices_among(alloc: Global, pts: &[Point], ids: &[Id]) -> Result<
     Ok(indices)
 }
 
-/// Copies of the polygons at positions, in the order of these.
+/// Returns copies of the polygons at positions, in the order of the positions.
 fn polygons_at(
     alloc: Global,
     polygons: &[Polygon],
@@ -154,13 +154,14 @@ fn polygons_at(
     Ok(copies)
 }
 
-/// Returns the polygons that close the gap between borders, by the hull of the ids of the seam: all corners beside
-/// the gap. They begin at their least ids, and mostly neighbours follow each other. Returns `None` if the open edges lead to
-/// an edge that no polygon of that hull has. Where no border has a polygon, all polygons of that hull are taken.
+/// Returns the polygons that close the gap between borders, from the hull of the ids of the seam, which are all corners
+/// beside the gap. They begin at their least ids, and neighbours mostly follow each other. Returns `None` if the open
+/// edges lead to an edge that no polygon of that hull has. If no border has a polygon, all polygons of that hull are
+/// taken.
 ///
 /// # Errors
 ///
-/// `Memory` where an allocation failed.
+/// `Memory` if an allocation failed.
 pub fn bridge_over(
     alloc: Global,
     pts: &[Point],

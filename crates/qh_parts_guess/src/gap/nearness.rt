@@ -1,7 +1,7 @@
 //! The rule that decides whether planes of faces come near few points of a sample.
 //!
-//! To join parts, many planes are asked which points are near them, by blocks of these. Where a set is thin and slants, a
-//! block tells little of a plane, and most points are near each.
+//! Joining parts needs, for many planes, a search for the points near them, by blocks of points. If a set is thin and
+//! slanted, blocks exclude few points, and most points are near each plane.
 ghost use Rattle.qh_model.specs.contract.IdSets.{AreIndices};
 
 use qh_model::{Id, Memory, Point, Polygon};
@@ -9,11 +9,12 @@ use qh_places::{Outward, Places};
 use qh_pred::Plane;
 use std::alloc::{AllocError, Global};
 
-/// The number of faces whose planes are asked, spread over all.
+/// The number of faces whose planes are tested, spread over all faces.
 const ASKED: usize = 128;
 
-/// The least number of points of a sample of which a plane is near one, on the mean, where parts pay. Of 1,024 points of a
-/// sphere a plane is near a sixth, of an ellipsoid of the axes 9, 6 and 2 near a quarter, of a thin plate aslant near most.
+/// The least number of points of a sample for each point near a plane, on average, for parts to pay. Of 1,024 points of
+/// a sphere a plane is near a sixth, of an ellipsoid of the axes 9, 6 and 2 near a quarter, of a slanted thin plate
+/// near most.
 const NEAR_SHARE: usize = 3;
 
 /// The first three corners of a polygon.
@@ -25,7 +26,7 @@ struct Corners {
 }
 
 impl Corners {
-    /// Returns the first three corners of a polygon, if it has three and all are points.
+    /// Returns the first three corners of a polygon, if it has three and all are indices of points.
     fn of(pts: &[Point], polygon: &Polygon) -> Option<Corners> {
         let [i, j, k, ..] = polygon.ids() else {
             return None;
@@ -38,7 +39,7 @@ impl Corners {
     }
 }
 
-/// Returns for each id of a rising list which way is out there, by the polygons that begin with it.
+/// Returns the outward direction at each id of a rising list, by the polygons that begin with it.
 pub(crate) fn ways_out(
     alloc: Global,
     pts: &[Point],
@@ -58,12 +59,12 @@ pub(crate) fn ways_out(
     Ok(ways)
 }
 
-/// Returns true if the planes of faces come near few points of ids. `outward` has for each id a guess of which way is
-/// out. Near ids best stand near each other.
+/// Returns true if the planes of faces come near few points of ids. `outward` has a guess of the outward direction for
+/// each id. The search is faster if ids near each other in space are near each other in the list.
 ///
 /// # Errors
 ///
-/// `Memory` where an allocation failed.
+/// `Memory` if an allocation failed.
 pub(crate) fn come_near_few(
     alloc: Global,
     pts: &[Point],

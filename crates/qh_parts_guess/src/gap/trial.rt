@@ -1,8 +1,8 @@
-//! The rule that decides whether it pays to make parts of a set at all, by a sample of it.
+//! The rule that decides, by a sample, whether dividing a set into parts pays.
 //!
 //! The sample is cut into parts along a curve, as the set would be, and has one hull. The ends of the set are in each
-//! part. A corner is at a seam if a face there has corners in several parts. Large faces, and long ones, put most corners
-//! at seams. A thin set aslant has planes that come near most points (`nearness`).
+//! part. A corner is at a seam if a face there has corners in several parts. Large faces, and long ones, put most
+//! corners at seams. A slanted thin set has planes that come near most points (`nearness`).
 ghost use Rattle.qh_model.specs.contract.IdSets.{AreIndices};
 
 use crate::curve::Cell;
@@ -16,17 +16,17 @@ use qh_polygon::rising_ids;
 use qh_surface::starts::{Axes, ends_of};
 use std::alloc::{AllocError, Global};
 
-/// The most ids of a sample.
+/// The greatest number of ids in a sample.
 const SAMPLE: usize = 1_024;
 
-/// Ids of a set, rising, each with the number of its part. Those of each part have none.
+/// Ids of a set, rising, each with the number of its part. Ids that belong to every part have no number.
 #[derive(Drop)]
 struct Sample {
     ids: Vec<Id>,
     parts: Vec<Option<usize>>,
 }
 
-/// Returns a number below a limit, so that those of consecutive numbers have no rhythm. A limit of zero has 0.
+/// Returns a number below a limit, without regularity for consecutive arguments. For a limit of 0 it is 0.
 ///
 /// Source: Knuth 1998, 6.4 (multiplication by the golden section).
 fn scattered(number: usize, limit: usize) -> usize {
@@ -35,7 +35,7 @@ fn scattered(number: usize, limit: usize) -> usize {
     high.checked_rem(limit).unwrap_or(0)
 }
 
-/// Returns the ends of a set, and ids spread over all of it.
+/// Returns the ends of a set, and ids spread over the whole set.
 fn spread_with(alloc: Global, ids: &[Id], ends: &[Id; 6]) -> Result<Vec<Id>, AllocError> {
     let step = ids.len() / SAMPLE + 1;
     let mut spread = Vec::from_slice(alloc, ends)?;
@@ -50,7 +50,7 @@ fn spread_with(alloc: Global, ids: &[Id], ends: &[Id; 6]) -> Result<Vec<Id>, All
     Ok(spread)
 }
 
-/// Returns sorted keys of the ids that are no ends: the cell of the point, then the place of the id in the list.
+/// Returns sorted keys of the ids that are not ends: the cell of the point, then the position of the id in the list.
 fn keys_by_cell(
     alloc: Global,
     pts: &[Point],
@@ -103,7 +103,7 @@ fn are_planes_apart(
     come_near_few(alloc, pts, &ids, &outward, polygons)
 }
 
-/// Returns for each of `places` places the number of its part, where sorted keys are cut into `count` parts.
+/// Returns the number of the part for each of `places` positions, if sorted keys are cut into `count` parts.
 fn parts_of_places(
     alloc: Global,
     keys: &[Packed],
@@ -120,13 +120,13 @@ fn parts_of_places(
 }
 
 impl Sample {
-    /// Returns the place of an id.
+    /// Returns the position of an id.
     fn place(&self, id: Id) -> usize {
         self.ids
             .partition_point(|other| other.number() < id.number())
     }
 
-    /// Returns the number of an id's part, if it is in one alone.
+    /// Returns the number of an id's part, if the id belongs to one part only.
     fn part(&self, id: Id) -> Option<usize> {
         *self.parts.get(self.place(id))?
     }
@@ -165,12 +165,12 @@ impl Sample {
     }
 }
 
-/// Returns true if it seems to pay to take a set by `count` parts: of the corners of a sample at most five in
-/// eight are at seams, and the planes of its faces come near few of its points.
+/// Returns true if dividing a set into `count` parts is likely to pay: at most five in eight of the corners of a sample
+/// are at seams, and the planes of its faces come near few of its points.
 ///
 /// # Errors
 ///
-/// `Memory` where an allocation failed.
+/// `Memory` if an allocation failed.
 pub fn is_worth_parting(
     alloc: Global,
     pts: &[Point],

@@ -7,7 +7,7 @@ use Rattle.qh_laws.specs.contract.Parts.{AreKept, IsPartFace}
 use Rattle.qh_places.specs.declared.places.Places.{Places}
 use Rattle.qh_parts_join.specs.contract.Kept.{AreHeld}
 
--- the hull of each solid set of which parts with these corners contribute the given faces, where those close up with the faces that are gone
+-- the hull of each solid set whose parts have these corners and contribute the given faces, if those close up with the faces that are gone
 abbrev pub IsBodyOfJoined : List Vector → List Places → (shared : List ℕ) → (given gone : List (List ℕ)) → BodyValue → Type 0
 IsBodyOfJoined pts corners shared given gone b = (ids kept : List ℕ) → HasDistinctPoints (place pts) (Members ids)
     → IsDimension (place pts) (Members ids) 3 → AreKept (place pts) ids kept → AreHeld corners shared kept

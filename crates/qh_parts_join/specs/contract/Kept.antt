@@ -1,4 +1,4 @@
--- What is kept of a set in parts: what the places of each part hold, and the shared ids.
+-- The kept ids of a set in parts: the ids that the places of each part hold, and the shared ids.
 -- This project's own.
 use Rattle.std.specs.Prelude.{ℕ, ◌≡◌, ◌<◌, ◌⊎◌, ◌↔◌, List, length, map}
 use Rattle.std.specs.List.{flat_map}
@@ -14,11 +14,11 @@ places_of p = p.places
 abbrev pub held_in : Places → List ℕ
 held_in p = p.ids.items
 
--- they are indices, and the places have their points
+-- the ids that places hold are indices, and the places have their points
 pub record ArePlaced (pts : List Vector) (p : Places) : Type 0 where
   pub indices : (l : ℕ) → In l p.ids.items → l < length pts
   pub points : p.points.items ≡ map (place pts) p.ids.items
 
--- the kept ids are those that places hold, and the shared ids
+-- the kept ids are the ids that places hold, and the shared ids
 abbrev pub AreHeld : List Places → (shared kept : List ℕ) → Type 0
 AreHeld corners shared kept = (l : ℕ) → In l kept ↔ (In l (flat_map held_in corners) ⊎ In l shared)

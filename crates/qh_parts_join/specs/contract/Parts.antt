@@ -1,4 +1,4 @@
--- Parts of a set, as they are kept.
+-- Parts of a set, as the program stores them.
 -- This project's own.
 use Rattle.std.specs.Prelude.{ℕ, ◌⊎◌, ◌↔◌, ◌<◌, List, length}
 use Rattle.std.specs.List.{flat_map}
@@ -17,7 +17,7 @@ use Rattle.qh_parts_join.specs.declared.parts.Part.{Part}
 abbrev pub ids_in : Part → List ℕ
 ids_in p = p.ids.items
 
--- its corners that are not shared
+-- the corners of a part that are not shared
 abbrev pub own_in : Part → List ℕ
 own_in p = p.own.items
 
@@ -25,7 +25,7 @@ own_in p = p.own.items
 abbrev pub KeepsCorners : List Part → (shared kept : List ℕ) → Type 0
 KeepsCorners parts shared kept = (l : ℕ) → In l kept ↔ (In l (flat_map own_in parts) ⊎ In l shared)
 
--- rising ids, shared ones among them, with their finished mesh, whose corners are own or shared ids, the own ones by blocks
+-- rising ids that include the shared ones, with their finished mesh, whose corners are own or shared ids; the own ones are stored by blocks
 pub record IsPartOf (pts : List Vector) (shared : List ℕ) (p : Part) : Type 0 where
   pub indices : (l : ℕ) → In l p.ids.items → l < length pts
   pub rising : IsStrictlyIncreasing p.ids.items

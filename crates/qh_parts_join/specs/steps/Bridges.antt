@@ -1,4 +1,4 @@
--- Polygons that are faces of what is kept of a set.
+-- Polygons that are faces of the kept ids of a set.
 -- This project's own.
 use Rattle.std.specs.Prelude.{ℕ, List}
 use Rattle.qh_model.specs.headline.{Vector.Vector, Predicates.place, Sets.Members}
@@ -7,11 +7,11 @@ use Rattle.qh_places.specs.declared.places.Places.{Places}
 use Rattle.qh_parts_join.specs.declared.join.near_parts.NearPart.{NearPart}
 use Rattle.qh_parts_join.specs.contract.Kept.{AreHeld}
 
--- the places that planes are near
+-- the places near planes
 abbrev pub places_in : NearPart → Places
 places_in n = n.places.now
 
--- q is a face of what is kept
+-- q is a face of the kept ids
 abbrev pub IsBridge : List Vector → List Places → (shared q : List ℕ) → Type 0
 IsBridge pts corners shared q = (kept : List ℕ) → AreHeld corners shared kept → HasDistinctPoints (place pts) (Members kept)
     → IsFace (place pts) (Members kept) q

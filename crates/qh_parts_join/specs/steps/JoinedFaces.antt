@@ -5,7 +5,7 @@ use Rattle.qh_model.specs.headline.{Vector.Vector, Dimension.IsDimension, Hull.B
 use Rattle.qh_model.specs.contract.{ClosedPolygons.AreClosed, ClosedPolygons.IsFace, IdSets.HasDistinctPoints}
 use Rattle.qh_laws.specs.contract.Parts.{AreKept, IsPartFace}
 
--- the hull of each solid set of which parts contribute a face, or what is kept has it, and so for all of them, which close up
+-- the hull of each solid set, if the faces close up and each is contributed by a part or is a face of the kept ids
 abbrev pub IsBodyOfFaces : List (List ℕ) → BodyValue → Type 0
 IsBodyOfFaces faces b = (at : ℕ → Vector) (ids kept : List ℕ) → HasDistinctPoints at (Members ids)
     → IsDimension at (Members ids) 3 → AreKept at ids kept → AreClosed faces

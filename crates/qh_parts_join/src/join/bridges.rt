@@ -1,7 +1,8 @@
-//! Polygons that close the gap between the faces of parts: whether each is a face of what is kept of all parts.
+//! Polygons that close the gap between the faces of parts, and the check that each is a face of the kept ids of all
+//! parts.
 //!
-//! A plane is tested against the own corners of each part by their blocks. The planes of polygons that follow each
-//! other are tested together.
+//! A plane is tested against the own corners of each part by their blocks. The planes of consecutive polygons are
+//! tested together.
 ghost use Rattle.std.specs.Prelude.{◌≡◌, ◌++◌, ◌<◌, ◌↔◌, ℕ, List, IfOk, IfSome, IsTrue, Ok, length, map, pos, true};
 ghost use Rattle.std.specs.List.{All, flat_map};
 ghost use Rattle.std.specs.List.Sorted.{IsStrictlyIncreasing};
@@ -26,13 +27,13 @@ use std::thread::Threads;
 /// The number of polygons whose planes are tested together.
 const GROUP: usize = 4;
 
-/// The number of blocks and points that are looked at for each own corner of the parts, to see that the bridges of a piece are
-/// faces: the bridges are cut into pieces, four for each thread. Where that is too few, the bridges are refused. A piece of a round
-/// set looks at 15 at most; the hull by one thread takes as long as 400.
+/// The budget of blocks and points to test, for each own corner of the parts, when the bridges of a piece are shown to
+/// be faces. The bridges are cut into pieces, four for each thread. If the budget runs out, the bridges are refused. A
+/// piece of a round set tests 15 at most; the hull by one thread takes as long as 400.
 const LOOKED_FOR_EACH: u32 = 24;
 
-/// Returns for each part the positions that some planes have to look at, which best slant alike, and best pass near
-/// a point.
+/// Returns for each part the positions to test against some planes. It is faster if the planes have similar slants and
+/// pass near one point.
 fn nears_of<'a>(
     alloc: Global,
     corners: &'a [Places],
@@ -49,8 +50,8 @@ fn nears_of<'a>(
     Ok(nears)
 }
 
-/// Lists in `level` the own corners of all parts whose points lie in a plane. False where one is above it.
-/// `room` is for those of one part.
+/// Appends to `level` the own corners of all parts whose points lie in a plane. Returns false if a corner is above it.
+/// `room` is scratch for the corners of one part.
 fn list_own(
     plane: &Plane,
     nears: &[NearPart],
@@ -78,7 +79,7 @@ fn is_on(plane: &Plane, point: Point) -> bool
     plane.height(point) == 0
 }
 
-/// Lists in `level` those of some ids whose points lie in a plane. False where one is above it.
+/// Appends to `level` those of some ids whose points lie in a plane. Returns false if one is above it.
 fn list_ids(
     pts: &[Point],
     plane: &Plane,
@@ -101,8 +102,7 @@ fn list_ids(
     Ok(true)
 }
 
-/// Returns the ids of what is kept of all parts that lie in a plane, rising, if none is above it. `nears` has
-/// each part.
+/// Returns the kept ids of all parts that lie in a plane, rising, if no kept id is above it. `nears` has each part.
 fn level_of(
     alloc: Global,
     kept: Kept,
@@ -128,8 +128,7 @@ fn level_of(
     Ok(Some(rising))
 }
 
-/// Returns true if a polygon that begins with three ids is a face of what is kept of all parts. `nears` has each
-/// part.
+/// Returns true if a polygon that begins with three ids is a face of the kept ids of all parts. `nears` has each part.
 fn is_face_at(
     alloc: Global,
     kept: Kept,
@@ -162,7 +161,7 @@ fn is_face_at(
     Ok(face.ids() == claimed.ids())
 }
 
-/// Returns true if a polygon is a face of what is kept of all parts. `nears` has each part.
+/// Returns true if a polygon is a face of the kept ids of all parts. `nears` has each part.
 fn is_face(alloc: Global, kept: Kept, nears: &[NearPart], claimed: &Polygon) -> Result<bool, Memory>
     requires { map places_in nears.now ≡ kept.corners.now }
     ensures { IfOk result (λ yes. IsTrue yes → IsBridge kept.entry.pts.now kept.entry.corners.now kept.entry.shared.now claimed.now) }
@@ -182,7 +181,7 @@ fn is_face(alloc: Global, kept: Kept, nears: &[NearPart], claimed: &Polygon) -> 
     is_face_at(alloc, kept, nears, three, claimed)
 }
 
-/// Returns the planes of polygons, as far as these have three corners that are points.
+/// Returns the planes of those polygons whose first three corners are indices of points.
 fn planes_of(alloc: Global, pts: &[Point], polygons: &[Polygon]) -> Result<Vec<Plane>, AllocError> {
     let mut planes = Vec::with_capacity(alloc, polygons.len())?;
     for claimed in polygons {
@@ -196,7 +195,7 @@ fn planes_of(alloc: Global, pts: &[Point], polygons: &[Polygon]) -> Result<Vec<P
     Ok(planes)
 }
 
-/// Returns the first corner of the first polygon, or another point.
+/// Returns the point of the first corner of the first polygon, or another point.
 fn origin_of(pts: &[Point], polygons: &[Polygon]) -> Point {
     let none = Point::new(0, 0, 0);
     let Some(claimed) = polygons.first() else {
@@ -211,8 +210,8 @@ fn origin_of(pts: &[Point], polygons: &[Polygon]) -> Point {
     }
 }
 
-/// Returns true if each of some polygons, whose planes best slant alike, is a face of what is kept of all parts. Returns
-/// false, too, where the budget does not last.
+/// Returns true if each of some polygons is a face of the kept ids of all parts. It is faster if their planes have
+/// similar slants. Returns false, too, if the budget runs out.
 fn is_group(
     alloc: Global,
     kept: Kept,
@@ -237,8 +236,8 @@ fn is_group(
     Ok(true)
 }
 
-/// Returns true if each of some polygons is a face of what is kept of all parts. Near ones best follow each other. Returns
-/// false, too, where too much would have to be looked at.
+/// Returns true if each of some polygons is a face of the kept ids of all parts. It is faster if near polygons follow
+/// each other. Returns false, too, if the budget runs out.
 fn are_faces(alloc: Global, kept: Kept, polygons: &[Polygon]) -> Result<bool, Memory>
     ensures { IfOk result (λ yes. IsTrue yes → All
         (IsBridge kept.entry.pts.now kept.entry.corners.now kept.entry.shared.now) polygons.now) }
@@ -269,8 +268,8 @@ fn are_all(answers: &[Result<bool, Memory>]) -> Result<bool, Memory>
     Ok(true)
 }
 
-/// Returns true if each of some polygons is a face of what is kept of a set, by a number of threads. No `workers`
-/// means one.
+/// Returns true if each of some polygons is a face of the kept ids of a set, by a number of threads. `workers` of 0
+/// counts as one.
 pub(crate) fn are_bridges<R: Threads>(
     rt: &R,
     alloc: Global,

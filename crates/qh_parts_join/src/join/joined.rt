@@ -1,4 +1,4 @@
-//! Faces of parts, and polygons that close the gap between them: the hull of the set.
+//! The hull of a set from faces of its parts and polygons that close the gap between them.
 ghost use Rattle.std.specs.Prelude.{◌≡◌, ◌↔◌, ◌++◌, IfOk, IfSome, IsPermutation, IsTrue};
 ghost use Rattle.std.specs.List.{All};
 ghost use Rattle.qh_model.specs.headline.Polygons.{RiseStrictly};
@@ -21,8 +21,8 @@ fn are_in_order(polygons: &[Polygon]) -> bool
     out_of_order(polygons).is_none()
 }
 
-/// Returns true if bridges have the border of the faces that are gone, and each is a face of what is kept of a set. With two
-/// workers or more one of them looks at the border, and the others at the bridges.
+/// Returns true if bridges have the border of the faces that are gone, and each is a face of the kept ids of a set.
+/// With two or more workers, one of them checks the border, and the others check the bridges.
 fn close_gap<R: Threads>(
     rt: &R,
     alloc: Global,
@@ -80,8 +80,9 @@ fn with_bridges(
 
 /// Returns the hull of a set from faces, if there is one and no two are the same.
 ///
-/// The caller promises that the faces close up, and that each is the polygon of a facet that stays in a part and has a
-/// clear plane, or a face of the kept ids. So they are all faces of the set (`qh_laws::seam::joined_faces_are_hull`).
+/// The caller ensures that the faces close up, and that each is either the polygon of a facet that stays in a part and
+/// has a clear plane, or a face of the kept ids. So they are all faces of the set
+/// (`qh_laws::seam::joined_faces_are_hull`).
 fn body_of_joined(alloc: Global, faces: UnsortedFaces) -> Result<Option<Body>, Memory>
     ensures { IfOk result (λ found. IfSome found (IsBodyOfFaces faces)) }
 {
@@ -96,16 +97,17 @@ fn body_of_joined(alloc: Global, faces: UnsortedFaces) -> Result<Option<Body>, M
     Ok(Some(body_of_faces(polygons, tally)))
 }
 
-/// Returns the hull of a set from faces that its parts contribute and polygons that close the gap between them; `None` if
-/// one of the latter is no face of what is kept of the set, they do not have the border of the faces that are gone, or two
-/// faces are the same. One worker makes the hull while the others ask about the bridges.
+/// Returns the hull of a set from faces that its parts contribute and polygons that close the gap between them. Returns
+/// `None` if one of these polygons is no face of the kept ids of the set, if they do not have the border of the faces
+/// that are gone, or if two faces are the same. One worker makes the hull while the others check the bridges.
 ///
-/// The caller promises what `given` is, that it closes up with the faces that are `gone`, and that the set is solid;
-/// `bridges` may be any polygons. No `workers` means one, and then a second thread runs.
+/// The caller ensures that `given` has the faces stated above, that `given` and the faces that are `gone` together
+/// close up, and that the set is solid; `bridges` may be any polygons. `workers` of 0 counts as one, and then a second
+/// thread runs.
 ///
 /// # Errors
 ///
-/// `Memory` where an allocation failed.
+/// `Memory` if an allocation failed.
 pub fn join_faces<R: Threads>(
     rt: &R,
     alloc: Global,

@@ -1,4 +1,4 @@
-//! What is kept of a set in parts: the own corners of each part, and the ids that all parts share.
+//! The kept ids of a set in parts: the own corners of each part, and the ids that all parts share.
 ghost use Rattle.std.specs.Prelude.{◌≡◌, IfOk, map};
 ghost use Rattle.std.specs.List.{All};
 ghost use Rattle.qh_model.specs.contract.IdSets.{AreIndices};
@@ -9,8 +9,7 @@ use qh_model::{Id, Point};
 use qh_places::Places;
 use std::alloc::{AllocError, Global};
 
-/// The points of a set, and the ids that are kept of it: the own corners of each of its parts, by blocks, and the
-/// shared ids.
+/// The points of a set, and its kept ids: the own corners of each of its parts, by blocks, and the shared ids.
 #[derive(Clone, Copy, Drop)]
 pub struct Kept<'a> {
     /// All points of the set, by id.
@@ -38,7 +37,7 @@ impl Kept<'_> {
 ///
 /// # Errors
 ///
-/// `AllocError` where an allocation failed.
+/// `AllocError` if an allocation failed.
 pub fn corners_of(alloc: Global, mut parts: Vec<Part>) -> Result<Vec<Places>, AllocError>
     ensures { IfOk result (λ v. v.items ≡ map places_of parts.items) }
 {

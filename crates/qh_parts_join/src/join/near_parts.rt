@@ -1,9 +1,9 @@
-//! Parts of which planes ask few corners.
+//! Parts with few corners to test against some planes.
 ghost use Rattle.qh_places.specs.contract.Near.{IsNear};
 
 use qh_places::{Near, Places};
 
-/// The own corners of a part, with the positions that some planes have to look at.
+/// The own corners of a part, with the positions to test against some planes.
 #[derive(Drop)]
 pub(crate) struct NearPart<'a> {
     pub places: &'a Places,
@@ -11,7 +11,7 @@ pub(crate) struct NearPart<'a> {
     ghost found: { IsNear places.now.points.items near },
 }
 
-/// Returns about how many blocks and points `planes` planes look at in parts.
+/// Returns an estimate of how many blocks and points of the parts are tested against `planes` planes.
 pub(crate) fn cost_of(nears: &[NearPart], planes: usize) -> usize {
     let mut cost = 0usize;
     for part in nears {

@@ -12,11 +12,11 @@ pub record IsInSpans (b : Bundle) (n : Vector) : Type 0 where
   pub y : IsBetween b.y.low n.y b.y.high
   pub z : IsBetween b.z.low n.z b.z.high
 
--- a vector taken some times
+-- a multiple of a vector
 abbrev pub taken : Vector → ℤ → Vector
 taken n k = record { x = n.x *ℤ k; y = n.y *ℤ k; z = n.z *ℤ k }
 
--- the plane, taken some times, has its normal within the spans, and the origin lies so deep below it
+-- a multiple of the plane has its normal within the spans, and the origin is at this depth below it
 pub record IsOfBundle (b : Bundle) (plane : PlaneValue) : Type 0 where
   pub times : ℤ
   pub some : pos 0 <ℤ times

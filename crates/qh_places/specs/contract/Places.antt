@@ -1,4 +1,4 @@
--- The ids of a set in some order with their points, and what a plane finds among them.
+-- The ids of a set in some order with their points, and the ids that a plane finds among them.
 use Rattle.std.specs.Prelude.{ℕ, ◌≡◌, ◌↔◌, List, map, pos, ◌≤ℤ◌, ◌<ℤ◌}
 use Rattle.qh_model.specs.headline.Vector.{Vector}
 use Rattle.qh_model.specs.headline.Predicates.{place}
@@ -6,7 +6,7 @@ use Rattle.qh_model.specs.headline.Sets.{In}
 use Rattle.qh_pred.specs.contract.Planes.{PlaneValue, height}
 use Rattle.qh_places.specs.declared.places.Places.{Places}
 
--- the places hold just these ids, with their points
+-- the places have exactly these ids, with their points
 pub record ArePlaces (pts : List Vector) (ids : List ℕ) (p : Places) : Type 0 where
   pub same : (l : ℕ) → In l p.ids.items ↔ In l ids
   pub points : p.points.items ≡ map (place pts) p.ids.items

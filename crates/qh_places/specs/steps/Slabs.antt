@@ -18,6 +18,6 @@ pub record IsInBlock (b : Block) (p : Vector) : Type 0 where
   pub within : IsWithin b.bounds p
   pub low : dot (vector_of b.along) p ≤ℤ b.reach
 
--- the points from one position to another are in the block
+-- the points in a range of positions are in the block
 abbrev pub IsBlockOf : List Vector → ℕ → ℕ → Block → Type 0
 IsBlockOf points from to b = (k : ℕ) → from ≤ k → k < to → k < length points → IsInBlock b (slice_index_or points k origin)

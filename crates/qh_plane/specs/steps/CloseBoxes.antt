@@ -1,10 +1,10 @@
--- Slots for the places of a small box or of a line. Only private functions speak of them.
+-- Slots for the places of a small box or of a line. Only private functions cite them.
 use Rattle.std.specs.Prelude.{ℕ, ◌+◌, ◌-◌, ◌*◌, ◌%◌, ◌^◌}
 use Rattle.qh_model.specs.headline.Vector.{Vector}
 use Rattle.qh_plane.specs.declared.close_points.CloseBox.{CloseBox}
 use Rattle.qh_polygon.specs.contract.PlaceNumbers.{biased}
 
--- the slot of a point: of numbers of 64 bits, whatever the box
+-- the slot of a point, computed with numbers of 64 bits for any box
 abbrev pub slot_of : CloseBox → Vector → ℕ
 slot_of b p =
     (((biased p.x - b.x) * b.x_factor % 2 ^ 64 + (biased p.y - b.y) * b.y_factor % 2 ^ 64) % 2 ^ 64

@@ -1,4 +1,4 @@
--- The first points that come to slots. Only private functions speak of them.
+-- The first points in slots. Only private functions cite them.
 use Rattle.std.specs.Prelude.{ℕ, ◌≡◌, ◌+◌, ◌<◌, ◌⊎◌, ◌↔◌, List, Option, Result, Vec, IfOk, IfSome, length, slice_index_or}
 use Rattle.std.specs.List.{All}
 use Rattle.std.specs.List.Sorted.{IsStrictlyIncreasing}
@@ -14,11 +14,11 @@ use Rattle.qh_plane.specs.steps.CloseBoxes.{slot_of}
 use Rattle.qh_plane.specs.steps.Pieces.{end_of}
 use Rattle.qh_plane.specs.steps.Repeats.{IsRepeatedId}
 
--- what stands in a slot
+-- the content of a slot
 abbrev pub slot_at : List ℕ → ℕ → ℕ
 slot_at slots s = slice_index_or slots s NO_ID
 
--- the slot of a point has the id of an equal point, one of the first k
+-- the slot of a point has the id of an equal point among the first k
 pub record HasFirst (pts : List Vector) (b : CloseBox) (slots : List ℕ) (k : ℕ) (p : Vector) : Type 0 where
   pub first : ℕ
   pub seen : first < k
@@ -32,17 +32,17 @@ pub record HaveFirsts (pts : List Vector) (b : CloseBox) (slots : List ℕ) (k :
   pub rising : IsStrictlyIncreasing ids
   pub members : (i : ℕ) → In i ids ↔ (IsDistinctId pts i × (i < k))
 
--- the first k points were looked at
+-- the first k points were processed
 abbrev pub AreSeen : List Vector → FirstIds → ℕ → Type 0
 AreSeen pts f k = HaveFirsts pts f.close f.slots.items k f.ids.items
 
--- the points that are the first of their places in the piece from one id on and before another, counted from its beginning
+-- the points that are the first of their places in the piece with a half-open range of ids, by their positions in the piece
 pub record AreFirstIds (pts : List Vector) (begin end : ℕ) (firsts : List ℕ) : Type 0 where
   pub rising : IsStrictlyIncreasing firsts
   pub below : All (λ i. begin + i < end) firsts
   pub others : (i : ℕ) → begin + i < end → In i firsts ⊎ IsRepeatedId pts (begin + i)
 
--- what was found in pieces of one size, in order, unless memory ran out or a piece does not tell its distinct ids
+-- the results for pieces of one size, in order, unless an allocation failed or the distinct ids of a piece were not found
 abbrev pub ArePieces : List Vector → ℕ → List (Result (Option (Vec ℕ Global)) AllocError) → Type 0
 ArePieces pts size found =
     (n : ℕ) (d : Result (Option (Vec ℕ Global)) AllocError) → n < length found

@@ -1,14 +1,14 @@
--- Points in the order of their places, or against it. Only private functions speak of it.
+-- Points in the order of their places, or in reverse. Only private functions cite it.
 use Rattle.std.specs.Prelude.{ℕ, ◌≢◌, ◌+◌, ◌<◌, List, length}
 use Rattle.qh_model.specs.headline.Predicates.{place}
 use Rattle.qh_model.specs.headline.Vector.{Vector}
 use Rattle.qh_plane.specs.steps.HashedKeys.{place_number}
 
--- the number of each place is above that of the one before
+-- the number of each place is above that of the place before
 abbrev pub NumbersRise : List Vector → Type 0
 NumbersRise pts = (j : ℕ) → j + 1 < length pts → place_number (place pts j) < place_number (place pts (j + 1))
 
--- or below
+-- the number of each place is below that of the place before
 abbrev pub NumbersFall : List Vector → Type 0
 NumbersFall pts = (j : ℕ) → j + 1 < length pts → place_number (place pts (j + 1)) < place_number (place pts j)
 

@@ -1,4 +1,4 @@
--- The chain of a rising list: its edges have all that was passed on their left, and it turns left at each corner.
+-- The chain of a rising list: its edges have all processed ids on their left, and it turns left at each corner.
 use Rattle.std.proofs.Common.{◌≡◌, ℕ, refl, List, [], ◌∷◌, arith, ap, sym, subst, ◌⊎◌, inl, inr, true, false, cond}
 use Rattle.std.proofs.lemmas.Int.{ints, by_lt_z}
 use Rattle.std.specs.{Cmp.int_ranks, Ordering.MatchOrdering, Ordering.is_gt, Prelude.ℤ, Prelude.pos, Prelude.◌≤ℤ◌, Prelude.◌<ℤ◌, Prelude.◌↔◌}
@@ -9,7 +9,7 @@ use Rattle.qh_pred.specs.contract.Turns.{sign}
 use Rattle.qh_polygon.specs.steps.Chains.{is_left, kept_below, chain}
 use Rattle.qh_polygon.proofs.polygons.TurnLaws.{RisesBy, TurnLaws, TurnsAt, HasOnLeft, IsChain, Added, chain_top}
 
--- what the pops leave
+-- the property that pops preserve
 abbrev IsCapped : (ℕ → ℕ → ℕ → ℤ) → (ℕ → ℤ) → (ℕ → Type 0) → ℕ → ℕ → Type 0
 IsCapped turn key D y t = (x : ℕ) → D x → key t <ℤ key x → pos 0 ≤ℤ turn t y x
 
@@ -18,12 +18,12 @@ pub is_left-yes : (z : ℤ) → is_left z ≡ true → pos 0 <ℤ z
 is_left-yes z e = elim (sign z) as (λ r. MatchOrdering r (z <ℤ pos 0) (z ≡ pos 0) (pos 0 <ℤ z) → is_gt r ≡ true → pos 0 <ℤ z)
     [ Less ↦ λ k e. cc | Equal ↦ λ k e. cc | Greater ↦ λ k e. k ] (int_ranks z (pos 0)) e
 
--- another is not
+-- any other turn is not
 pub is_left-no : (z : ℤ) → is_left z ≡ false → z ≤ℤ pos 0
 is_left-no z e = elim (sign z) as (λ r. MatchOrdering r (z <ℤ pos 0) (z ≡ pos 0) (pos 0 <ℤ z) → is_gt r ≡ false → z ≤ℤ pos 0)
     [ Less ↦ λ k e. less_le z (pos 0) k | Equal ↦ λ k e. equal_le z (pos 0) k | Greater ↦ λ k e. cc ] (int_ranks z (pos 0)) e
 
--- a stack that its tops may leave
+-- a stack that may remain after pops
 record Top (turn : ℕ → ℕ → ℕ → ℤ) (key : ℕ → ℤ) (D : ℕ → Type 0) (y : ℕ) (s : List ℕ) : Type 0 where
   top : ℕ
   rest : List ℕ
@@ -32,7 +32,7 @@ record Top (turn : ℕ → ℕ → ℕ → ℤ) (key : ℕ → ℤ) (D : ℕ →
   capped : IsCapped turn key D y top
   sharp : TurnsAt turn y top rest
 
--- what a chain comes to
+-- the result of a chain
 pub record IsChained (turn : ℕ → ℕ → ℕ → ℤ) (key : ℕ → ℤ) (D : ℕ → Type 0) (s : List ℕ) : Type 0 where
   pub top : ℕ
   pub rest : List ℕ
@@ -41,9 +41,9 @@ pub record IsChained (turn : ℕ → ℕ → ℕ → ℤ) (key : ℕ → ℤ) (D
   pub greatest : (x : ℕ) → D x → key x ≤ℤ key top
 
 module _ (turn : ℕ → ℕ → ℕ → ℤ) (key : ℕ → ℤ) (A : ℕ → Type 0) (turn_laws : TurnLaws turn key A) where
-  -- y comes after all that was passed
+  -- y comes after all processed ids
   module _ (D : ℕ → Type 0) (in_a : (x : ℕ) → D x → A x) (y : ℕ) (ay : A y) (below : (x : ℕ) → D x → key x <ℤ key y) where
-    -- the pops end at a top over which the way turns left; each leaves the cap over what it was an end of
+    -- the pops end at a top over which the path turns left; each leaves the cap over the edge that it ended
     pops : (t : ℕ) (s : List ℕ) → IsChain turn key D t s → IsCapped turn key D y t → Top turn key D y (kept_below turn y t s)
     pops t [] g c = record { top = t; rest = []; is = refl; good = g; capped = c; sharp = tt }
     pops t (r ∷ s) g c = let dr = chain_top turn key D r s g.4 in
@@ -57,24 +57,24 @@ module _ (turn : ℕ → ℕ → ℕ → ℤ) (key : ℕ → ℤ) (A : ℕ → T
     edge-more r t edge lt x (inl e) = subst (λ v. pos 0 ≤ℤ turn r t v) (sym e) (positive_le _ lt)
     edge-more r t edge lt x (inr d) = edge x d
 
-    -- where the way turns left over a top, it does so over each one below
+    -- if the path turns left over a top, it does so over each one below
     sharp-down : (t r : ℕ) (s : List ℕ) → D t → key r <ℤ key t → TurnsAt turn t r s → IsChain turn key D r s → pos 0 <ℤ turn r t y → TurnsAt turn y r s
     sharp-down t r [] dt lt sh g h = tt
     sharp-down t r (q ∷ s) dt lt sh g h =
         turn_laws.onward q r t y (in_a q (chain_top turn key D q s g.4)) (in_a r g.0) (in_a t dt) ay g.1 lt (below r g.0) sh (positive_le _ h)
 
-    -- the chain has y on its left too
+    -- the chain has y on its left, too
     lift : (t : ℕ) (s : List ℕ) → IsChain turn key D t s → TurnsAt turn y t s → IsChain turn key (Added D y) t s
     lift t [] g sh = (inr g.0, λ x. elim [ inl e ↦ subst (λ v. key t ≤ℤ key v) (sym e) (less_le (key t) (key y) (below t g.0)) | inr d ↦ g.1 x d ])
     lift t (r ∷ s) g sh = (inr g.0, g.1, edge-more r t g.2 sh, g.3, lift r s g.4 (sharp-down t r s g.0 g.1 g.3 g.4 sh))
 
-    -- the new edge has on its left all that was passed
+    -- the new edge has all ids passed before on its left
     behind-edge : (t : ℕ) (s : List ℕ) → IsChain turn key D t s → TurnsAt turn y t s → (x : ℕ) → D x → key x <ℤ key t → pos 0 ≤ℤ turn t y x
     behind-edge t [] g sh x d h = absurd (not_less (key x) (key t) h (g.1 x d))
     behind-edge t (r ∷ s) g sh x d h =
         turn_laws.behind r t x y (in_a r (chain_top turn key D r s g.4)) (in_a t g.0) (in_a x d) ay h g.1 (below t g.0) (g.2 x d) (positive_le _ sh)
 
-    -- the new edge has all that was passed on its left
+    -- the new edge has all processed ids on its left
     new-edge : (t : ℕ) (s : List ℕ) → IsChain turn key D t s → IsCapped turn key D y t → TurnsAt turn y t s → HasOnLeft turn (Added D y) t y
     new-edge t s g c sh x (inl e) = subst (λ v. pos 0 ≤ℤ turn t y v) (sym e) (omega (arith, ints, turn_laws.there t y))
     new-edge t s g c sh x (inr d) =
@@ -82,7 +82,7 @@ module _ (turn : ℕ → ℕ → ℕ → ℤ) (key : ℕ → ℤ) (A : ℕ → T
         (λ m. let e = turn_laws.same x t (in_a x d) (in_a t (chain_top turn key D t s g)) (le_antisym (key x) (key t) m k) in
         subst (λ v. pos 0 ≤ℤ turn t y v) (sym e) (omega (arith, ints, turn_laws.back t y))))
 
-    -- the next id on the stack makes a chain over one more
+    -- the next id on the stack makes a chain for one more id
     pushes : (s : List ℕ) → (p : Top turn key D y s) → IsChain turn key (Added D y) y s
     pushes s p =
         subst (λ v. IsChain turn key (Added D y) y v) (sym p.is) (
@@ -93,12 +93,12 @@ module _ (turn : ℕ → ℕ → ℕ → ℤ) (key : ℕ → ℤ) (A : ℕ → T
           lift p.top p.rest p.good p.sharp,
         )
 
-  -- a chain over what was passed is one over the same members told otherwise
+  -- a chain for the processed ids is a chain for any set with the same members
   retold : (D : ℕ → Type 0) → ((x : ℕ) → D x → A x) → ((x : ℕ) → A x → D x) → (t : ℕ) (s : List ℕ) → IsChain turn key D t s → IsChain turn key A t s
   retold D f g t [] k = (f t k.0, λ x e. k.1 x (g x e))
   retold D f g t (r ∷ s) k = (f t k.0, k.1, λ x e. k.2 x (g x e), k.3, retold D f g r s k.4)
 
-  -- the stack stays a chain over what was passed, until all members are
+  -- the stack stays a chain for the processed ids, until these are all members
   chains : (D : ℕ → Type 0) (t : ℕ) (s xs : List ℕ) → ((x : ℕ) → D x → A x) → ((x : ℕ) → In x xs → A x) → ((x : ℕ) → A x → In x xs ⊎ D x)
       → IsChain turn key D t s → ((x : ℕ) → D x → key x ≤ℤ key t) → RisesBy key t xs → IsChained turn key A (chain turn (t ∷ s) xs)
   chains D t s [] in_a xs_a all g le r =

@@ -1,4 +1,4 @@
--- What a chain says of its members, and of what lies under its edges.
+-- The members of a chain, and the ids under its edges.
 use Rattle.std.proofs.Common.{◌≡◌, ℕ, refl, List, [], ◌∷◌, arith, sym, subst, ◌⊎◌, inl, inr}
 use Rattle.std.proofs.lemmas.Int.{ints, by_lt_z}
 use Rattle.std.specs.Prelude.{ℤ, pos, ◌≤ℤ◌, ◌<ℤ◌}
@@ -6,7 +6,7 @@ use Rattle.qh_model.specs.headline.Sets.{In, Once}
 use Rattle.qh_model.proofs.algebra.{Order.le_antisym, Signs.less_differ, Signs.not_less}
 use Rattle.qh_polygon.proofs.polygons.{Cycles.bottom, TurnLaws.HasOnLeft, TurnLaws.IsChain, TurnLaws.chain_top}
 
--- ---- what a stack says of its members
+-- ---- the members of a stack
 module _ (turn : ℕ → ℕ → ℕ → ℤ) (key : ℕ → ℤ) (A : ℕ → Type 0) where
   -- no member has a lower key
   abbrev pub Least : ℕ → Type 0
@@ -41,7 +41,7 @@ module _ (turn : ℕ → ℕ → ℕ → ℤ) (key : ℕ → ℤ) (A : ℕ → T
     pub after : key e <ℤ key v
     pub edge : HasOnLeft turn A u v
 
-  -- the members of a chain were passed
+  -- the members of a chain were processed
   pub chain-in : (t : ℕ) (s : List ℕ) → IsChain turn key A t s → (v : ℕ) → In v (t ∷ s) → A v
   chain-in t s g v (inl e) = subst A (sym e) (chain_top turn key A t s g)
   chain-in t [] g v (inr i) = absurd i
@@ -53,24 +53,24 @@ module _ (turn : ℕ → ℕ → ℕ → ℤ) (key : ℕ → ℤ) (A : ℕ → T
   chain-below t (r ∷ s) g v (inl e) = subst (λ x. key x <ℤ key t) (sym e) g.1
   chain-below t (r ∷ s) g v (inr i) = let l = chain-below r s g.4 v i in let k = g.1 in omega (arith, ints)
 
-  -- each stands once
+  -- each occurs once
   pub chain-once : (t : ℕ) (s : List ℕ) → IsChain turn key A t s → Once (t ∷ s)
   chain-once t [] g = (λ i. i, tt)
   chain-once t (r ∷ s) g = (λ i. less_differ _ _ (chain-below t (r ∷ s) g t i) refl, chain-once r s g.4)
 
-  -- the last is least
+  -- the last is the least
   pub chain-bottom : (t : ℕ) (s : List ℕ) → IsChain turn key A t s → A (bottom t s) × Least (bottom t s)
   chain-bottom t [] g = g
   chain-bottom t (r ∷ s) g = chain-bottom r s g.4
 
-  -- a member is least or has an edge into it
+  -- a member is the least or has an edge into it
   pub under : (t : ℕ) (s : List ℕ) → IsChain turn key A t s → (v : ℕ) → In v (t ∷ s) → Least v ⊎ Under v
   under t [] g v (inl e) = inl (subst Least (sym e) g.1)
   under t [] g v (inr i) = absurd i
   under t (r ∷ s) g v (inl e) = inr (subst Under (sym e) (record { u = r; is = chain_top turn key A r s g.4; before = g.1; edge = g.2 }))
   under t (r ∷ s) g v (inr i) = under r s g.4 v i
 
-  -- a member below the top is least or is turned at
+  -- a member below the top is the least or has a turn
   pub inside : (t : ℕ) (s : List ℕ) → IsChain turn key A t s → (v : ℕ) → In v s → Least v ⊎ Inside v
   inside t [] g v i = absurd i
   inside t (r ∷ []) g v (inl e) = inl (subst Least (sym e) g.4.1)
@@ -78,7 +78,7 @@ module _ (turn : ℕ → ℕ → ℕ → ℤ) (key : ℕ → ℤ) (A : ℕ → T
       inr (subst Inside (sym e) (record { q = q; t = t; is_q = chain_top turn key A q s g.4.4; is_t = g.0; before = g.4.1; after = g.1; sharp = g.3 }))
   inside t (r ∷ s) g v (inr i) = inside r s g.4 v i
 
-  -- what is no member lies under an edge
+  -- an id that is not a member lies under an edge
   pub span : ((x y : ℕ) → A x → A y → key x ≡ key y → x ≡ y) → (t : ℕ) (s all : List ℕ) → IsChain turn key A t s → ((x : ℕ) → In x (t ∷ s) → In x all)
       → (e : ℕ) → A e → (In e (t ∷ s) → ⊥) → key e <ℤ key t → Span e all
   span same t [] all g into e ae out lt = absurd (not_less (key e) (key t) lt (g.1 e ae))

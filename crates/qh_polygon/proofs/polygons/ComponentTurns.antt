@@ -1,5 +1,4 @@
--- In one plane a turn by one component of the normal goes to the left where the turn itself does: chains by either are
--- the same.
+-- In one plane, a turn computed from one component of the normal is to the left exactly if the turn itself is; so both have the same chains.
 use Rattle.std.proofs.Common.{◌≡◌, ◌≢◌, ℕ, List, [], ◌∷◌, ap, sym, ◌∙◌, refl, inl, inr, true, false, cond, reverse, subst, ⊎_elim}
 use Rattle.std.specs.{Ordering.is_gt, Prelude.ℤ, Prelude.pos}
 use Rattle.qh_model.proofs.algebra.Signs.{less_differ}
@@ -8,12 +7,12 @@ use Rattle.qh_pred.proofs.Turns.{turn_sign}
 use Rattle.qh_polygon.proofs.polygons.{Cycles.turned_onto-in, Stacks.reverse-turned_onto, Turns.IsFlat, Turns.turn_about}
 use Rattle.qh_polygon.specs.steps.Chains.{turn_of, is_left, kept_below, chain, joined}
 
--- turns of members of A that go to the left together
+-- turns of members of A that are to the left at the same time
 abbrev pub Agree : (ℕ → Type 0) → (ℕ → ℕ → ℕ → ℤ) → (ℕ → ℕ → ℕ → ℤ) → Type 0
 Agree A turn other = (u v w : ℕ) → A u → A v → A w → is_left (turn u v w) ≡ is_left (other u v w)
 
 module _ (A : ℕ → Type 0) (turn other : ℕ → ℕ → ℕ → ℤ) (agree : Agree A turn other) where
-  -- either keeps the same, which was there
+  -- either keeps the same ids, which were there
   kept_below-same : (y t : ℕ) (s : List ℕ) → A y → ((x : ℕ) → In x (t ∷ s) → A x)
       → (kept_below turn y t s ≡ kept_below other y t s) × ((x : ℕ) → In x (kept_below other y t s) → A x)
   kept_below-same y t [] ay all = (refl, all)
@@ -30,13 +29,13 @@ module _ (A : ℕ → Type 0) (turn other : ℕ → ℕ → ℕ → ℤ) (agree 
       ap (λ v. chain turn (y ∷ v) ys) k.0
       ∙ chain-same y (kept_below other y t s) ys (λ x. elim [ inl e ↦ more x (inl e) | inr j ↦ k.1 x j ]) (λ x i. more x (inr i))
 
--- in one plane the component of the normal tells the turn
+-- in one plane, the component of the normal determines the turn
 pub turns_agree : (pts : List Vector) (n : Vector) (A : ℕ → Type 0) → IsFlat n (place pts) A → Agree A (turn_of pts n) (turn_about n (place pts))
 turns_agree pts n A flat u v w au av aw =
     let some : n ≢ origin = (λ e. less_differ (pos 0) (dot n n) flat.some (sym (ap (λ (m : Vector). dot m m) e))) in
     ap is_gt (turn_sign n (place pts u) (place pts v) (place pts w) (record { some = some; to_v = flat.even u v au av; to_w = flat.even u w au aw }))
 
--- the cycle over two chains in one plane
+-- the cycle of two chains in one plane
 pub joined-same : (pts : List Vector) (n : Vector) (A : ℕ → Type 0) (xs : List ℕ) → IsFlat n (place pts) A → ((x : ℕ) → In x xs → A x)
     → joined (chain (turn_about n (place pts)) [] xs) (chain (turn_about n (place pts)) [] (reverse xs))
     ≡ joined (chain (turn_of pts n) [] xs) (chain (turn_of pts n) [] (reverse xs))

@@ -1,4 +1,4 @@
--- Corners: members that a direction puts beyond all others. No three of them are in line.
+-- Corners: members that are beyond all others in some direction. No three of them are in line.
 use Rattle.std.proofs.Common.{◌≡◌, ◌≢◌, ℕ, refl, [], ◌∷◌, arith, sym, subst, ◌∙◌}
 use Rattle.std.proofs.lemmas.Int.{ints, by_lt_z}
 use Rattle.std.specs.Prelude.{ℤ, pos, ◌+ℤ◌, ◌-ℤ◌, ◌*ℤ◌, ◌≤ℤ◌, ◌<ℤ◌}
@@ -11,14 +11,14 @@ use Rattle.qh_model.specs.headline.Vector.{Vector, minus, cross_product, dot}
 use Rattle.qh_polygon.proofs.{PlaneDirections.bracket, PlaneDirections.bracketE, PlaneDirections.bracket-fan, polygons.TurnLaws.HasOnLeft}
 use Rattle.qh_polygon.proofs.polygons.Turns.{IsFlat, IsKeyed, turn_about, height_of, step, forward, left-middle, left-bracket, left-swap}
 
--- ---- corners: members that a direction puts beyond all others
--- w puts m strictly beyond all other members
+-- ---- corners: members that are beyond all others in some direction
+-- m is strictly beyond all other members along w
 pub record Corner (at : ℕ → Vector) (A : ℕ → Type 0) (m : ℕ) : Type 0 where
   pub member : A m
   pub w : Vector
   pub beats : (x : ℕ) → A x → x ≢ m → dot w (at x) <ℤ dot w (at m)
 
--- how far r lies beyond x across the way from q to t
+-- the distance of r beyond x across the path from q to t
 pub corner_eq : (n q r t x : Vector) → dot (cross_product (minus t q) n) r -ℤ dot (cross_product (minus t q) n) x ≡ left n q r x +ℤ left n r t x
 unfolding left cross
 corner_eq n q r t x =
@@ -32,7 +32,7 @@ beats_sign wx wr f g e p q h =
     by_lt_z (pos 0) f (λ k. omega (arith, ints)) (λ k. by_lt_z (pos 0) g (λ l. omega (arith, ints))
     (λ l. absurd (h (le_antisym f (pos 0) k p) (le_antisym g (pos 0) l q))))
 
--- with both turns zero, x is no other point
+-- if both turns are zero, x is no other point
 apart : (ac hb ab hc bc ha : ℤ) → ac *ℤ hb ≡ ab *ℤ hc +ℤ bc *ℤ ha → ac ≡ pos 0 → bc ≡ pos 0 → pos 0 <ℤ ab → hc ≡ pos 0
 apart ac hb ab hc bc ha e p q h = cancel-zero ab hc h (let f = rw (p, q) at e in omega (arith, ints, f))
 
@@ -51,7 +51,7 @@ inner n h at A flat keyed q r t aq ar at' e f sh = record {
       omega (arith, ints, dot-minus h (at x) (at r), zero))));
 }
 
--- the one with the greatest key
+-- the member with the greatest key
 pub greatest_corner : (h : Vector) (at : ℕ → Vector) (A : ℕ → Type 0) → IsKeyed h at A → (m : ℕ) → A m
     → ((x : ℕ) → A x → height_of h at x ≤ℤ height_of h at m) → Corner at A m
 greatest_corner h at A keyed m am le =
@@ -62,7 +62,7 @@ pub corner_extreme : (at : ℕ → Vector) (A : ℕ → Type 0) (m : ℕ) → Co
 corner_extreme at A m c = let past : (j : ℕ) → Others A m j → dot c.w (at j) <ℤ dot c.w (at m) = (λ j o. c.beats j o.0 o.1) in
     (c.member, λ x. all_lower at (Others A m) (at m) c.w x (past x.a x.has_a) (past x.b x.has_b) (past x.c x.has_c) (past x.d x.has_d))
 
--- ---- what is beyond two ends of an edge
+-- ---- an id beyond both ends of an edge
 -- two directions of a plane, by their heights along h and w
 across_eq : (n h w a b : Vector) → dot n n *ℤ (dot h a *ℤ dot w b -ℤ dot h b *ℤ dot w a)
     ≡ bracket n a b *ℤ dot (cross_product h w) n -ℤ dot n b *ℤ dot (cross_product h w) (cross_product n a) +ℤ dot n a
@@ -137,7 +137,7 @@ module _ (n h : Vector) (at : ℕ → Vector) (A : ℕ → Type 0) (flat : IsFla
       (λ lvx. lined n h at A flat v u x cv.member cu.member cx (λ e. xv (sym e)) (λ e. xu (sym e)) lvx lxu (swapped u v x z)))
       (λ lux. lined n h at A flat v x u cv.member cx.member cu (λ e. uv (sym e)) xu lvu lux (flipped v u x (swapped u v x z))))
 
-  -- a corner on the left of the way between two lies strictly there
+  -- a corner on the left of the path between two corners is strictly there
   pub strict : (u v x : ℕ) → Corner at A u → Corner at A v → Corner at A x → u ≢ v → x ≢ u → x ≢ v
       → pos 0 ≤ℤ turn_about n at u v x → pos 0 <ℤ turn_about n at u v x
   strict u v x cu cv cx uv xu xv h = by_lt_z (pos 0) (turn_about n at u v x) (λ q. q) (λ q. absurd (not_lined u v x cu cv cx uv xu xv (le_antisym _ _ q h)))

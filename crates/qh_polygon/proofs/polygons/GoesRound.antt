@@ -1,4 +1,4 @@
--- The list that goes round the extremes, from a rising list and its turn.
+-- The list that goes round the extremes, from a rising list and its reverse.
 use Rattle.std.proofs.Common.{ℕ, List, [], ◌∷◌, ◌++◌, arith, sym, subst, inl, inr, ⊎_elim}
 use Rattle.std.proofs.lemmas.Int.{ints}
 use Rattle.std.specs.Prelude.{◌≤ℤ◌, ◌<ℤ◌, ◌↔◌}
@@ -18,7 +18,7 @@ pub record GoesRound (n : Vector) (at : ℕ → Vector) (A : ℕ → Type 0) (q 
   pub once : Once q
   pub round : AroundCycle (TurnsLeft at n q) q
 
--- of a set of which one member is higher than another
+-- for a set with two members of different height
 module _ (n h : Vector) (at : ℕ → Vector) (A : ℕ → Type 0) (flat : IsFlat n at A) (keyed : IsKeyed h at A) (p q : ℕ) (is_p : A p) (is_q : A q)
     (apart : height_of h at p <ℤ height_of h at q) (turned : height_of (opposite h) at q <ℤ height_of (opposite h) at p) where
   -- the two chains close
@@ -32,7 +32,7 @@ module _ (n h : Vector) (at : ℕ → Vector) (A : ℕ → Type 0) (flat : IsFla
       let c : Chains n h at A m (a ∷ s) z (b ∷ r) = record { flat = flat; keyed = keyed; lower = g; upper = g'; last = k; first = k' } in
       record { members = ring_members n h at A m a s z b r c; once = ring_once n h at A m a s z b r c; round = ring_round n h at A m a s z b r c }
 
-  -- a rising list, and one that rises the other way round, over the same members
+  -- a rising list, and one that rises in the opposite direction, over the same members
   pub goes_round : (x₀ : ℕ) (xs : List ℕ) (y₀ : ℕ) (ys : List ℕ) → ((x : ℕ) → In x (x₀ ∷ xs) ↔ A x) → ((x : ℕ) → In x (y₀ ∷ ys) ↔ A x)
       → RisesBy (height_of h at) x₀ xs → RisesBy (height_of (opposite h) at) y₀ ys
       → GoesRound n at A (joined (chain (turn_about n at) [] (x₀ ∷ xs)) (chain (turn_about n at) [] (y₀ ∷ ys)))
@@ -44,18 +44,18 @@ module _ (n h : Vector) (at : ℕ → Vector) (A : ℕ → Type 0) (flat : IsFla
       (subst (λ v. GoesRound n at A (joined (lo.top ∷ lo.rest) v)) (sym up.is)
       (closes lo.top lo.rest up.top up.rest lo.good lo.greatest up.good up.greatest))
 
--- a turned list has the same members
+-- a rotated list has the same members
 pub in-rotate : (xs ys : List ℕ) (x : ℕ) → In x (xs ++ ys) → In x (ys ++ xs)
 in-rotate xs ys x i = in_append ys xs x (⊎_elim (λ k. inr k) (λ k. inl k) (of_append xs ys x i))
 
--- parts of a list that repeats nothing
+-- parts of a list without repetition
 once-parts : (xs ys : List ℕ) → Once (xs ++ ys) → Once xs × (Once ys × ((x : ℕ) → In x xs → In x ys → ⊥))
 once-parts [] ys o = (tt, (o, λ x i j. i))
 once-parts (x ∷ xs) ys o =
     let k = once-parts xs ys o.1 in
     ((λ i. o.0 (in_append xs ys x (inl i)), k.0), (k.1.0, λ v i j. ⊎_elim (λ e. o.0 (in_append xs ys x (inr (subst (λ t. In t ys) e j)))) (λ l. k.1.1 v l j) i))
 
--- turned on
+-- the same for the rotated list
 pub goes_round-rotate : (n : Vector) (at : ℕ → Vector) (A : ℕ → Type 0) (xs ys : List ℕ) → GoesRound n at A (xs ++ ys) → GoesRound n at A (ys ++ xs)
 goes_round-rotate n at A xs ys c = record {
   members = λ i. (λ k. (c.members i).0 (in-rotate ys xs i k), λ e. in-rotate xs ys i ((c.members i).1 e));

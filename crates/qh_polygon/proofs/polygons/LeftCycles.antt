@@ -9,24 +9,24 @@ use Rattle.qh_model.specs.headline.{Extreme.Extreme, Polygon.IsPolygon, Polygon.
 use Rattle.qh_model.specs.headline.Vector.{Vector, minus, cross_product}
 use Rattle.qh_polygon.proofs.polygons.{Corners.Corner, Corners.corner_eq, Corners.corner_extreme, Turns.left-back, Turns.left-there, Turns.left-swap}
 
--- the list has a member beside any two numbers
+-- the list has a member other than any two numbers
 abbrev pub HasThird : List ℕ → Type 0
 HasThird q = (p v : ℕ) → (w : ℕ) × In w q × (w ≢ p) × (w ≢ v)
 
--- three different members do
+-- three different members suffice
 pub third_of : (a b c : ℕ) (r : List ℕ) → a ≢ b → a ≢ c → b ≢ c → HasThird (a ∷ b ∷ c ∷ r)
 third_of a b c r ab ac bc p v = dite (ℕ_discrete a p)
     (λ e. dite (ℕ_discrete b v) (λ k. (c, inr (inr (inl refl)), (λ o. omega arith), λ o. omega arith)) (λ k. (b, inr (inl refl), (λ o. omega arith), k)))
     (λ e. dite (ℕ_discrete a v) (λ k. dite (ℕ_discrete b p) (λ m. (c, inr (inr (inl refl)), (λ o. omega arith), λ o. omega arith))
     (λ m. (b, inr (inl refl), m, λ o. omega arith))) (λ k. (a, inl refl, e, k)))
 
--- the last way of a path
+-- the last step of a path
 last_way : (P : ℕ → ℕ → Type 0) (u : ℕ) (r : List ℕ) (e : ℕ) → AlongPath P u r e → (p : ℕ) × P p e
 last_way P u [] e h = (u, h)
 last_way P u (v ∷ r) e h = last_way P v r e h.1
 
 module _ (n : Vector) (at : ℕ → Vector) (A : ℕ → Type 0) (q : List ℕ) (l : (x : ℕ) → A x ↔ In x q) (third : HasThird q) where
-  -- the member between two ways
+  -- the member between two steps
   vertex : (p v s : ℕ) → A v → TurnsLeft at n q p v → TurnsLeft at n q v s → Corner at A v
   vertex p v s av f g = record {
     member = av;
@@ -41,7 +41,7 @@ module _ (n : Vector) (at : ℕ → Vector) (A : ℕ → Type 0) (q : List ℕ) 
       no_return e = let w = third p v in
           omega (arith, ints, left-swap n (at p) (at v) (at w.0), f w.0 w.1 w.2 w.3, subst (TurnsLeft at n q v) (sym e) g w.0 w.1 w.3 w.2)
 
-  -- each member of a path from u, to which a way leads from p
+  -- each member of a path from u, to which a step from p leads
   corners_along : (p u : ℕ) (r : List ℕ) (e : ℕ) → ((x : ℕ) → In x (u ∷ r) → A x) → TurnsLeft at n q p u
       → AlongPath (TurnsLeft at n q) u r e → (x : ℕ) → In x (u ∷ r) → Corner at A x
   corners_along p u [] e a f h x (inl is) = subst (Corner at A) (sym is) (vertex p u e (a u (inl refl)) f h)
@@ -63,7 +63,7 @@ cycle_polygon n at A u r l third once least h =
       least = least;
     }
 
--- a way from u to v, where all others are the one before u and the one after v
+-- a step from u to v, if all others are the one before u and the one after v
 pub side_of : (n : Vector) (at : ℕ → Vector) (q : List ℕ) (p u v s : ℕ) → ((x : ℕ) → In x q → x ≢ u → x ≢ v → (x ≡ p) ⊎ (x ≡ s))
     → pos 0 <ℤ left n (at p) (at u) (at v) → pos 0 <ℤ left n (at u) (at v) (at s) → TurnsLeft at n q u v
 side_of n at q p u v s only h k w i wu wv =

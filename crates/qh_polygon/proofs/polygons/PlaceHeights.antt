@@ -1,4 +1,4 @@
--- The number of a place as a height: its order is that of one direction.
+-- The number of a place as a height: the numbers are ordered along one direction.
 use Rattle.std.proofs.{Common.◌≡◌, Common.ℕ, Common.◌+◌, Common.◌*◌, Common.◌<◌, Common.List, Common.arith, lemmas.Int.ints}
 use Rattle.std.specs.{List.All, Prelude.ℤ, Prelude.pos, Prelude.◌+ℤ◌, Prelude.◌*ℤ◌, Prelude.◌<ℤ◌}
 use Rattle.qh_model.proofs.Members.{All-In}
@@ -15,18 +15,18 @@ order = record { x = pos (ROOM * ROOM); y = pos ROOM; z = pos 1 }
 abbrev ground_level : ℕ
 ground_level = (COORDINATE_LIMIT * ROOM + COORDINATE_LIMIT) * ROOM + COORDINATE_LIMIT
 
--- the number of a place is its height, over the number of the origin
+-- the number of a place is its height, plus the number of the origin
 height : (x y z : ℤ) (a b c : ℕ) → pos a ≡ x +ℤ pos COORDINATE_LIMIT → pos b ≡ y +ℤ pos COORDINATE_LIMIT → pos c ≡ z +ℤ pos COORDINATE_LIMIT
     → pos ((a * ROOM + b) * ROOM + c) ≡ (pos (ROOM * ROOM) *ℤ x +ℤ pos ROOM *ℤ y +ℤ pos 1 *ℤ z) +ℤ pos ground_level
 height x y z a b c e f g = omega (arith, ints)
 
--- the number of a place is its height and that of the origin
+-- the number of a place is the sum of its height and the number of the origin
 place_code-height : (p : Vector) → IsPlace p → pos (place_code p) ≡ dot order p +ℤ pos ground_level
 unfolding place_code
 place_code-height p h =
     height p.x p.y p.z (biased p.x) (biased p.y) (biased p.z) (omega (arith, ints, h.x)) (omega (arith, ints, h.y)) (omega (arith, ints, h.z))
 
--- a place of a lower number is lower
+-- a place with a lower number is lower
 pub place_code-less : (p q : Vector) → IsPlace p → IsPlace q → place_code p < place_code q → dot order p <ℤ dot order q
 place_code-less p q h k l = let a = place_code-height p h in let b = place_code-height q k in omega (arith, ints, a, b, l)
 

@@ -11,7 +11,7 @@ use Rattle.qh_model.specs.headline.Vector.{Vector, origin, minus, dot}
 use Rattle.qh_polygon.proofs.{LinesAndPlanes.between_eq, LinesAndPlanes.none, polygons.Turns.IsFlat}
 use Rattle.qh_polygon.specs.contract.PlanarSets.{IsPlanarSet}
 
--- the scalar product with the opposite
+-- the scalar product with the opposite vector
 negated : (c v : Vector) → dot (minus origin c) v ≡ neg_ℤ (dot c v)
 negated c v = ring (put c (put v []))
     (dotE (record {
@@ -20,7 +20,7 @@ negated c v = ring (put c (put v []))
       z = less (con (pos 0)) (vec 0).z;
     }) (vec 1)) (neg (dotE (vec 0) (vec 1))) refl
 
--- of ids of which three are not in line there are at least two
+-- if three of the ids are not in line, there are at least two
 pub two_of_triangle : (at : ℕ → Vector) (ids : List ℕ) → HasTriangle at (Members ids) → 1 < length ids
 two_of_triangle at ids t =
     let s = segment_of_triangle at (Members ids) t in let p = in_at ids s.i s.has_i in let q = in_at ids s.j s.has_j in
@@ -35,7 +35,7 @@ module _ (pts : List Vector) (ids : List ℕ) (n : Vector) (p : IsPlanarSet pts 
   abbrev c : Vector
   c = cross (place pts p.i) (place pts p.j) (place pts p.k)
 
-  -- the way from i to a member is across the normal
+  -- the vector from i to a member is across the normal
   across : (l : ℕ) → In l ids → dot n (minus (place pts l) (place pts p.i)) ≡ pos 0
   across l m =
       let v = minus (place pts l) (place pts p.i) in

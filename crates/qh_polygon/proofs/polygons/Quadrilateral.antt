@@ -7,7 +7,7 @@ use Rattle.qh_polygon.proofs.polygons.{Chain.is_left-yes, ComponentTurns.turns_a
 use Rattle.qh_polygon.proofs.polygons.PlanarIds.{flat_of}
 use Rattle.qh_polygon.specs.{contract.PlanarSets.IsPlanarSet, steps.Chains.is_left, steps.Chains.turn_of, steps.Chains.IsLeftCycle}
 
--- four members that turn left, from the least on, are their polygon
+-- four members that turn left, beginning with the least, are their polygon
 pub left_quadrilateral : (n : Vector) (at : ℕ → Vector) (A : ℕ → Type 0) (a b c d : ℕ) → ((x : ℕ) → A x ↔ In x (a ∷ b ∷ c ∷ d ∷ []))
     → a < b → a < c → a < d → b ≢ c → b ≢ d → c ≢ d
     → pos 0 <ℤ left n (at a) (at b) (at c) → pos 0 <ℤ left n (at b) (at c) (at d)
@@ -26,7 +26,7 @@ left_quadrilateral n at A a b c d l ab ac ad bc bd cd abc bcd cda dab =
       ),
     )
 
--- ---- the same of a list of four, as the code reads it
+-- ---- the same for a list of four, as the code reads it
 four_ids : (ids : List ℕ) (i j k l : ℕ) → length ids ≡ 4 → i ≡ get_or ids 0 i → j ≡ get_or ids 1 j → k ≡ get_or ids 2 k → l ≡ get_or ids 3 l
     → ids ≡ i ∷ j ∷ k ∷ l ∷ []
 four_ids (a ∷ b ∷ c ∷ d ∷ []) i j k l e p q r s = cc

@@ -20,7 +20,7 @@ Down P t (r ∷ s) = P r t × Down P r s
 
 module _ (n h : Vector) (at : ℕ → Vector) (A : ℕ → Type 0) (flat : IsFlat n at A) (keyed : IsKeyed h at A)
     (least : (b : ℕ) → A b → ((x : ℕ) → A x → height_of h at b ≤ℤ height_of h at x) → Corner at A b) where
-  -- what lies below the top is a corner
+  -- a member below the top is a corner
   below : (t r : ℕ) (s : List ℕ) → A t → HasOnLeft (turn_about n at) A r t → TurnsAt (turn_about n at) t r s
       → IsChain (turn_about n at) (height_of h at) A r s → Corner at A r
   below t r [] at' e sh g = least r g.0 g.1

@@ -1,4 +1,4 @@
--- The cycle over the two chains of sorted ids goes round the extremes.
+-- The cycle of the two chains of sorted ids goes round the extremes.
 use Rattle.std.proofs.Common.{◌≡◌, ℕ, ◌%◌, ◌<◌, List, [], ◌∷◌, length, map, reverse, arith, ap, sym, subst, ◌∙◌, refl, inl, inr, ⊎_elim}
 use Rattle.std.proofs.{Math.Nat.ne_of_lt, lemmas.List.length-map, lemmas.List.Sorted.length_permutation}
 use Rattle.std.specs.{List.All, List.AllByRecursion as Every, List.Sorted.IsStrictlyIncreasing, Prelude.ℤ, Prelude.◌<ℤ◌, Prelude.◌↔◌}
@@ -14,7 +14,7 @@ use Rattle.qh_polygon.specs.contract.PlaceNumbers.{place_code}
 use Rattle.qh_polygon.specs.{contract.PlaceKeys.key_at, steps.PlaceKeys.ids_in, contract.PlaceKeys.HasKey, steps.PlaceKeys.AreByPlace}
 
 -- ---- rising keys are rising places
--- rising keys are rising heights
+-- rising keys have rising heights
 step_up : (pts : List Vector) (ids : List ℕ) (k l : ℕ) → HasDistinctPoints (place pts) (λ x. In x ids) → IsKeyOf pts ids k → IsKeyOf pts ids l → k < l
     → height_of order (place pts) (k % ROOM) <ℤ height_of order (place pts) (l % ROOM)
 step_up pts ids k l d t u lt =
@@ -30,19 +30,19 @@ rises_of : (pts : List Vector) (ids : List ℕ) (k : ℕ) (ks : List ℕ) → Ha
 rises_of pts ids k [] d t c = tt
 rises_of pts ids k (l ∷ ks) d t c = (step_up pts ids k l d t.0 t.1.0 (c 0 (omega arith)), rises_of pts ids l ks d t.1 (rising_tail k (l ∷ ks) c))
 
--- ---- turned round
+-- ---- reversed lists
 -- the keys rise along the list from its first
 abbrev FallsBack : (ℕ → ℤ) → List ℕ → Type 0
 FallsBack key [] = Unit {0}
 FallsBack key (x ∷ xs) = RisesBy key x xs
 
--- a list that rises, turned round, rises the other way
+-- a rising list, reversed, rises in the opposite direction
 falls_back : (h : Vector) (at : ℕ → Vector) (t : ℕ) (s acc : List ℕ) → RisesBy (height_of h at) t s
     → RisesBy (height_of (opposite h) at) t acc → FallsBack (height_of (opposite h) at) (turned_onto s (t ∷ acc))
 falls_back h at t [] acc r f = f
 falls_back h at t (y ∷ s) acc r f = falls_back h at y s (t ∷ acc) r.1 (lt_neg _ _ _ _ (dot-opposite h (at y)) (dot-opposite h (at t)) r.0, f)
 
--- the cycle of a rising list and its turn
+-- the cycle of a rising list and its reverse
 round_of : (n : Vector) (at : ℕ → Vector) (A : ℕ → Type 0) → IsFlat n at A → IsKeyed order at A
     → (x₀ x₁ : ℕ) (xs L : List ℕ) → ((x : ℕ) → In x (x₀ ∷ x₁ ∷ xs) ↔ A x) → ((x : ℕ) → In x L ↔ A x)
     → RisesBy (height_of order at) x₀ (x₁ ∷ xs) → FallsBack (height_of (opposite order) at) L
@@ -52,7 +52,7 @@ round_of n at A flat keyed x₀ x₁ xs (y₀ ∷ ys) i j r f =
     goes_round n order at A flat keyed x₀ x₁ ((i x₀).0 (inl refl)) ((i x₁).0 (inr (inl refl))) r.0
     (lt_neg _ _ _ _ (dot-opposite order (at x₁)) (dot-opposite order (at x₀)) r.0) x₀ (x₁ ∷ xs) y₀ ys i j r f
 
--- the same of the ids in rising keys
+-- the same for the ids in rising keys
 round_keys : (pts : List Vector) (ids keys : List ℕ) (n : Vector) → Every (IsKeyOf pts ids) keys
     → IsStrictlyIncreasing keys → 1 < length keys → ((x : ℕ) → In x (ids_in keys) ↔ In x ids)
     → All (HasKey pts) ids → HasDistinctPoints (place pts) (λ x. In x ids) → IsFlat n (place pts) (λ x. In x ids)
@@ -71,7 +71,7 @@ round_keys pts ids (a ∷ b ∷ ks) n t r l m k d flat =
     up (falls_back order (place pts) (a % ROOM) (ids_in (b ∷ ks)) [] up tt))
 round_keys pts ids keys n t r l m k d flat = absurd (omega arith)
 
--- the polygon, before it is turned to its least id
+-- the polygon, before it is rotated to its least id
 pub round_sorted : (pts : List Vector) (ids sorted : List ℕ) (n : Vector) → AreByPlace pts ids sorted
     → All (HasKey pts) ids → IsStrictlyIncreasing ids → HasDistinctPoints (place pts) (λ x. In x ids)
     → 1 < length ids → IsFlat n (place pts) (λ x. In x ids)

@@ -1,14 +1,14 @@
--- The steps of the code of a chain, in the words of std.
+-- The steps of the code of a chain, in terms of std.
 use Rattle.std.proofs.Common.{◌≡◌, ℕ, refl, List, [], ◌∷◌, ◌++◌, arith, ap, sym, ◌∙◌, reverse, take, length, ◌-◌}
 use Rattle.std.proofs.lemmas.List.{reverse-append, reverse-reverse, append_assoc, append-nil, length-reverse, take_at}
 use Rattle.qh_polygon.specs.steps.Chains.{turned_onto, after_first, joined}
 
--- turning onto a list, in the words of std
+-- reversing onto a list, in terms of std
 pub turned_onto-is : (s acc : List ℕ) → turned_onto s acc ≡ reverse s ++ acc
 turned_onto-is [] acc = refl
 turned_onto-is (x ∷ s) acc = turned_onto-is s (x ∷ acc) ∙ sym (append_assoc (reverse s) (x ∷ []) acc) ∙ ap (λ t. t ++ acc) (sym (reverse-append (x ∷ []) s))
 
--- without its first, turned round, a list lacks its last
+-- a reversed list lacks its last element if the list lacks its first
 front-of : (r acc : List ℕ) → turned_onto (after_first r) acc ≡ take (length (reverse r) - 1) (reverse r) ++ acc
 front-of [] acc = refl
 front-of (v ∷ s) acc =
@@ -18,15 +18,15 @@ front-of (v ∷ s) acc =
     ∙ ap (λ t. t ++ acc) (sym (ap (λ t. take t (reverse (v ∷ s))) l ∙ ap (take (length (reverse s))) e
     ∙ take_at (reverse s) (v ∷ []) (length (reverse s)) refl))
 
--- the same of a list that was turned round
+-- the same for a list that was reversed
 pub front : (xs acc : List ℕ) → turned_onto (after_first (reverse xs)) acc ≡ take (length xs - 1) xs ++ acc
 front xs acc = front-of (reverse xs) acc ∙ ap (λ t. take (length t - 1) t ++ acc) (reverse-reverse xs)
 
--- the cycle over two chains, in the words of std
+-- the cycle of two chains, in terms of std
 pub fronts : (xs ys : List ℕ) → joined (reverse xs) (reverse ys) ≡ take (length xs - 1) xs ++ take (length ys - 1) ys
 fronts xs ys = front xs (turned_onto (after_first (reverse ys)) [])
     ∙ ap (λ t. take (length xs - 1) xs ++ t) (front ys [] ∙ append-nil (take (length ys - 1) ys))
 
--- turning a list round, in the words of std
+-- reversing a list, in terms of std
 pub reverse-turned_onto : (s : List ℕ) → reverse s ≡ turned_onto s []
 reverse-turned_onto s = sym (turned_onto-is s [] ∙ append-nil (reverse s))

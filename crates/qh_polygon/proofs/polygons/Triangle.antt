@@ -12,7 +12,7 @@ use Rattle.qh_polygon.proofs.polygons.{Chain.is_left-yes, Chain.is_left-no, Comp
 use Rattle.qh_polygon.proofs.polygons.{LeftCycles.third_of, PlanarIds.flat_of, Turns.IsFlat}
 use Rattle.qh_polygon.specs.{contract.PlanarSets.IsPlanarSet, steps.Chains.is_left, steps.Chains.turn_of, steps.Chains.triangle}
 
--- a left turn over three members from the least on is their polygon
+-- three members that turn left, beginning with the least, are their polygon
 pub left_triangle : (n : Vector) (at : ℕ → Vector) (A : ℕ → Type 0) (a b c : ℕ) → ((x : ℕ) → A x ↔ In x (a ∷ b ∷ c ∷ []))
     → a < b → a < c → b ≢ c → pos 0 <ℤ left n (at a) (at b) (at c) → IsPolygon at (Extreme at A) n (a ∷ b ∷ c ∷ [])
 left_triangle n at A a b c l ab ac bc h =
@@ -70,7 +70,7 @@ module _ (pts : List Vector) (n : Vector) (i j k : ℕ) (h : IsPlanarSet pts (i 
             (let l = le_less _ _ (is_left-no _ e) turns in omega (arith, ints, left-flip n (at i) (at k) (at j), l))
       ] (sym (turns_agree pts n (λ x. In x (i ∷ j ∷ k ∷ [])) flat i j k (inl refl) (inr (inl refl)) (inr (inr (inl refl)))))
 
--- ---- the same of a list of three
+-- ---- the same for a list of three
 three_ids : (ids : List ℕ) (i j k : ℕ) → length ids ≡ 3 → i ≡ get_or ids 0 i → j ≡ get_or ids 1 j → k ≡ get_or ids 2 k → ids ≡ i ∷ j ∷ k ∷ []
 three_ids (a ∷ b ∷ c ∷ []) i j k l p q r = cc
 three_ids ids i j k l p q r = absurd (omega arith)

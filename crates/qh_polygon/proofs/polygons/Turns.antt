@@ -1,4 +1,4 @@
--- Turns of points of one plane, and the laws that they keep.
+-- Turns of points of one plane, and their laws.
 use Rattle.std.proofs.{Common.◌∙◌, Common.◌≡◌, Common.ℕ, Common.refl, Common.[], Common.arith, Common.sym, Common.subst, lemmas.Int.ints}
 use Rattle.std.specs.Prelude.{ℤ, pos, neg_ℤ, ◌≤ℤ◌, ◌<ℤ◌}
 use Rattle.qh_model.proofs.algebra.{Ring.Expr, Ring.ring, Signs.opposite_nonneg}
@@ -12,7 +12,7 @@ pub record IsFlat (n : Vector) (at : ℕ → Vector) (A : ℕ → Type 0) : Type
   pub even : (i j : ℕ) → A i → A j → dot n (minus (at j) (at i)) ≡ pos 0
   pub some : pos 0 <ℤ dot n n
 
--- ---- in points
+-- ---- for points
 -- the turn as a bracket of the two steps
 pub left-middle : (n u v w : Vector) → left n u v w ≡ bracket n (minus v u) (minus w v)
 unfolding left cross
@@ -20,12 +20,12 @@ left-middle n u v w =
     ring (put n (put u (put v (put w [])))) (dotE (crossE (subE (vec 2) (vec 1)) (subE (vec 3) (vec 1))) (vec 0))
     (dotE (crossE (subE (vec 2) (vec 1)) (subE (vec 3) (vec 2))) (vec 0)) refl
 
--- the turn as a bracket of the ways from the first point
+-- the turn as a bracket of the vectors from the first point
 pub left-bracket : (n u v w : Vector) → left n u v w ≡ bracket n (minus v u) (minus w u)
 unfolding left cross
 left-bracket n u v w = refl
 
--- with the first and last turned: L r t x = [t - x, t - r]
+-- with the first and last exchanged: L r t x = [t - x, t - r]
 left-last : (n r t x : Vector) → left n r t x ≡ bracket n (minus t x) (minus t r)
 unfolding left cross
 left-last n r t x = ring (put n (put r (put t (put x []))))
@@ -35,7 +35,7 @@ left-last n r t x = ring (put n (put r (put t (put x []))))
 left-across : (n t y x : Vector) → left n t y x ≡ bracket n (minus t x) (minus y t)
 left-across n t y x = left-turn n t y x ∙ left-turn n y x t ∙ left-middle n x t y
 
--- the turn the other way along its first step
+-- the turn in the opposite direction along its first step
 pub left-swap : (n u v w : Vector) → left n u v w ≡ neg_ℤ (left n v u w)
 left-swap n u v w = left-turn n u v w ∙ left-flip n v w u
 
@@ -64,11 +64,11 @@ turn_about n at u v w = left n (at u) (at v) (at w)
 abbrev pub height_of : Vector → (ℕ → Vector) → ℕ → ℤ
 height_of h at u = dot h (at u)
 
--- the way between two ids
+-- the vector between two ids
 abbrev pub step : (ℕ → Vector) → ℕ → ℕ → Vector
 step at u v = minus (at v) (at u)
 
--- points of one plane that differ in height keep the laws of turns
+-- points of one plane that differ in height satisfy the laws of turns
 pub turn_laws : (n h : Vector) (at : ℕ → Vector) (A : ℕ → Type 0) → IsFlat n at A → IsKeyed h at A → TurnLaws (turn_about n at) (height_of h at) A
 turn_laws n h at A flat keyed = record {
   about = λ t c x y at' ac ax ay tc tx ty nl l. subst (λ v. pos 0 ≤ℤ v) (sym (left-bracket n (at t) (at y) (at x)))

@@ -1,4 +1,4 @@
--- Two chains, there and back: their members are the extremes, each once, and the way round turns left.
+-- Two chains, there and back: their members are the extremes, each once, and the cycle turns left.
 use Rattle.std.proofs.Common.{◌≡◌, ℕ, refl, List, [], ◌∷◌, arith, sym, subst, ◌∙◌, ◌⊎◌, inl, inr, ⊎_elim}
 use Rattle.std.proofs.lemmas.Int.{ints, by_lt_z}
 use Rattle.std.specs.Prelude.{pos, neg_ℤ, ◌≤ℤ◌, ◌<ℤ◌, ◌↔◌}
@@ -21,7 +21,7 @@ use Rattle.qh_polygon.specs.steps.Chains.{turned_onto}
 bracket-opposite : (h w n : Vector) → dot (cross_product (opposite h) w) n ≡ neg_ℤ (dot (cross_product h w) n)
 bracket-opposite h w n = ring (put h (put w (put n []))) (dotE (crossE (oppositeE (vec 0)) (vec 1)) (vec 2)) (neg (dotE (crossE (vec 0) (vec 1)) (vec 2))) refl
 
--- heights the other way round differ too
+-- heights in the opposite direction differ, too
 pub keyed_opposite : (h : Vector) (at : ℕ → Vector) (A : ℕ → Type 0) → IsKeyed h at A → IsKeyed (opposite h) at A
 keyed_opposite h at A k = record { same = λ i j ai aj e. k.same i j ai aj (opposite_same _ _ _ _ (dot-opposite h (at i)) (dot-opposite h (at j)) e) }
 
@@ -34,7 +34,7 @@ pub record Chains (n h : Vector) (at : ℕ → Vector) (A : ℕ → Type 0) (m :
   pub last : (x : ℕ) → A x → height_of h at x ≤ℤ height_of h at m
   pub first : (x : ℕ) → A x → height_of (opposite h) at x ≤ℤ height_of (opposite h) at z
 
--- one chain, whose heights the other way round are those along k
+-- one chain, whose heights in the opposite direction are those along k
 module _ (n h k : Vector) (at : ℕ → Vector) (A : ℕ → Type 0) (flat : IsFlat n at A) (keyed : IsKeyed h at A) (m a : ℕ) (s : List ℕ)
     (g : IsChain (turn_about n at) (height_of h at) A m (a ∷ s)) (last : (x : ℕ) → A x → height_of h at x ≤ℤ height_of h at m) where
   -- its edges are sides
@@ -49,7 +49,7 @@ module _ (n h k : Vector) (at : ℕ → Vector) (A : ℕ → Type 0) (flat : IsF
   way_ends turned z az first = let c = chain-bottom (turn_about n at) (height_of h at) A m (a ∷ s) g in
       keyed.same (bottom a s) z c.0 az (le_antisym _ _ (c.1 z az) (turned (bottom a s) z (first (bottom a s) c.0)))
 
-  -- what is no member of it is not beyond all of it along w, where w leans so
+  -- an id that is not a member of the chain is not beyond all of it along w, if w has this direction
   way_beyond : (e : ℕ) → A e → (In e (m ∷ a ∷ s) → ⊥) → (w : Vector) → ((x : ℕ) → In x (m ∷ a ∷ s) → dot w (at x) <ℤ dot w (at e))
       → dot (cross_product h w) n ≤ℤ pos 0 → ⊥
   way_beyond e ae out w past lean =
@@ -58,26 +58,26 @@ module _ (n h k : Vector) (at : ℕ → Vector) (A : ℕ → Type 0) (flat : IsF
       core n h w at A flat p.u p.v e p.is_u p.is_v ae p.before p.after (past p.u p.has_u) (past p.v p.has_v) (mul-nonneg_nonpos _ _ (p.edge e ae) lean)
 
 module _ (n h : Vector) (at : ℕ → Vector) (A : ℕ → Type 0) (m a : ℕ) (s : List ℕ) (z b : ℕ) (r : List ℕ) (c : Chains n h at A m (a ∷ s) z (b ∷ r)) where
-  -- heights the other way round differ too
+  -- heights in the opposite direction differ, too
   kb : IsKeyed (opposite h) at A
   kb = keyed_opposite h at A c.keyed
 
-  -- they are turned round, there and back
+  -- the order of heights is reversed, there and back
   there : (u v : ℕ) → height_of h at u ≤ℤ height_of h at v → height_of (opposite h) at v ≤ℤ height_of (opposite h) at u
   there u v = le_neg _ _ _ _ (dot-opposite h (at v)) (dot-opposite h (at u))
 
   back : (u v : ℕ) → height_of (opposite h) at u ≤ℤ height_of (opposite h) at v → height_of h at v ≤ℤ height_of h at u
   back u v = neg_le _ _ _ _ (dot-opposite h (at u)) (dot-opposite h (at v))
 
-  -- the sides of the way there
+  -- the sides of the path there
   lower_sides : Down (Side n at A) m (a ∷ s)
   lower_sides = way_sides n h (opposite h) at A c.flat c.keyed m a s c.lower c.last kb there
 
-  -- the sides of the way back
+  -- the sides of the path back
   upper_sides : Down (Side n at A) z (b ∷ r)
   upper_sides = way_sides n (opposite h) h at A c.flat kb z b r c.upper c.first c.keyed back
 
-  -- the way there begins where the way back ends
+  -- the path there begins where the path back ends
   lower_ends : bottom a s ≡ z
   lower_ends = way_ends n h (opposite h) at A c.flat c.keyed m a s c.lower c.last back z c.upper.0 c.first
 
@@ -85,18 +85,18 @@ module _ (n h : Vector) (at : ℕ → Vector) (A : ℕ → Type 0) (m a : ℕ) (
   upper_ends : bottom b r ≡ m
   upper_ends = way_ends n (opposite h) h at A c.flat kb z b r c.upper c.first there m c.lower.0 c.last
 
-  -- the way round
+  -- the cycle
   abbrev ring_list : List ℕ
   ring_list = turned_onto (a ∷ s) (turned_onto (b ∷ r) [])
 
-  -- it has the way there, with its end
+  -- the cycle contains the path there, with its end
   in_lower : (x : ℕ) → In x (m ∷ a ∷ s) → In x ring_list
   in_lower x i = in-turned_onto (a ∷ s) (turned_onto (b ∷ r) []) x (elim i [
     | inl e ↦ inr (in-turned_onto (b ∷ r) [] x (inl (subst (λ v. In v (b ∷ r)) (upper_ends ∙ sym e) (bottom-in b r))))
     | inr k ↦ inl k
   ])
 
-  -- and the way back
+  -- and the path back
   in_upper : (x : ℕ) → In x (z ∷ b ∷ r) → In x ring_list
   in_upper x i = in-turned_onto (a ∷ s) (turned_onto (b ∷ r) []) x (elim i [
     | inl e ↦ inl (subst (λ v. In v (a ∷ s)) (lower_ends ∙ sym e) (bottom-in a s))
@@ -119,7 +119,7 @@ module _ (n h : Vector) (at : ℕ → Vector) (A : ℕ → Type 0) (m a : ℕ) (
       (neg_lt _ _ _ _ (dot-opposite h (at i.q)) (dot-opposite h (at v)) i.before) (u.edge i.t i.is_t) (u.edge i.q i.is_q) in
       omega (arith, ints, k.swap v i.q i.t, back, i.sharp)
 
-  -- no inner id is on both ways
+  -- no inner id is on both paths
   disjoint : (v : ℕ) → In v (a ∷ s) → In v (b ∷ r) → ⊥
   disjoint v i j =
       let av = chain-in (turn_about n at) (height_of h at) A m (a ∷ s) c.lower v (inr i) in
@@ -130,14 +130,14 @@ module _ (n h : Vector) (at : ℕ → Vector) (A : ℕ → Type 0) (m a : ℕ) (
       meet v av u k) (inside (turn_about n at) (height_of (opposite h) at) A z (b ∷ r) c.upper v j))
       (under (turn_about n at) (height_of h at) A m (a ∷ s) c.lower v (inr i))
 
-  -- each stands once
+  -- each occurs once
   pub ring_once : Once ring_list
   ring_once =
       once-turned_onto (a ∷ s) (turned_onto (b ∷ r) []) (chain-once (turn_about n at) (height_of h at) A m (a ∷ s) c.lower).1
       (once-turned_onto (b ∷ r) [] (chain-once (turn_about n at) (height_of (opposite h) at) A z (b ∷ r) c.upper).1 tt (λ x i j. j))
       (λ x i j. disjoint x i (⊎_elim (λ l. l) (λ l. absurd l) (turned_onto-in (b ∷ r) [] x j)))
 
-  -- a side turns left to all others
+  -- a side turns left to all other members
   turns : (u v : ℕ) → Side n at A u v → TurnsLeft at n ring_list u v
   turns u v e w i wu wv = let cw = corners w i in strict n h at A c.flat c.keyed u v w e.from e.to cw e.apart wu wv (e.edge w cw.member)
 
@@ -147,7 +147,7 @@ module _ (n h : Vector) (at : ℕ → Vector) (A : ℕ → Type 0) (m a : ℕ) (
       cycle_map (Side n at A) (TurnsLeft at n ring_list) turns ring_list (cycle-of (Side n at A) m a s z b r lower_sides upper_sides lower_ends upper_ends)
 
   -- ---- the extremes are members
-  -- what is not on the way round is not beyond all of it
+  -- an id that is not on the cycle is not beyond all of it
   beyond_all : (e : ℕ) → A e → (In e ring_list → ⊥) → Separator at (λ x. In x ring_list) (at e) → ⊥
   beyond_all e ae out f =
       by_lt_z (pos 0) (dot (cross_product h f.w) n)
@@ -155,13 +155,13 @@ module _ (n h : Vector) (at : ℕ → Vector) (A : ℕ → Type 0) (m a : ℕ) (
       (omega (arith, ints, bracket-opposite h f.w n)))
       (way_beyond n h (opposite h) at A c.flat c.keyed m a s c.lower c.last e ae (λ i. out (in_lower e i)) f.w (λ x i. f.past x (in_lower x i)))
 
-  -- so each extreme is on it
+  -- so each extreme id is on it
   extreme_in : (e : ℕ) → Extreme at A e → In e ring_list
   extreme_in e x = ⊎_elim (λ i. i)
       (λ out. absurd (⊎_elim (λ f. x.1 (combination_within at (λ v. In v ring_list) (Others A e) (at e) f
       (λ j i. ((corners j i).member, λ k. out (subst (λ v. In v ring_list) k i)))))
       (beyond_all e x.0 out) (alternative_in at (λ v. In v ring_list) ring_list (listed_itself ring_list) (at e)))) (in_or_not e ring_list)
 
-  -- the way round has the extremes and nothing else
+  -- the cycle has exactly the extreme ids
   pub ring_members : (i : ℕ) → In i ring_list ↔ Extreme at A i
   ring_members i = (λ k. corner_extreme at A i (corners i k), extreme_in i)

@@ -13,11 +13,11 @@ IsInLine pts i j k = AreInLine (place pts i) (place pts j) (place pts k)
 abbrev pub IsInPlane : List Vector → ℕ → ℕ → ℕ → ℕ → Type 0
 IsInPlane pts i j k l = vol (place pts i) (place pts j) (place pts k) (place pts l) ≡ pos 0
 
--- P holds of each id
+-- P holds for each id
 abbrev pub Each : (ℕ → Type 0) → List ℕ → Type 0
 Each P ids = (m : ℕ) → m < length ids → P (slice_index ids m)
 
--- k is the first of the ids that P does not hold of
+-- k is the first of the ids for which P does not hold
 pub record IsFirstNot (P : ℕ → Type 0) (ids : List ℕ) (k : ℕ) : Type 0 where
   pub at : ℕ
   pub within : at < length ids
@@ -31,14 +31,14 @@ pub record AreFirstTwo (ids : List ℕ) (i j : ℕ) : Type 0 where
   pub first : slice_index ids 0 ≡ i
   pub second : slice_index ids 1 ≡ j
 
--- the one id; or the first two with all in line; or the first off their line with all in one plane; or the first off that plane
+-- the only id; or the first two with all in line; or the first off their line with all in one plane; or the first off that plane
 abbrev pub IsShape : List Vector → List ℕ → Shape → Type 0
 IsShape pts ids (Point i) = (length ids ≡ 1) × (slice_index ids 0 ≡ i)
 IsShape pts ids (Segment i j) = AreFirstTwo ids i j × Each (IsInLine pts i j) ids
 IsShape pts ids (Flat i j k) = AreFirstTwo ids i j × IsFirstNot (IsInLine pts i j) ids k × Each (IsInPlane pts i j k) ids
 IsShape pts ids (Solid i j k l) = AreFirstTwo ids i j × IsFirstNot (IsInLine pts i j) ids k × IsFirstNot (IsInPlane pts i j k) ids l
 
--- the dimension that a shape tells
+-- the dimension of a shape
 abbrev pub dimension_of : Shape → ℕ
 dimension_of (Point i) = 0
 dimension_of (Segment i j) = 1

@@ -1,5 +1,4 @@
--- Points that a look finds inside a set in one plane, to the left of all sides of a cycle. Only private functions speak
--- of them.
+-- Points that the interior filter finds inside a set in one plane, to the left of all sides of a cycle. Only private functions cite them.
 use Rattle.std.specs.Prelude.{◌≡◌, ◌<◌, ℕ, ℤ, pos, ◌<ℤ◌, List, [], ◌∷◌, Bool, false, not, ◌&&◌, length}
 use Rattle.qh_model.specs.contract.IdSets.{IsIdSet}
 use Rattle.qh_model.specs.headline.Predicates.{place}
@@ -7,17 +6,17 @@ use Rattle.qh_model.specs.headline.Sets.{In}
 use Rattle.qh_model.specs.headline.Vector.{Vector, minus, dot}
 use Rattle.qh_polygon.specs.steps.Chains.{is_left}
 
--- whether p lies to the left of each side of the way from u along the list to e
+-- true if p lies to the left of each side of the path from u along the list to e
 abbrev pub is_left_along : (ℕ → ℕ → ℕ → ℤ) → ℕ → ℕ → List ℕ → ℕ → Bool
 is_left_along turn p u [] e = is_left (turn u e p)
 is_left_along turn p u (v ∷ r) e = is_left (turn u v p) && is_left_along turn p v r e
 
--- whether p lies to the left of each side of the cycle
+-- true if p lies to the left of each side of the cycle
 abbrev pub is_inside : (ℕ → ℕ → ℕ → ℤ) → List ℕ → ℕ → Bool
 is_inside turn [] p = false
 is_inside turn (t ∷ r) p = is_left_along turn p t r t
 
--- whether it does not
+-- true if it does not
 abbrev pub is_outside : (ℕ → ℕ → ℕ → ℤ) → List ℕ → ℕ → Bool
 is_outside turn cycle p = not (is_inside turn cycle p)
 

@@ -1,4 +1,4 @@
--- The ids of sorted keys. Only private functions speak of them.
+-- The ids of sorted keys. Only private functions cite them.
 use Rattle.std.specs.Prelude.{ℕ, ◌%◌, ◌≡◌, List, map, IsPermutation}
 use Rattle.std.specs.List.Sorted.{IsNonDecreasing}
 use Rattle.qh_model.specs.headline.Vector.{Vector}

@@ -1,14 +1,13 @@
--- How large a difference and a cross product of points get: the limits follow from that of coordinates.
+-- The greatest sizes of a difference and a cross product of points. They follow from the limit of coordinates.
 use Rattle.std.specs.Prelude.{ℕ, ◌*◌, ◌≤◌, unsigned_abs}
 use Rattle.qh_model.specs.declared.limits.TheConstants.{COORDINATE_LIMIT}
 use Rattle.qh_model.specs.headline.Vector.{Vector}
 
--- the greatest size of a difference of two coordinates
+-- the greatest absolute value of a difference of two coordinates
 abbrev pub difference_limit : ℕ
 difference_limit = 2 * COORDINATE_LIMIT
 
--- the greatest size of a component of a cross product of two differences from one point: twice the area of a triangle
--- in a square of that side
+-- the greatest absolute value of a component of a cross product of two differences from one point: twice the area of a triangle in a square of that side
 abbrev pub normal_limit : ℕ
 normal_limit = difference_limit * difference_limit
 

@@ -1,15 +1,15 @@
--- Boxes with sides along the axes, and their corners. This project's own.
+-- Axis-parallel boxes and their corners. This project's own.
 use Rattle.std.specs.Prelude.{◌≡◌, ◌⊎◌, ◌≤ℤ◌}
 use Rattle.qh_model.specs.headline.Vector.{Vector}
 use Rattle.qh_pred.specs.contract.Ranges.{IsBetween}
 
--- no greater along any axis
+-- p is no greater than q along any axis
 pub record IsUnder (p q : Vector) : Type 0 where
   pub x : p.x ≤ℤ q.x
   pub y : p.y ≤ℤ q.y
   pub z : p.z ≤ℤ q.z
 
--- r is a corner of the box that p and q span: along each axis it lies where one of them does
+-- r is a corner of the box that p and q span: each of its coordinates is that of p or that of q
 pub record IsCornerOf (p q r : Vector) : Type 0 where
   pub x : (r.x ≡ p.x) ⊎ (r.x ≡ q.x)
   pub y : (r.y ≡ p.y) ⊎ (r.y ≡ q.y)

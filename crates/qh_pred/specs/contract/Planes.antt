@@ -8,6 +8,6 @@ pub record PlaneValue : Type 0 where
   pub normal : Vector
   pub offset : ℤ
 
--- how far a point is above the plane, times the length of the normal
+-- the height of a point above the plane, times the length of the normal
 abbrev pub height : PlaneValue → Vector → ℤ
 height plane p = dot plane.normal p -ℤ plane.offset

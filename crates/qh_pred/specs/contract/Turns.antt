@@ -1,10 +1,10 @@
--- Turns in a plane, told by one component of its normal.
+-- Turns in a plane, determined by one component of its normal.
 use Rattle.std.specs.Prelude.{ℤ, pos, ◌≡◌, ◌≢◌, ◌*ℤ◌, if◌then◌else◌}
 use Rattle.std.specs.Ordering.{int_cmp, int_eq}
 use Rattle.std.specs.declared.cmp.Ordering.{Ordering}
 use Rattle.qh_model.specs.headline.Vector.{Vector, origin, minus, dot}
 
--- how a number compares with 0
+-- the order of a number relative to 0
 abbrev pub sign : ℤ → Ordering
 sign z = int_cmp z (pos 0)
 

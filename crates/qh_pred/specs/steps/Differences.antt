@@ -1,9 +1,9 @@
--- How large differences of points and offsets of planes are.
+-- The greatest sizes of differences of points and offsets of planes.
 use Rattle.std.specs.Prelude.{ℕ, ◌*◌, ◌≤◌, unsigned_abs}
 use Rattle.qh_model.specs.headline.Vector.{Vector}
 use Rattle.qh_pred.specs.contract.Bounds.{difference_limit, normal_limit}
 
--- the greatest size of a scalar product of two such vectors, by its three products
+-- a limit of the absolute value of a scalar product of two vectors within `normal_limit`: a sum of three products
 abbrev pub offset_limit : ℕ
 offset_limit = 3 * (normal_limit * normal_limit)
 

@@ -1,4 +1,4 @@
--- What a plane of the program keeps.
+-- The invariant of a plane of the program.
 use Rattle.std.specs.Prelude.{ℤ, ◌≤◌, unsigned_abs, refl}
 use Rattle.std.specs.Coded.{Coded, code_by, coded×, coded_ℤ}
 use Rattle.qh_model.specs.headline.Vector.{Vector}

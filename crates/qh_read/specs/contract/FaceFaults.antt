@@ -1,4 +1,4 @@
--- The first fault of words that are no faces. The order of the faults is this project's profile.
+-- The first fault of words that are not faces. The order of the faults is this project's profile.
 use Rattle.std.specs.Prelude.{ℕ, ◌==◌, List, [], ◌∷◌, Option, Some, None, if◌then◌else◌, zero, suc}
 use Rattle.qh_model.specs.declared.read_fault.ReadFault.{ReadFault}
 use Rattle.qh_model.specs.declared.read_fault.ReadFault.TheVariants.{BadNumber, Long, Short}
@@ -7,22 +7,22 @@ use Rattle.qh_read.specs.declared.faces.reading.Layout.{Layout}
 use Rattle.qh_read.specs.declared.faces.reading.Layout.TheVariants.{Off, Counted, Lines}
 use Rattle.qh_read.specs.contract.FaceWords.{after_line}
 
--- what is wrong with a word that is no number, or with what comes after a number and its line
+-- the fault of a word that is not a number, or of the words after a number and its line
 abbrev pub value_fault : (ℕ → ℕ → List Numeral → Option ReadFault) → Option ℕ → ℕ → List Numeral → Option ReadFault
 value_fault after None line ws = Some (BadNumber line)
 value_fault after (Some n) line ws = after n line ws
 
--- the next word is a number
+-- the fault if the next word is not a number, else that of the rest
 abbrev pub number_fault : (ℕ → ℕ → List Numeral → Option ReadFault) → List Numeral → Option ReadFault
 number_fault after [] = Some Short
 number_fault after (w ∷ ws) = value_fault after w.number w.line ws
 
--- a number of corners are to come after a word of this line, and then what is wrong with the rest
+-- the fault if a number of corners is expected after a word on this line, and then that of the rest
 abbrev pub corners_fault : (ℕ → List Numeral → Option ReadFault) → ℕ → ℕ → List Numeral → Option ReadFault
 corners_fault after zero line ws = after line ws
 corners_fault after (suc n) line ws = number_fault (λ corner next rest. corners_fault after n next rest) ws
 
--- corners are to come as long as this line goes on
+-- the fault if corners are expected as long as this line continues
 abbrev pub line_fault : (List Numeral → Option ReadFault) → ℕ → List Numeral → Option ReadFault
 line_fault after line [] = after []
 line_fault after line (w ∷ ws) =
@@ -35,18 +35,18 @@ counted_face_fault after ws =
 abbrev pub line_face_fault : (List Numeral → Option ReadFault) → List Numeral → Option ReadFault
 line_face_fault after ws = number_fault (λ corner line rest. line_fault after line rest) ws
 
--- a face is to come
+-- the fault if a face is expected
 abbrev pub face_fault : Layout → (List Numeral → Option ReadFault) → List Numeral → Option ReadFault
 face_fault Off after ws = counted_face_fault after ws
 face_fault Counted after ws = counted_face_fault after ws
 face_fault Lines after ws = line_face_fault after ws
 
--- a number of faces are to come, and nothing more
+-- the fault if a number of faces is expected, and no further word
 abbrev pub faces_fault : Layout → ℕ → List Numeral → Option ReadFault
 faces_fault layout zero [] = None
 faces_fault layout zero (w ∷ ws) = Some (Long w.line)
 faces_fault layout (suc n) ws = face_fault layout (λ rest. faces_fault layout n rest) ws
 
--- the number of faces is to come, and then these
+-- the fault if the number of faces is expected, and then the faces
 abbrev pub list_fault : Layout → List Numeral → Option ReadFault
 list_fault layout ws = number_fault (λ count line rest. faces_fault layout count rest) ws

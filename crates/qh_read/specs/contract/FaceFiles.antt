@@ -1,6 +1,6 @@
--- Which faces a file has, and what is wrong with one that has none.
--- Source: Geomview OFF (the keyword, the numbers of vertices, faces and edges, the vertices, the faces); Qhull's options `i` and
--- `Fv` (the number of faces, the faces).
+-- The faces in a file, and the fault of a file without them.
+-- Source: Geomview OFF (the keyword, the numbers of vertices, faces and edges, the vertices, the faces); Qhull's options `i` and `Fv` (the number of faces, the
+-- faces).
 use Rattle.std.specs.Prelude.{ℕ, ◌≡◌, ◌≤◌, ◌<◌, ◌*◌, ◌⊎◌, List, [], ◌∷◌, ◌++◌, length, Some}
 use Rattle.qh_model.specs.declared.limits.TheConstants.{BYTE_LIMIT}
 use Rattle.qh_model.specs.declared.form.Form.TheVariants as forms
@@ -16,7 +16,7 @@ use Rattle.qh_read.specs.declared.faces.reading.Reading.{Reading}
 use Rattle.qh_read.specs.contract.FaceFaults.{list_fault}
 use Rattle.qh_read.specs.contract.FaceWords.{IsList}
 
--- the list of faces of an OFF file of these vertices: its number is the third word, and the faces come after the coordinates
+-- the list of faces of an OFF file with these vertices: its number is the third word, and the faces follow the coordinates
 pub record IsOffList (bytes : List ℕ) (vertices : List Vector) (ws : List Numeral) : Type 0 where
   pub before : ReadsIn forms.Off bytes vertices
   pub keyword : Numeral
@@ -46,13 +46,13 @@ abbrev pub ReadsFaces : Reading → List ℕ → List Vector → List (List ℕ)
 ReadsFaces reading bytes vertices faces =
     (ws : List Numeral) × IsListOf reading.layout bytes vertices ws × IsList reading.layout reading.turn ws faces
 
--- what is wrong before the list of faces
+-- the fault in the words before the list of faces
 abbrev pub IsFaultBefore : Layout → List ℕ → ReadFault → Type 0
 IsFaultBefore Off bytes e = IsFirstFault forms.Off bytes e
 IsFaultBefore Counted bytes e = (BYTE_LIMIT < length bytes) × (e ≡ Big)
 IsFaultBefore Lines bytes e = (BYTE_LIMIT < length bytes) × (e ≡ Big)
 
--- the first fault of the file: one before the list of faces, or else one of the list
+-- the first fault of the file: one before the list of faces, or else one in the list
 abbrev pub IsFileFault : Layout → List ℕ → ReadFault → Type 0
 IsFileFault layout bytes e =
     IsFaultBefore layout bytes e

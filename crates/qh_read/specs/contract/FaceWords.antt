@@ -1,6 +1,6 @@
--- Which words of a text are faces.
--- Source: Geomview OFF (a face is its number of corners, their indices from 0, and then a colour or none, to the end of the
--- line); Qhull's options `Fv` (such faces) and `i` (a face is a line of indices, without their number).
+-- The words of a text that are faces.
+-- Source: Geomview OFF (a face is its number of corners, their indices from 0, and an optional colour up to the end of the line); Qhull's options `Fv` (such
+-- faces) and `i` (a face is a line of indices, without their number).
 use Rattle.std.specs.Prelude.{ℕ, ◌≡◌, ◌==◌, List, [], ◌∷◌, ◌++◌, map, reverse, length, Some, if◌then◌else◌}
 use Rattle.qh_read.specs.declared.numerals.Numeral.{Numeral}
 use Rattle.qh_read.specs.declared.faces.reading.Layout.{Layout}
@@ -8,12 +8,12 @@ use Rattle.qh_read.specs.declared.faces.reading.Layout.TheVariants.{Off, Counted
 use Rattle.qh_read.specs.declared.faces.reading.Turn.{Turn}
 use Rattle.qh_read.specs.declared.faces.reading.Turn.TheVariants.{Counterclockwise, Clockwise}
 
--- the words that stand on a line, as far as they come first
+-- the leading words that are on this line
 abbrev pub on_line : ℕ → List Numeral → List Numeral
 on_line line [] = []
 on_line line (w ∷ ws) = if w.line == line then w ∷ on_line line ws else []
 
--- and the words after these
+-- the words after these
 abbrev pub after_line : ℕ → List Numeral → List Numeral
 after_line line [] = []
 after_line line (w ∷ ws) = if w.line == line then after_line line ws else w ∷ ws
@@ -27,7 +27,7 @@ last_line line (w ∷ ws) = last_line w.line ws
 abbrev pub AreNumbers : List Numeral → List ℕ → Type 0
 AreNumbers ws ns = map (λ w. w.number) ws ≡ map Some ns
 
--- first come the number of corners, the corners, and whatever stands behind these on their last line
+-- first the number of corners, then the corners, and further words on their last line
 pub record IsCountedFace (ws : List Numeral) (corners : List ℕ) (rest : List Numeral) : Type 0 where
   pub count : Numeral
   pub own : List Numeral
@@ -37,7 +37,7 @@ pub record IsCountedFace (ws : List Numeral) (corners : List ℕ) (rest : List N
   pub numbers : AreNumbers own corners
   pub after : rest ≡ after_line (last_line count.line own) left
 
--- first come the corners, which are all words of a line
+-- first the corners, which are all words of a line
 pub record IsLineFace (ws : List Numeral) (corners : List ℕ) (rest : List Numeral) : Type 0 where
   pub first : Numeral
   pub left : List Numeral
@@ -50,18 +50,18 @@ IsFace Off ws corners rest = IsCountedFace ws corners rest
 IsFace Counted ws corners rest = IsCountedFace ws corners rest
 IsFace Lines ws corners rest = IsLineFace ws corners rest
 
--- corners in the order in which they go counterclockwise
+-- corners in counterclockwise order
 abbrev pub turned : Turn → List ℕ → List ℕ
 turned Counterclockwise corners = corners
 turned Clockwise corners = reverse corners
 
--- the words are these faces, one after another, and no more
+-- the words are these faces, one after another, and nothing else
 abbrev pub AreFaces : Layout → Turn → List Numeral → List (List ℕ) → Type 0
 AreFaces layout turn ws [] = ws ≡ []
 AreFaces layout turn ws (f ∷ fs) =
     (corners : List ℕ) × (rest : List Numeral) × IsFace layout ws corners rest × (f ≡ turned turn corners) × AreFaces layout turn rest fs
 
--- they are the number of faces, and then these
+-- the words are the number of faces, and then the faces
 pub record IsList (layout : Layout) (turn : Turn) (ws : List Numeral) (faces : List (List ℕ)) : Type 0 where
   pub count : Numeral
   pub rest : List Numeral

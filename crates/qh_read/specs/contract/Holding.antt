@@ -1,4 +1,4 @@
--- What a reader holds of the bytes so far.
+-- The state of a reader after the bytes so far.
 use Rattle.std.specs.Prelude.{ℕ, ◌≡◌, ◌+◌, Bool, true, false, List, [], ◌∷◌, ◌==◌, if◌then◌else◌, length}
 use Rattle.qh_model.specs.headline.Words.{is_blank, is_data}
 use Rattle.std.specs.Char.{is_ascii_digit}
@@ -9,7 +9,7 @@ use Rattle.qh_read.specs.contract.Progress.{Progress, started, after}
 use Rattle.qh_read.specs.declared.token.Token.{Token}
 use Rattle.qh_read.specs.declared.token.Token.TheVariants.{Empty, Sign, Digits, Keyword, Other}
 
--- the form, how far the words fill the file in, the word under way, whether a comment runs, and the line
+-- the form, the progress, the unfinished word, whether a comment is unfinished, and the line
 pub record Held : Type 0 where
   pub form : Form
   pub progress : Progress
@@ -20,7 +20,7 @@ pub record Held : Type 0 where
 abbrev pub held_at_start : Form → Held
 held_at_start form = record { form = form; progress = started form; token = Empty; comment = false; line = 1 }
 
--- the word under way ends
+-- the unfinished word ends
 abbrev pub word_ended : Progress → Token → ℕ → Progress
 word_ended p Empty line = p
 word_ended p (Sign minus) line = after p (is_keyword (Sign minus)) (value_of (Sign minus)) line
@@ -31,7 +31,7 @@ word_ended p Other line = after p (is_keyword Other) (value_of Other) line
 abbrev pub ended_held : Held → Held
 ended_held h = record h { progress = word_ended h.progress h.token h.line; token = Empty }
 
--- in a point file, the byte goes on with a word, or begins one, or begins a comment
+-- in a point file, the byte continues a word, or begins a word, or begins a comment
 abbrev pub held_begun : Held → Token → ℕ → Held
 held_begun h Empty c = if is_data (c ∷ []) then record h { token = grown Empty c } else record h { comment = true }
 held_begun h (Sign minus) c = record h { token = grown (Sign minus) c }
@@ -39,12 +39,12 @@ held_begun h (Digits minus n) c = record h { token = grown (Digits minus n) c }
 held_begun h (Keyword letters) c = record h { token = grown (Keyword letters) c }
 held_begun h Other c = record h { token = grown Other c }
 
--- a byte that is no digit and parts no words; in an OFF file, `#` ends a word and begins a comment
+-- a byte that is neither a digit nor a separator; in an OFF file, `#` ends a word and begins a comment
 abbrev pub held_marked : Form → Held → ℕ → Held
 held_marked Qhull h c = held_begun h h.token c
 held_marked Off h c = if c == 35 then record (ended_held h) { comment = true } else record h { token = grown h.token c }
 
--- one byte more
+-- the state after one more byte
 abbrev pub next_held : Held → ℕ → Held
 next_held h c =
     if c == 10 then record (ended_held h) { comment = false; line = h.line + 1 }
@@ -57,12 +57,12 @@ abbrev pub held_by : Held → List ℕ → Held
 held_by h [] = h
 held_by h (c ∷ cs) = held_by (next_held h c) cs
 
--- what a reader holds, and of how many bytes
+-- the state of a reader, and the number of bytes read
 pub record Reading : Type 0 where
   pub held : Held
   pub count : ℕ
 
--- the reader holds what these bytes make in this form, and their number
+-- the state of the reader is that of these bytes in this form, with their number
 pub record Fed (form : Form) (r : Reading) (bytes : List ℕ) : Type 0 where
   pub count : r.count ≡ length bytes
   pub held : r.held ≡ held_by (held_at_start form) bytes

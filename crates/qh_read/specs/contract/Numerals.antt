@@ -1,5 +1,5 @@
--- The words of a text as numbers: those of an OFF file, which stand in no comment.
--- Source: as for OFF files (Geomview OFF; a comment begins at any byte `#`), of which the faces are such numbers.
+-- The words of a text as numbers: those of an OFF file, outside comments.
+-- Source: as for OFF files (Geomview OFF; a comment begins at any byte `#`), whose faces consist of such numbers.
 use Rattle.std.specs.Prelude.{ℕ, ℤ, pos, negsuc, List, [], ◌∷◌, ◌≢◌, map, nat_le, if◌then◌else◌, Option, Some, None}
 use Rattle.qh_model.specs.declared.limits.TheConstants.{COORDINATE_LIMIT}
 use Rattle.qh_model.specs.headline.Words.{Word}
@@ -13,7 +13,7 @@ small_number None = None
 small_number (Some (pos n)) = if nat_le n COORDINATE_LIMIT then Some n else None
 small_number (Some (negsuc n)) = None
 
--- a word as a number from 0 to the limit, if it is one, and its line
+-- a word as a number from 0 to the limit, if it is one, with its line
 abbrev pub numeral_of : Word → Numeral
 numeral_of w = record { number = small_number (number_of w.text); line = w.line }
 
@@ -21,7 +21,7 @@ numeral_of w = record { number = small_number (number_of w.text); line = w.line 
 abbrev pub numerals_in : List ℕ → List Numeral
 numerals_in bytes = map numeral_of (off_words bytes)
 
--- none of the words is left, or the next stands on another line
+-- no word remains, or the next one is on a different line
 abbrev pub IsElsewhere : ℕ → List Numeral → Type 0
 IsElsewhere line [] = Unit {0}
 IsElsewhere line (w ∷ ws) = w.line ≢ line

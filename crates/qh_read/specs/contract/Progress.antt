@@ -1,4 +1,4 @@
--- How far the words have filled the file in.
+-- The progress of the words through the file.
 use Rattle.std.specs.Prelude.{ℕ, ℤ, pos, negsuc, Bool, true, false, List, [], ◌∷◌, ◌++◌, ◌*◌, ◌&&◌, if◌then◌else◌, nat_le, zero, suc, Option, Some, None}
 use Rattle.qh_model.specs.declared.limits.TheConstants.{POINT_LIMIT}
 use Rattle.qh_model.specs.headline.Limits.{is_coordinate}
@@ -10,8 +10,8 @@ use Rattle.qh_model.specs.declared.read_fault.ReadFault.TheVariants as faults
 use Rattle.qh_read.specs.declared.builder.Trailing.{Trailing}
 use Rattle.qh_read.specs.declared.builder.Trailing.TheVariants.{Refused, Ignored}
 
--- what the next word is to be; `wants` has what becomes of the words after the coordinates, the number of coordinates to
--- come and those that came, and the counts of an OFF file have the number of vertices, once it is known
+-- the kind of the next word; `wants` has the treatment of words after the coordinates, the number of coordinates to come and the coordinates so far; the counts
+-- of an OFF file have the number of vertices, once it is known
 pub data Progress : Type 0 where
   wants_first : Progress
   wants_second : ℤ → Progress
@@ -27,29 +27,29 @@ abbrev pub started : Form → Progress
 started Qhull = wants_first
 started Off = wants_keyword
 
--- the coordinates of this number of points are to come
+-- the coordinates of this number of points are expected
 abbrev pub counted : Trailing → ℤ → Progress
 counted trailing (pos n) = if nat_le 1 n && nat_le n POINT_LIMIT then wants trailing (3 * n) [] else fails faults.Count
 counted trailing (negsuc n) = fails faults.Count
 
--- 3 is the dimension, first of all where it stands first
+-- 3 is the dimension; if both numbers are 3, the first is
 abbrev pub headed : ℤ → ℤ → Progress
 headed first second =
     if is_three first then counted Refused second
     else if is_three second then counted Refused first
     else fails faults.NotThree
 
--- one coordinate more, if it is in range, and what comes next
+-- the progress after one more coordinate, if it is in range
 abbrev pub took : (List ℤ → Progress) → List ℤ → ℕ → ℤ → Progress
 took next taken line z =
     if is_coordinate z then next (taken ++ z ∷ []) else fails (faults.Range line)
 
--- one word after the last coordinate
+-- the progress after one more word after the last coordinate
 abbrev pub trailed : Trailing → List ℤ → ℕ → Progress
 trailed Refused taken line = fails (faults.Long line)
 trailed Ignored taken line = wants Ignored zero taken
 
--- one word more: whether it is `OFF`, and its number or none
+-- the progress after one more word, given whether it is `OFF`, and its number, if it has one
 abbrev pub after : Progress → Bool → Option ℤ → ℕ → Progress
 after wants_first keyword None line = fails (faults.BadNumber line)
 after wants_first keyword (Some z) line = wants_second z

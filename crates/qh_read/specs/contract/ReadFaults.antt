@@ -1,4 +1,4 @@
--- Which fault a call may answer.
+-- The faults that a call may return.
 use Rattle.std.specs.Prelude.{ℕ, ◌≡◌, ◌≢◌, ◌⊎◌, List}
 use Rattle.qh_model.specs.headline.Forms.{IsFirstFault}
 use Rattle.qh_model.specs.declared.form.Form.{Form}
@@ -15,7 +15,7 @@ IsTextFault f = (f ≢ Memory) × (f ≢ Device) × (f ≢ Big)
 abbrev pub IsFaultOf : Form → List ℕ → ReadFault → Type 0
 IsFaultOf form bytes f = (f ≡ Memory) ⊎ IsFirstFault form bytes f
 
--- a refusal to take a piece, as a fault of reading
+-- the refusal of a piece, as a fault of reading
 abbrev pub read_fault : FeedFault → ReadFault
 read_fault refusals.Big = Big
 read_fault refusals.Memory = Memory

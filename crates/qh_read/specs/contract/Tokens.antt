@@ -1,15 +1,15 @@
--- What is kept of the word under way: a sign, and digits with their value up to a cap; or letters of the keyword `OFF`.
+-- The token of an unfinished word: a sign, and digits with their value up to a cap; or letters of the keyword `OFF`.
 use Rattle.std.specs.Prelude.{ℕ, ℤ, pos, neg_ℤ, Bool, true, false, ◌==◌, ◌+◌, ◌-◌, ◌*◌, min, if◌then◌else◌, Option, Some, None}
 use Rattle.std.specs.Char.{is_ascii_digit}
 use Rattle.qh_read.specs.declared.token.TheConstants.{MAGNITUDE_CAP}
 use Rattle.qh_read.specs.declared.token.Token.{Token}
 use Rattle.qh_read.specs.declared.token.Token.TheVariants.{Empty, Sign, Digits, Keyword, Other}
 
--- a magnitude, as far as magnitudes are told apart
+-- a magnitude up to the cap, above which magnitudes are not distinguished
 abbrev pub cap : ℕ → ℕ
 cap n = min n MAGNITUDE_CAP
 
--- the word with one byte more
+-- the word extended by a byte
 abbrev pub grown : Token → ℕ → Token
 grown Empty c =
     if c == 43 then Sign false

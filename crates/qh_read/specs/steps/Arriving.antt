@@ -1,4 +1,4 @@
--- The words that bytes give which are taken one at a time, as numbers.
+-- The words in bytes that are read one at a time, as numbers.
 use Rattle.std.specs.Prelude.{ℕ, ◌≡◌, ◌≤◌, ◌+◌, ◌==◌, ◌||◌, Bool, true, false, List, [], ◌∷◌, ◌++◌, length, if◌then◌else◌, Option, Some, None}
 use Rattle.std.specs.Option.{option_to_list}
 use Rattle.qh_model.specs.declared.limits.TheConstants.{BYTE_LIMIT}
@@ -14,17 +14,17 @@ use Rattle.qh_read.specs.declared.token.Token.TheVariants.{Empty}
 abbrev pub told : Token → ℕ → Numeral
 told t line = record { number = small_number (value_of t); line = line }
 
--- the same, if a word is under way
+-- the same, if there is an unfinished word
 abbrev pub told_if : Option Token → ℕ → List Numeral
 told_if None line = []
 told_if (Some t) line = told t line ∷ []
 
--- the word under way with one byte more, or a new one
+-- the unfinished word extended by a byte, or a new word
 abbrev pub grown_on : Option Token → ℕ → Token
 grown_on None c = grown Empty c
 grown_on (Some t) c = grown t c
 
--- the words that end among the bytes, of which one may be under way, or a comment
+-- the words that end in the bytes, which may begin in an unfinished word or in a comment
 abbrev pub arriving : Option Token → Bool → ℕ → List ℕ → List Numeral
 arriving t comment line [] = told_if t line
 arriving t comment line (c ∷ cs) =
@@ -38,16 +38,16 @@ arriving t comment line (c ∷ cs) =
 abbrev pub ends_word : ℕ → Bool
 ends_word c = c == 10 || c == 35 || is_blank c
 
--- no byte is left, or the first is one of a word
+-- no byte remains, or the first byte belongs to a word
 abbrev pub BeginsWord : List ℕ → Type 0
 BeginsWord [] = Unit {0}
 BeginsWord (c ∷ cs) = ends_word c ≡ false
 
--- the words that are to come: one that was taken, and those of the rest
+-- the remaining words: a word that was read ahead, and those of the remaining bytes
 abbrev pub to_come : Inside → List Numeral
 to_come n = option_to_list n.head ++ arriving None false n.line n.rest.now
 
--- where none was taken, none is to come; no more lines than bytes
+-- if no word was read ahead, no word remains; there are no more lines than bytes
 pub record IsAhead (n : Inside) : Type 0 where
   pub ends : n.head ≡ None → arriving None false n.line n.rest.now ≡ []
   pub lines : n.line + length n.rest.now ≤ BYTE_LIMIT + 1

@@ -1,4 +1,4 @@
--- What a builder shows of the file so far.
+-- The state of a builder for the file so far.
 use Rattle.std.specs.Prelude.{ℕ, ℤ, ◌≡◌, ◌+◌, ◌*◌, List, ◌++◌, zero, suc, Option, None, Some, vec_len}
 use Rattle.qh_model.specs.headline.Vector.{Vector}
 use Rattle.qh_model.specs.headline.PointFile.{coordinates}
@@ -14,14 +14,14 @@ use Rattle.qh_read.specs.declared.builder.Builder.{Builder}
 abbrev pub taken : Builder → List ℤ
 taken b = coordinates b.points.items ++ pending_list b.pending
 
--- their number
+-- the number of coordinates so far
 abbrev pub taken_count : Builder → ℕ
 taken_count b = 3 * vec_len b.points + pending_count b.pending
 
 abbrev pub shown : Builder → Progress
 shown b = stage_shown b.stage (taken b)
 
--- what a file that ends here lacks
+-- the fault of a file that ends here
 abbrev pub lack : Progress → Option ReadFault
 lack wants_first = Some NoHeader
 lack (wants_second first) = Some NoHeader
@@ -33,7 +33,7 @@ lack (wants_face_count vertices) = Some NoHeader
 lack (wants_edge_count vertices) = Some NoHeader
 lack (fails f) = Some f
 
--- the coordinates, where all that were asked for came
+-- the coordinates, if all expected ones are present
 abbrev pub filled_in : Progress → Option (List ℤ)
 filled_in wants_first = None
 filled_in (wants_second first) = None
@@ -45,6 +45,6 @@ filled_in (wants_face_count vertices) = None
 filled_in (wants_edge_count vertices) = None
 filled_in (fails f) = None
 
--- the points are all that was asked for
+-- the points are all expected ones
 abbrev pub AreAll : Progress → List Vector → Type 0
 AreAll p ps = (q : Pending) × (filled_in p ≡ Some (coordinates ps ++ pending_list q))

@@ -12,7 +12,7 @@ use Rattle.qh_read.specs.contract.FaceFaults.{list_fault}
 use Rattle.qh_read.specs.contract.FaceFiles.{IsOffList, IsWholeList}
 use Rattle.qh_read.specs.contract.FaceWords.{IsList}
 
--- the words without the skipped ones, which stand after the first
+-- the words without the skipped ones, which follow the first word
 abbrev pub behind : ℕ → List Numeral → List Numeral
 behind skipped [] = []
 behind skipped (w ∷ ws) = w ∷ drop skipped ws
@@ -22,7 +22,7 @@ abbrev pub AreOffFaces : Reading → List ℕ → List Vector → List (List ℕ
 AreOffFaces reading bytes vertices faces =
     (ws : List Numeral) × IsOffList bytes vertices ws × IsList reading.layout reading.turn ws faces
 
--- and of one that is a list
+-- the faces of a file that contains nothing but a list
 abbrev pub AreWholeFaces : Reading → List ℕ → List Vector → List (List ℕ) → Type 0
 AreWholeFaces reading bytes vertices faces =
     (ws : List Numeral) × IsWholeList bytes vertices ws × IsList reading.layout reading.turn ws faces

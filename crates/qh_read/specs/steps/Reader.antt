@@ -1,4 +1,4 @@
--- What a reader shows, and what it keeps.
+-- The state of a reader, and its invariant.
 use Rattle.std.specs.Prelude.{◌≤◌, ◌+◌}
 use Rattle.qh_model.specs.declared.limits.TheConstants.{BYTE_LIMIT}
 use Rattle.qh_read.specs.steps.SmallTokens.{IsSmall}
@@ -9,8 +9,8 @@ use Rattle.qh_read.specs.declared.reader.Reader.TheInside.{Inside}
 abbrev pub reading_shown : Inside → Reading
 reading_shown r = record { held = held r.scanner r.token; count = r.count }
 
--- the word's magnitude is within the cap, no more lines than bytes, no more bytes than the limit,
--- and room for the point that the end of the bytes may complete
+-- the word's magnitude is within the cap, there are no more lines than bytes, no more bytes than the limit, and room for the point that the end of the bytes
+-- may complete
 pub record IsSound (r : Inside) : Type 0 where
   pub small : IsSmall r.token
   pub lines : r.scanner.line ≤ r.count + 1

@@ -1,4 +1,4 @@
--- What a scanner shows, and the room that it has.
+-- The state of a scanner, and its room.
 use Rattle.std.specs.Prelude.{ℕ, ◌≤◌, ◌+◌, ◌*◌, vec_capacity}
 use Rattle.qh_read.specs.steps.Building.{shown, taken_count}
 use Rattle.qh_read.specs.contract.Holding.{Held}
@@ -6,11 +6,11 @@ use Rattle.qh_read.specs.declared.token.Token.{Token}
 use Rattle.qh_read.specs.declared.token.Token.TheVariants.{Empty, Sign, Digits, Keyword, Other}
 use Rattle.qh_read.specs.declared.scanner.Scanner.{Scanner}
 
--- what a scanner holds, beside the word under way
+-- the state of a scanner, with the unfinished word
 abbrev pub held : Scanner → Token → Held
 held s t = record { form = s.form; progress = shown s.builder; token = t; comment = s.comment; line = s.line }
 
--- the number of words under way
+-- the number of unfinished words
 abbrev pub under_way : Token → ℕ
 under_way Empty = 0
 under_way (Sign minus) = 1
@@ -18,6 +18,6 @@ under_way (Digits minus n) = 1
 under_way (Keyword letters) = 1
 under_way Other = 1
 
--- whatever the next bytes of this number are, and if the bytes then end, the points find room
+-- for any next bytes of this number, after which the text may end, there is room for the points
 abbrev pub HasRoom : Scanner → Token → ℕ → Type 0
 HasRoom s t bytes = 2 * taken_count s.builder + under_way t + bytes ≤ 6 * vec_capacity s.builder.points + 4

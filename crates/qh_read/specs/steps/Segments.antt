@@ -1,4 +1,4 @@
--- Segments of the bytes that are gone over side by side, and batches of them.
+-- Segments of bytes that are parsed in parallel, and batches of them.
 use Rattle.std.specs.Prelude.{ℕ, ◌≡◌, ◌≤◌, ◌<◌, ◌+◌, ◌*◌, ◌/◌, ◌++◌, List, Option, drop, take, length, vec_len, slice_index_or}
 use Rattle.std.specs.Io.KnownBytes.{Consumes}
 use Rattle.qh_model.specs.declared.form.Form.{Form}
@@ -32,11 +32,11 @@ AreSegments segments text = (i : ℕ) (d : Segment) → i < length segments
 abbrev pub batch_text : Batch → List ℕ
 batch_text b = take b.count b.bytes.items
 
--- its segments are those of its bytes
+-- the segments of the batch are those of its bytes
 abbrev pub IsGoneOver : Batch → Type 0
 IsGoneOver b = AreSegments b.segments.items (batch_text b)
 
--- the reader was fed the batch, which then took the next bytes of a source; `ahead` bytes had come between
+-- the reader was fed the batch, which was then filled with the next bytes of a source; `ahead` bytes were read in between
 pub record FedAndFilled (before after : Reading) (old new : Batch) (to_come left : Option (List ℕ)) (ahead : ℕ) : Type 0 where
   pub fed : (form : Form) (bytes : List ℕ) → Fed form before bytes → Fed form after (bytes ++ batch_text old)
   pub count : after.count ≡ before.count + length (batch_text old)

@@ -1,4 +1,4 @@
--- The sign of a number that is taken at once.
+-- The sign of a number that is parsed as a whole.
 use Rattle.std.specs.Prelude.{Bool, true, false}
 use Rattle.qh_read.specs.declared.numbers.Sign.{Sign}
 use Rattle.qh_read.specs.declared.numbers.Sign.TheVariants.{Plus, Minus}

@@ -6,7 +6,7 @@ use Rattle.qh_read.specs.declared.token.Token.{Token}
 use Rattle.qh_read.specs.declared.token.Token.TheVariants.{Empty, Sign, Digits, Keyword, Other}
 use Rattle.qh_read.specs.contract.Tokens.{cap}
 
--- a number, as far as numbers are told apart
+-- a number up to the cap, above which numbers are not distinguished
 abbrev pub capped : ℤ → ℤ
 capped (pos n) = pos (cap n)
 capped (negsuc n) = negsuc (min n COORDINATE_LIMIT)

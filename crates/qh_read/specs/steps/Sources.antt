@@ -1,4 +1,4 @@
--- What a reader takes from a source in a part of the reading, and why that stops.
+-- The bytes that a reader takes from a source in a part of the reading, and the reasons why it stops.
 use Rattle.std.specs.Prelude.{ℕ, ◌≡◌, ◌≢◌, ◌≤◌, ◌<◌, ◌+◌, ◌++◌, List, Option, length}
 use Rattle.std.specs.Io.KnownBytes.{Consumes}
 use Rattle.qh_model.specs.declared.limits.TheConstants.{BYTE_LIMIT}
@@ -10,14 +10,14 @@ use Rattle.qh_read.specs.contract.ReadFaults.{IsTextFault}
 use Rattle.qh_read.specs.headline.SourceBytes.{Gives}
 use Rattle.qh_read.specs.declared.whole.TheConstants.{PIECE_LENGTH}
 
--- the reader was fed what the source gave
+-- the reader was fed the bytes that were read from the source
 pub record FedOn (before after : Reading) (old new : Option (List ℕ)) : Type 0 where
   pub given : List ℕ
   pub took : Consumes old new given
   pub fed : (form : Form) (bytes : List ℕ) → Fed form before bytes → Fed form after (bytes ++ given)
   pub count : after.count ≡ before.count + length given
 
--- why reading stops after `before` bytes: the limit, memory or the device, and no fault of the text
+-- the reason why reading stops after `before` bytes: the limit, memory or the device, but no fault of the text
 pub record Stops (e : ReadFault) (before : ℕ) (old new : Option (List ℕ)) (failures failures_after : ℕ) : Type 0 where
   pub big : e ≡ faults.Big
       → Gives old new (λ bytes. (BYTE_LIMIT < before + length bytes) × (before + length bytes ≤ BYTE_LIMIT + PIECE_LENGTH))

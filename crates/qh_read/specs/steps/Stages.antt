@@ -1,4 +1,4 @@
--- What the parts of a builder show of the file so far.
+-- The state of the parts of a builder for the file so far.
 use Rattle.std.specs.Prelude.{ℕ, ℤ, ◌≡◌, Bool, true, false, List, [], ◌∷◌, Option, Some, None}
 use Rattle.qh_model.specs.declared.read_fault.ReadFault.{ReadFault}
 use Rattle.qh_read.specs.contract.ReadFaults.{IsTextFault}
@@ -9,7 +9,7 @@ use Rattle.qh_read.specs.declared.builder.Stage.TheVariants as stages
 use Rattle.qh_read.specs.declared.builder.Pending.{Pending}
 use Rattle.qh_read.specs.declared.builder.Pending.TheVariants as pendings
 
--- a stage, with the coordinates that were taken
+-- a stage, with the coordinates so far
 abbrev pub stage_shown : Stage → List ℤ → Progress
 stage_shown stages.First t = wants_first
 stage_shown (stages.Second first) t = wants_second first
@@ -20,7 +20,7 @@ stage_shown (stages.FaceCount vertices) t = wants_face_count vertices
 stage_shown (stages.EdgeCount vertices) t = wants_edge_count vertices
 stage_shown (stages.Failed fault) t = fails fault
 
--- the header is still to come, or a part of it
+-- the header or a part of it is still expected
 abbrev pub is_header : Stage → Bool
 is_header stages.First = true
 is_header (stages.Second first) = true
@@ -42,7 +42,7 @@ stage_fault (stages.FaceCount vertices) = None
 stage_fault (stages.EdgeCount vertices) = None
 stage_fault (stages.Failed fault) = Some fault
 
--- it is one of the text
+-- the fault of a stage is one of the text
 abbrev pub HasTextFault : Stage → Type 0
 HasTextFault stage = (fault : ReadFault) → stage_fault stage ≡ Some fault → IsTextFault fault
 
@@ -52,7 +52,7 @@ pending_list pendings.Zero = []
 pending_list (pendings.One x) = x.value ∷ []
 pending_list (pendings.Two x y) = x.value ∷ y.value ∷ []
 
--- their number
+-- the number of coordinates of the next point so far
 abbrev pub pending_count : Pending → ℕ
 pending_count pendings.Zero = 0
 pending_count (pendings.One x) = 1

@@ -1,4 +1,4 @@
-//! Corners of faces, taken from the words of a text.
+//! Parses corners of faces from the words of a text.
 ghost use Rattle.std.specs.Prelude.{◌≡◌, ◌∷◌, ℕ, List, Option, Some, IfOk, IfErr, length};
 ghost use Rattle.qh_model.specs.declared.read_fault.ReadFault.{ReadFault};
 ghost use Rattle.qh_read.specs.declared.numerals.Numeral.{Numeral};
@@ -24,7 +24,7 @@ pub struct Corners {
     pub last: u32,
 }
 
-/// Returns the number that a word is.
+/// Returns the number that a word denotes.
 fn number_of(word: Numeral) -> Result<Number, ReadFault>
     ensures ok { IfOk result (λ n. word ≡ record { number = Some n.value; line = n.line }) }
     ensures fault { IfErr result (λ e. (after : ℕ → ℕ → List Numeral → Option ReadFault) (ws : List Numeral)
@@ -39,7 +39,7 @@ fn number_of(word: Numeral) -> Result<Number, ReadFault>
     }
 }
 
-/// Takes the next word, which is to be a number.
+/// Takes the next word, which has to be a number.
 pub fn next_number(words: &mut Numerals<'_>) -> Result<Number, ReadFault>
     ensures ok { IfOk result (λ n. words.old ≡ record { number = Some n.value; line = n.line } ∷ words.new) }
     ensures fault { IfErr result (λ e. (after : ℕ → ℕ → List Numeral → Option ReadFault)
@@ -51,7 +51,7 @@ pub fn next_number(words: &mut Numerals<'_>) -> Result<Number, ReadFault>
     }
 }
 
-/// Takes a number of corners after a word of this line.
+/// Takes a number of corners, after a word on this line.
 pub fn take_corners(
     alloc: Global,
     words: &mut Numerals<'_>,
@@ -75,7 +75,7 @@ pub fn take_corners(
     Ok(Corners { ids, last })
 }
 
-/// Takes a corner, and then those that stand on its line.
+/// Takes a corner, and then the other corners on its line.
 pub fn take_line(alloc: Global, words: &mut Numerals<'_>) -> Result<Vec<Id>, ReadFault>
     ensures ok { IfOk result (λ r. IsLineFace words.old r.items words.new) }
     ensures passes { IfOk result (λ r. (after : List Numeral → Option ReadFault)
@@ -94,7 +94,7 @@ pub fn take_line(alloc: Global, words: &mut Numerals<'_>) -> Result<Vec<Id>, Rea
     Ok(ids)
 }
 
-/// Passes over the words that stand on a line.
+/// Skips the words on a line.
 pub fn skip_line(words: &mut Numerals<'_>, line: u32)
     ensures { words.new ≡ after_line line words.old }
 {

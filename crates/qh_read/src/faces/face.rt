@@ -1,4 +1,4 @@
-//! A face, taken from the words of a text.
+//! Parses a face from the words of a text.
 ghost use Rattle.std.specs.Prelude.{◌≡◌, List, Option, IfOk, IfErr};
 ghost use Rattle.qh_model.specs.declared.read_fault.ReadFault.{ReadFault};
 ghost use Rattle.qh_read.specs.declared.numerals.Numeral.{Numeral};
@@ -12,7 +12,7 @@ use crate::faces::reading::{Layout, Reading, Turn};
 use qh_model::{Id, Polygon, ReadFault};
 use std::alloc::Global;
 
-/// Takes a number of corners, these, and what stands behind them on the last line.
+/// Takes the number of corners and the corners, and skips the rest of the last line.
 fn take_counted(alloc: Global, words: &mut Numerals<'_>) -> Result<Vec<Id>, ReadFault>
     ensures ok { IfOk result (λ r. IsCountedFace words.old r.items words.new) }
     ensures passes { IfOk result (λ r. (after : List Numeral → Option ReadFault)
@@ -42,7 +42,7 @@ fn take_written(
     }
 }
 
-/// Returns the polygon of corners in the order of a file.
+/// Returns the polygon of corners that are in the order of a file.
 fn polygon_of(corners: Vec<Id>, turn: Turn) -> Polygon
     ensures { result ≡ turned turn corners.items }
 {

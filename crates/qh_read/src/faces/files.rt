@@ -18,13 +18,13 @@ fn read_off_faces(alloc: Global, bytes: &[u8], reading: Reading) -> Result<Faces
 {
     let vertices = read_off(alloc, bytes)?;
     let mut words = Numerals::of(bytes);
-    // The keyword and the number of vertices; then the number of edges and the coordinates.
+    // Skips the keyword and the number of vertices, then the number of edges and the coordinates.
     skip_words(&mut words, 2);
     let polygons = take_list(alloc, &mut words, 1 + 3 * vertices.len(), reading)?;
     Ok(Faces { vertices, polygons })
 }
 
-/// Returns the faces of a file that is the list of these.
+/// Returns the faces of a file that contains nothing but a list of faces.
 fn read_whole_faces(alloc: Global, bytes: &[u8], reading: Reading) -> Result<Faces, ReadFault>
     ensures read { IfOk result (λ faces. AreWholeFaces reading bytes.now faces.vertices.items faces.polygons.items) }
     ensures fault { IfErr result (IsWholeFault reading.layout bytes.now) }
@@ -42,12 +42,12 @@ fn read_whole_faces(alloc: Global, bytes: &[u8], reading: Reading) -> Result<Fac
 
 /// Returns the vertices and the faces of a file, in its order, or its first fault.
 ///
-/// A file that is no OFF file has no vertices of its own.
+/// A file that is not an OFF file has no vertices of its own.
 ///
 /// # Errors
 ///
-/// `Memory` where an allocation failed, `Big` where there are more than `BYTE_LIMIT` bytes, and else the
-/// first fault of the text.
+/// `Memory` if an allocation failed, `Big` if there are more than `BYTE_LIMIT` bytes, and else the first fault of the
+/// text.
 pub fn read_faces(alloc: Global, bytes: &[u8], reading: Reading) -> Result<Faces, ReadFault>
     ensures read { IfOk result (λ faces. ReadsFaces reading bytes.now faces.vertices.items faces.polygons.items) }
     ensures fault { IfErr result (IsFaultOfFaces reading.layout bytes.now) }

@@ -1,4 +1,4 @@
-//! All faces of a text.
+//! Parses all faces of a text.
 ghost use Rattle.std.specs.Prelude.{◌≡◌, ◌⊎◌, [], IfOk, IfErr, Some, drop, length};
 ghost use Rattle.qh_model.specs.declared.read_fault.ReadFault.TheVariants as faults;
 ghost use Rattle.qh_read.specs.declared.faces.reading.Layout.{Layout};
@@ -13,7 +13,7 @@ use crate::faces::reading::Reading;
 use qh_model::{Polygon, ReadFault};
 use std::alloc::Global;
 
-/// Refuses words that go on.
+/// Returns a fault if another word follows.
 fn finish(words: &mut Numerals<'_>) -> Result<(), ReadFault>
     ensures end { IfOk result (λ _. words.old ≡ []) }
     ensures fault { IfErr result (λ e. (layout : Layout) → faces_fault layout 0 words.old ≡ Some e) }
@@ -24,7 +24,7 @@ fn finish(words: &mut Numerals<'_>) -> Result<(), ReadFault>
     }
 }
 
-/// Takes a number of faces, after which no word comes.
+/// Takes a number of faces, after which no word may follow.
 fn take_faces(
     alloc: Global,
     words: &mut Numerals<'_>,
@@ -44,7 +44,7 @@ fn take_faces(
     Ok(faces)
 }
 
-/// Passes over a number of words.
+/// Skips a number of words.
 pub fn skip_words(words: &mut Numerals<'_>, count: usize)
     ensures { words.new ≡ drop count words.old }
 {
@@ -53,7 +53,7 @@ pub fn skip_words(words: &mut Numerals<'_>, count: usize)
     }
 }
 
-/// Takes the number of faces, passes over a number of words, and takes the faces.
+/// Takes the number of faces, skips a number of words, and takes the faces.
 pub fn take_list(
     alloc: Global,
     words: &mut Numerals<'_>,

@@ -1,18 +1,18 @@
-//! How a file of faces is read, and what is read.
+//! How a file of faces is read, and the result.
 use qh_model::{Point, Polygon};
 
 /// How a file of faces is written.
 #[derive(Clone, Copy, Debug, PartialEq, Eq)]
 pub enum Layout {
-    /// An OFF file: its vertices, and faces whose numbers name these.
+    /// An OFF file: its vertices, and faces whose numbers name the vertices.
     Off,
-    /// The number of faces, and then each with the number of its corners before these: Qhull's option `Fv`.
+    /// The number of faces, and then each face with the number of its corners first: Qhull's option `Fv`.
     Counted,
-    /// The number of faces, and then a line of corners for each: Qhull's option `i`.
+    /// The number of faces, and then a line of corners for each face: Qhull's option `i`.
     Lines,
 }
 
-/// Which way faces go, seen from outside.
+/// The orientation of faces, seen from outside.
 #[derive(Clone, Copy, Debug, PartialEq, Eq)]
 pub enum Turn {
     /// As in OFF files.
@@ -24,16 +24,16 @@ pub enum Turn {
 /// How a file of faces is read.
 #[derive(Clone, Copy, Debug, PartialEq, Eq)]
 pub struct Reading {
-    /// How it is written.
+    /// The layout of the file.
     pub layout: Layout,
-    /// Which way its faces go.
+    /// The orientation of its faces.
     pub turn: Turn,
 }
 
 /// Faces, as numbers of points.
 #[derive(Debug, Drop)]
 pub struct Faces {
-    /// The vertices of the file, where the numbers name these.
+    /// The vertices of the file, if the numbers name vertices of the file.
     pub vertices: Vec<Point>,
     /// The numbers of the corners of each face, counterclockwise seen from outside.
     pub polygons: Vec<Polygon>,

@@ -1,4 +1,4 @@
--- A pass's turn at a block: what a deliver answers it, and how the turn ends.
+-- A pass's turn at a block: the result of a delivery, and the end of the turn.
 -- Source: this project's own.
 use Rattle.std.specs.Prelude.{◌≡◌, ℕ, ◌+◌, ◌*◌, ◌<◌, true, Some}
 use Rattle.qh_board.specs.declared.view.Mark.TheVariants as marks
@@ -9,26 +9,26 @@ use Rattle.qh_board.specs.contract.Tokens.{BoardValue, Token, IsOf, IsRightAt, t
 use Rattle.qh_run.specs.declared.turn.Turn.{Turn}
 use Rattle.qh_run.specs.declared.turn.Turn.TheVariants.{Ended, GaveUp}
 
--- the record is of the same pass, which has claimed nothing since
+-- the record belongs to the same pass, which has claimed nothing since
 pub record SinceClaim (r r' : Record) : Type 0 where
   pub number : r'.number ≡ r.number
   pub over : r'.over ≡ r.over
   pub claims : r'.claims ≡ r.claims
 
 module _ {S X : Type 0} where
-  -- the record of the pass that is answered
+  -- the record of the pass in the result
   abbrev pub answered : Delivered S X → Record
   answered (Parked p) = p.pass
   answered (Root p) = p.pass
   answered (Both t x y) = t.pass
 
-  -- the node to go on from, 0 if there is no such node
+  -- the node from which to continue, or 0 if there is none
   abbrev pub answered_node : Delivered S X → ℕ
   answered_node (Parked p) = 0
   answered_node (Root p) = 0
   answered_node (Both t x y) = task_node t
 
-  -- the pass is the board's; the task too, at an inner node, with values that are right for its children
+  -- the pass belongs to the board; so does the task, at an inner node, with values that are right for its children
   abbrev pub IsAnswerOf : (S → (ℕ → Type 0) → X → Type 0) → BoardValue S → Delivered S X → Type 0
   IsAnswerOf right b (Parked p) = IsOf b p
   IsAnswerOf right b (Root p) = IsOf b p
@@ -41,7 +41,7 @@ module _ {S X : Type 0} where
   IsTurnOf b r (GaveUp l) = IsOf b l × (l.pass.number ≡ r.number) × (l.pass.mark ≡ Some marks.GaveUp)
 
 module _ {S : Type 0} where
-  -- the board's pass has ended; where it left, it was told that all blocks are claimed, by its last claim
+  -- the board's pass has ended; if it left, its last claim found all blocks claimed
   pub record IsWorked (b : BoardValue S) (l : Token S) : Type 0 where
     pub mine : IsOf b l
     pub over : l.pass.mark ≡ Some marks.Left → l.pass.over ≡ true

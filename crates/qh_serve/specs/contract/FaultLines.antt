@@ -1,4 +1,4 @@
--- What stands on standard error for a fault, without the line's end, and the exit status.
+-- The line on standard error for a fault, without the line end, and the exit status.
 use Rattle.std.specs.Prelude.{ℕ, List, ◌++◌, codes, decimal}
 use Rattle.qh_model.specs.declared.read_fault.ReadFault.TheVariants as read
 use Rattle.qh_serve.specs.declared.fault.Fault.{Fault}

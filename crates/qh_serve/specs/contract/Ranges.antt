@@ -1,4 +1,4 @@
--- What is in range.
+-- The ranges of settings.
 use Rattle.std.specs.Prelude.{ℕ, ◌≤◌}
 use Rattle.qh_model.specs.declared.limits.TheConstants.{WORKER_LIMIT}
 use Rattle.qh_serve.specs.declared.settings.TheConstants.{BLOCK_SIZE_LIMIT}

@@ -1,4 +1,4 @@
--- What is right as the answer to an input.
+-- The right answer to an input.
 use Rattle.std.specs.Prelude.{ℕ, ◌≡◌, ◌⊎◌, List}
 use Rattle.qh_model.specs.headline.Vector.{Vector}
 use Rattle.qh_model.specs.headline.Forms.{ReadsIn, IsFirstFault}
@@ -9,13 +9,13 @@ use Rattle.qh_model.specs.declared.read_fault.ReadFault.TheVariants as reads
 use Rattle.qh_serve.specs.declared.fault.Fault.{Fault}
 use Rattle.qh_serve.specs.declared.fault.Fault.TheVariants as faults
 
--- the bytes read in this form as some points, of which this holds
+-- the bytes, read in this form, are points with this property
 pub record ReadsAs (form : Form) (bytes : List ℕ) (P : List Vector → Type 0) : Type 0 where
   pub pts : List Vector
   pub reads : ReadsIn form bytes pts
   pub holds : P pts
 
--- the one text of the points that the bytes read as
+-- the only text of the points that are read from the bytes
 abbrev pub IsAnswer : Form → List ℕ → List Out → List ℕ → Type 0
 IsAnswer form input outs text = ReadsAs form input (λ pts. IsText pts outs text)
 

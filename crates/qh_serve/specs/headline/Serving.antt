@@ -1,4 +1,4 @@
--- What holds of the devices after `serve`.
+-- The state of the devices after `serve`.
 use Rattle.std.specs.Prelude.{ℕ, ◌≡◌, ◌+◌, ◌<◌, ◌≤◌, List, Bool, true, Option, length}
 use Rattle.std.specs.Io.KnownBytes.{Appends, Keeps}
 use Rattle.qh_model.specs.declared.limits.TheConstants.{BYTE_LIMIT}
@@ -15,8 +15,8 @@ use Rattle.qh_serve.specs.headline.Answers.{ReadsAs}
 use Rattle.qh_serve.specs.declared.fault.Fault.{Fault}
 use Rattle.qh_serve.specs.declared.fault.Fault.TheVariants.{Read, Send, Usage}
 
--- the bytes that the source has still to give and that went out of the sink, where the devices tell them, how many
--- calls of each have failed, and whether the sink holds nothing back
+-- the remaining bytes of the source and the bytes that the sink received, if the devices specify them, the number of failed calls of each, and whether the sink
+-- buffers nothing
 pub record Devices : Type 0 where
   pub to_come : Option (List ℕ)
   pub went : Option (List ℕ)
@@ -29,12 +29,12 @@ pub record IsQuiet (old new : Devices) : Type 0 where
   pub source : new.source_failures ≡ old.source_failures
   pub sink : new.sink_failures ≡ old.sink_failures
 
--- nothing went out, and neither device failed
+-- nothing was sent, and neither device failed
 pub record IsUnsent (old new : Devices) : Type 0 where
   pub went : Keeps old.went new.went
   pub quiet : IsQuiet old new
 
--- the source came to its end; its bytes read as some points, whose text went out, none of it held back
+-- the source was read to its end; its bytes are the text of points, whose text was sent, with nothing buffered
 pub record IsServed (form : Form) (outs : List Out) (old new : Devices) : Type 0 where
   pub text : List ℕ
   pub answer : GivesAll old.to_come new.to_come (λ bytes. ReadsAs form bytes (λ pts. IsText pts outs text))
@@ -42,24 +42,24 @@ pub record IsServed (form : Form) (outs : List Out) (old new : Devices) : Type 0
   pub flushed : new.flushed ≡ true
   pub quiet : IsQuiet old new
 
--- the source came to its end; this is the first fault of its bytes; nothing went out
+-- the source was read to its end; this is the first fault of its bytes; nothing was sent
 pub record IsBadText (form : Form) (f : ReadFault) (old new : Devices) : Type 0 where
   pub first : GivesAll old.to_come new.to_come (λ bytes. IsFirstFault form bytes f)
   pub unsent : IsUnsent old new
 
--- the source gave more bytes than the limit, by one piece at most; nothing went out
+-- more bytes than the limit were read from the source, by at most one piece; nothing was sent
 pub record IsTooBig (old new : Devices) : Type 0 where
   pub big : Gives old.to_come new.to_come (λ bytes. (BYTE_LIMIT < length bytes) × (length bytes ≤ BYTE_LIMIT + PIECE_LENGTH))
   pub unsent : IsUnsent old new
 
--- the source failed once and was not read again; nothing went out
+-- the source failed once and was not read again; nothing was sent
 pub record IsSourceFailure (old new : Devices) : Type 0 where
   pub source : new.source_failures ≡ old.source_failures + 1
   pub sink : new.sink_failures ≡ old.sink_failures
   pub went : Keeps old.went new.went
 
--- the source came to its end and its bytes read as some points; the sink failed once and was not called again, after
--- a beginning of the text, perhaps all
+-- the source was read to its end and its bytes are the text of points; the sink failed once and was not called again, after a prefix of the text, perhaps all
+-- of it
 pub record IsSinkFailure (form : Form) (outs : List Out) (old new : Devices) : Type 0 where
   pub text : List ℕ
   pub answer : GivesAll old.to_come new.to_come (λ bytes. ReadsAs form bytes (λ pts. IsText pts outs text))
@@ -67,7 +67,7 @@ pub record IsSinkFailure (form : Form) (outs : List Out) (old new : Devices) : T
   pub source : new.source_failures ≡ old.source_failures
   pub sink : new.sink_failures ≡ old.sink_failures + 1
 
--- each fault, and when it comes
+-- each fault, and its condition
 abbrev pub IsServeFault : Form → List Out → Devices → Devices → Fault → Type 0
 IsServeFault form outs old new (Read reads.NoHeader) = IsBadText form reads.NoHeader old new
 IsServeFault form outs old new (Read (reads.BadNumber line)) = IsBadText form (reads.BadNumber line) old new

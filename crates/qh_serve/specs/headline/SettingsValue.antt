@@ -1,4 +1,4 @@
--- What settings say.
+-- The contract view of settings.
 use Rattle.std.specs.Prelude.{ℕ, List}
 use Rattle.qh_model.specs.declared.form.Form.{Form}
 use Rattle.qh_model.specs.declared.out.Out.{Out}

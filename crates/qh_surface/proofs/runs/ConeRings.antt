@@ -1,4 +1,4 @@
--- The rings of large cones: what their wedges are, and what the answers of a search come to.
+-- The rings of large cones: the facts about their wedges, and the meaning of the results of a search.
 use Rattle.std.proofs.Common.{◌≡◌, ℕ, ◌<◌, All, slice_index, arith, ap, sym, ◌∙◌, refl, List, [], ◌∷◌, ◌++◌, length, inl, inr, ℤ, pos, ◌≤ℤ◌}
 use Rattle.std.proofs.Common.{◌<ℤ◌}
 use Rattle.std.proofs.lemmas.{Int.ints, List.get_or_append_left, List.get_or_push, List.length_push}
@@ -21,12 +21,12 @@ use Rattle.qh_surface.specs.steps.Cones.{IsBetweenRays, IsAmongRays}
 use Rattle.qh_surface.specs.declared.quickhull.cone_ring.Wedge.{Wedge}
 
 -- ---- the facets of a cone
--- the neighbour over the second side was made
+-- the neighbour across the second side is a new facet
 pub fan_next : {fs : List StoredFacet} {made : List ℕ} {g : ℕ} (f : ℕ) → IsFan fs made
     → g ≡ facet_of (twin_of fs (edge_of f second)) → In f made → In g made
 fan_next f k e n = rw e (k.closed f n)
 
--- what a replacement made is a cone
+-- the new facets of a replacement are a cone
 pub cone_fan : {old new : List StoredFacet} {vs made : List ℕ} {apex : ℕ} → IsReplacement old new vs apex made → IsFan new made
 cone_fan {new} {made} {apex} r =
     record { apex = apex; turned = All-from_get_or (λ f. (facet_at new f).k ≡ apex) made 0 (λ j l. (r.cone j l).third); closed = closed }
@@ -37,7 +37,7 @@ cone_fan {new} {made} {apex} r =
         let t = twin-is new f second ∙ ap (λ g. (facet_at new g).jk) (sym e) ∙ r.next_twin j l in
         rw (t, edge-facet g third) (In-get_or made (r.next j) 0 (r.next_in j l))
 
--- no corner of a mesh that grows is above a facet
+-- no corner of a growing mesh is above a facet
 pub grown_corners : {pts : List Vector} {fs : List StoredFacet} → IsGrown pts fs → HasNoCornerAbove pts fs
 grown_corners {pts} {fs} k f g l m = (under (facet_at fs g).i (inl refl), under (facet_at fs g).j (inr (inl refl)))
   where
@@ -46,23 +46,23 @@ grown_corners {pts} {fs} k f g l m = (under (facet_at fs g).i (inl refl), under 
         at (corners_are_settled (surface_of fs) (weighted_at (place pts)) _ k.sound.1 f g (in_live fs f l) (in_live fs g m) p c)
 
 -- ---- the wedges
--- the corners of a triangle in turn
+-- the corners of a triangle in cyclic order
 vol_turn : (a b c p : Vector) → vol a b c p ≡ vol c a b p
 vol_turn a b c p = let e = vol-flip_last a c b p in let f = vol-flip a c b p in omega (arith, ints)
 
--- the last three points of a volume in turn
+-- the last three points of a volume in cyclic order
 rest_turn : (a b c d : Vector) → vol a b c d ≡ vol a d b c
 rest_turn a b c d = let e = vol-swap_last a b c d in let f = vol-flip_last a d b c in omega (arith, ints)
 
 module _ (pts : List Vector) (fs : List StoredFacet) (ps : List PlaneValue) (made : List ℕ) where
-  -- the corners of a facet where a wedge begins and ends
+  -- the corners of a facet at which a wedge begins and ends
   abbrev from_of : ℕ → Vector
   from_of f = place pts (facet_at fs f).i
 
   abbrev to_of : ℕ → Vector
   to_of f = place pts (facet_at fs f).j
 
-  -- of a facet that was made, the plane is that of a triangle at the apex
+  -- the plane of a new facet is that of a triangle at the apex
   made_plane : IsFan fs made → (f : ℕ) → IsPlaneOf pts fs ps f → In f made
       → (q : Vector) → height (plane_at ps f) q ≡ vol (apex_of pts fs made) (from_of f) (to_of f) q
   made_plane fan f p i q =
@@ -70,7 +70,7 @@ module _ (pts : List Vector) (fs : List StoredFacet) (ps : List PlaneValue) (mad
       let turned = All-In (λ g. (facet_at fs g).k ≡ fan.apex) made f fan.turned i ∙ sym (fan.turned 0 0 some) in
       p.1 q ∙ vol_turn (from_of f) (to_of f) (place pts (facet_at fs f).k) q ∙ ap (λ n. vol (place pts n) (from_of f) (to_of f) q) turned
 
-  -- a facet that was made is a wedge
+  -- a new facet is a wedge
   pub read_wedge : All (IsLive fs) made → HasNoCornerAbove pts fs → All (IsPlaneOf pts fs ps) made → IsFan fs made → (f : ℕ) → In f made
       → IsWedge ps made (apex_of pts fs made) (record { facet = f; plane = plane_at ps f; from = from_of f; to = to_of f })
   read_wedge live above planes fan f n =
@@ -89,7 +89,7 @@ module _ (pts : List Vector) (fs : List StoredFacet) (ps : List PlaneValue) (mad
             });
       }
 
--- what holds of each wedge, and of one more
+-- a fact about each wedge, and one more wedge
 pub each_more : (P : Wedge → Type 0) (ws : List Wedge) (w : Wedge) → ((i : ℕ) → i < length ws → P (wedge_at ws i)) → P w
     → (i : ℕ) → i < length (ws ++ w ∷ []) → P (wedge_at (ws ++ w ∷ []) i)
 each_more P ws w k h i l = let n = length_push ws w in
@@ -97,7 +97,7 @@ each_more P ws w k h i l = let n = length_push ws w in
     (λ m. rw (get_or_push ws w no_wedge i (omega arith)) h)
 
 -- ---- the answers
--- a point that the search places between rays of the ring, those of two wedges v, the first, and w
+-- a point that the search finds between rays of the ring: the first ray, and the rays of two wedges v (the first) and w
 pub among : {a p : Vector} {ws : List Wedge} (i : ℕ) (v w : Wedge) (half : PlaneValue) → i < length ws
     → v ≡ wedge_at ws 0 → w ≡ wedge_at ws i → AreTriangles a ws → ((q : Vector) → height half q ≡ vol a v.from p q)
     → height w.plane v.from <ℤ pos 0 → height w.plane p ≤ℤ pos 0
@@ -112,7 +112,7 @@ among {a} {p} {ws} i v w half l ev ew t h s u f g =
     } in
     record { place = i; within = l; between = rw (← ev, ← ew) own }
 
--- a point among rays is above none of the facets
+-- a point among rays is above no facet
 pub among_unseen : {ps : List PlaneValue} {made : List ℕ} {a p : Vector} {ws : List Wedge} → AreWedges ps made a ws
     → IsAmongRays a ws p → IsAboveNone ps made p
 among_unseen {ps} {made} {a} {p} {ws} k r j d l =

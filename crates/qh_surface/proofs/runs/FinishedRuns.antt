@@ -1,4 +1,4 @@
--- From facets that were made to the next round, and from the last round to a finished surface.
+-- From new facets to the next round, and from the last round to a finished surface.
 use Rattle.std.proofs.Common.{All, ◌≡◌, ℕ, ◌<◌, ◌≤◌, sym, ◌∙◌, refl, inl, inr, List, [], ◌∷◌, length, subst, pos, ◌<ℤ◌}
 use Rattle.qh_model.specs.headline.{Vector.Vector, Vector.origin, Predicates.place, Sets.In}
 use Rattle.qh_model.specs.contract.{FinishedSurface.IsFinished, StoredSurface.StoredFacet, StoredSurface.surface_of}
@@ -13,7 +13,7 @@ use Rattle.qh_surface.specs.contract.OutsideSets.{OutsideValue, set_of}
 use Rattle.qh_surface.specs.steps.{Planes.ArePlanes}
 use Rattle.qh_surface.specs.steps.Runs.{AreDone, IsGrown, RunState, IsUnderWay, IsSettling, IsRemade}
 
--- once all orphans are settled and the facets with outside sets wait, the next round may begin
+-- after all orphans are settled and the facets with outside sets wait, the next round can begin
 pub next_round : {s : RunState} {ps : List PlaneValue} {w : OutsideValue} {made waiting : List ℕ} → IsRemade s made
     → ArePlanes (place s.points) s.mesh ps → IsSettling s.points s.mesh w s.pending made → w.orphans ≡ []
     → w.positions ≡ s.sets.positions → length s.mesh ≤ length w.sets → All (λ f. f < length w.sets) waiting

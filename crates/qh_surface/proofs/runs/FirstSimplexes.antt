@@ -1,4 +1,4 @@
--- How a run starts: the facets of a simplex, and every position an orphan.
+-- The start of a run: the facets of a simplex, with every position an orphan.
 use Rattle.std.proofs.Common.{All, ◌≡◌, ◌≢◌, ℕ, zero, suc, ◌<◌, arith, sym, refl, inl, inr, List, [], ◌∷◌, length, subst, slice_index_or}
 use Rattle.std.proofs.Common.{pos, ◌<ℤ◌, ◌≤ℤ◌}
 use Rattle.std.specs.List.{range_with_len}
@@ -46,7 +46,7 @@ pub record IsFirst (pts : List Vector) (fs : List StoredFacet) (i j k l : ℕ) :
   pub sound : IsSoundMesh (place pts) fs (middle_at (place pts) i j k l)
   pub closed : IsClosedMesh (place pts) fs
 
--- a run may start with it
+-- a run can start with this mesh
 record IsStarted (pts : List Vector) (fs : List StoredFacet) : Type 0 where
   grown : IsGrown pts fs
   named : (f : ℕ) → IsLive fs f → In f four_facets
@@ -56,7 +56,7 @@ module _ {pts : List Vector} {fs : List StoredFacet} {i j k l : ℕ} (h : IsFirs
   abbrev at : ℕ → Vector
   at = place pts
 
-  -- where its corners stand in this order
+  -- the positions of its corners in this order
   of_corners : (a b c d : ℕ) → fs ≡ simplex_facets a b c d → a < length pts → b < length pts → c < length pts → d < length pts
       → vol (at a) (at b) (at c) (at d) <ℤ pos 0 → IsSoundMesh at fs (middle_at at a b c d) → IsStarted pts fs
   of_corners a b c d is ia ib ic id volume sound = record {
@@ -84,7 +84,7 @@ module _ {pts : List Vector} {fs : List StoredFacet} {i j k l : ℕ} (h : IsFirs
       below : (f : ℕ) → IsLive fs f → CornersBelow (length pts) fs f
       below f m = rw is (facet f (rw is at m)).1
 
-  -- it is turned outward
+  -- the mesh starts a run, by the order of the corners that is turned outwards
   started : IsStarted pts fs
   started = by_lt_z (pos 0) (vol (at i) (at j) (at k) (at l))
       (λ up. of_corners i k j l (h.up up) h.i_in h.k_in h.j_in h.l_in (omega (arith, ints, up, vol-flip_last (at i) (at j) (at k) (at l)))
@@ -92,7 +92,7 @@ module _ {pts : List Vector} {fs : List StoredFacet} {i j k l : ℕ} (h : IsFirs
       (λ low. let n = h.volume in let down : vol (at i) (at j) (at k) (at l) <ℤ pos 0 = omega (arith, ints, low, n) in
       of_corners i j k l (h.down down) h.i_in h.j_in h.k_in h.l_in down h.sound)
 
--- with all positions orphans it may be settled
+-- the mesh with all positions orphans is ready to be settled
 pub first_remade : (s : RunState) (i j k l : ℕ) → IsFirst s.points s.mesh i j k l → s.sets.positions ≡ length s.points
     → s.sets.orphans ≡ range_with_len 0 (length s.points) → s.sets.sets ≡ [] → s.pending ≡ [] → IsRemade s four_facets
 first_remade s i j k l h p o none idle = record {

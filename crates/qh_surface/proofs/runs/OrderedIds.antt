@@ -47,7 +47,7 @@ module _ {ids near : List ℕ} (p : IsPermutation ids near) where
   pub indices_reordered : (pts : List Vector) → AreIndices pts ids → AreIndices pts near
   indices_reordered pts a = All-of (λ i. i < length pts) near (λ i m. All-In (λ i. i < length pts) ids i a (back i m))
 
-  -- a simplex is one in any order
+  -- a simplex of ids is a simplex of the ids in any order
   pub simplex_reordered : {pts : List Vector} {s : Simplex} → IsSimplexOf pts ids s → IsSimplexOf pts near s
   simplex_reordered {s = s} h = record {
     has_i = in_permutation ids near p s.i h.has_i;
@@ -57,7 +57,7 @@ module _ {ids near : List ℕ} (p : IsPermutation ids near) where
     volume = h.volume;
   }
 
-  -- ids that stand once each do so in any order
+  -- ids that occur once do so in any order
   pub once_reordered : Once ids → Once near
   unfolding IsDistinct
   once_reordered h = once near (IsDistinct-IsPermutation eqb eqb_flips ids near p (apart ids h))
@@ -74,7 +74,7 @@ module _ {ids near : List ℕ} (p : IsPermutation ids near) where
         once xs (IsDistinct-tail eqb x xs d),
       )
 
--- what a simplex of ids is by their positions
+-- a simplex of ids in terms of their positions
 pub simplex_in : (pts points : List Vector) (ids : List ℕ) (of s : Simplex) → points ≡ map (place pts) ids → ArePositionsOf ids of s
     → IsSimplexOf pts ids of → IsSimplexIn points s
 unfolding place
@@ -89,7 +89,7 @@ simplex_in pts points ids of s is at h = record {
     same : {p i : ℕ} → IsPositionOf ids i p → place points p ≡ place pts i
     same {p} q = ap (λ (xs : List Vector). place xs p) is ∙ get_or-map (place pts) ids p 0 origin q.0 ∙ ap (place pts) q.1
 
--- a list calls its positions what stands there
+-- a list maps positions to its ids
 pub name_is : (ids : List ℕ) (l : ℕ) → l < length ids → name_in ids l ≡ slice_index ids l
 name_is ids l h = get_or_default ids l l 0 h
 
@@ -102,7 +102,7 @@ positions_within fs ids z = record {
   k_in = λ f l. range_below (length ids) _ (z.corners f ((live_is_marked fs f).1 l) _ (inr (inr refl)));
 }
 
--- a finished surface over the positions of ids gets corners that are ids
+-- the corners of a finished surface over the positions of ids are mapped to ids
 pub named_corners : (pts : List Vector) (ids : List ℕ) (at : ℕ → Vector) (fs : List StoredFacet) → AreIndices pts ids
     → IsFinished at (range_with_len 0 (length ids)) (surface_of fs) → AreCornersBelow (length pts) (map (named_facet (name_in ids)) fs)
 named_corners pts ids at fs a z = record {

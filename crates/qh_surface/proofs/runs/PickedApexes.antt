@@ -1,4 +1,4 @@
--- The next apex: facets without an outside set are passed over, and the first point of a set is taken out of it.
+-- The next apex: facets without an outside set are skipped, and the first point of a set is removed from it.
 use Rattle.std.proofs.Common.{◌≡◌, ℕ, ◌<◌, arith, ap, sym, ◌∙◌, true, ◌⊎◌, ⊎_elim, inl, inr, List, [], ◌∷◌, All, length, drop}
 use Rattle.std.proofs.Common.{subst, slice_set, length-set, get_or-set_same, pos, ◌<ℤ◌}
 use Rattle.std.proofs.lemmas.List.{set-get_or, set-set}
@@ -20,13 +20,13 @@ pub taken_is : (v w : OutsideValue) (f : ℕ) → w.positions ≡ v.positions �
     → w.sets ≡ slice_set v.sets f (drop 1 (set_of v f)) → w ≡ taken v f
 taken_is v w f p o s i = record { positions = p i; orphans = o i; sets = s i }
 
--- to take the first of an empty set changes nothing
+-- removing the first of an empty set changes nothing
 pub none_taken : (v : OutsideValue) (f : ℕ) → set_of v f ≡ [] → taken v f ≡ v
 none_taken v f e =
     let same = ap (λ (xs : List ℕ). slice_set v.sets f (drop 1 xs)) e ∙ ap (slice_set v.sets f) (sym e) ∙ set-get_or v.sets f [] in
     λ i. record { positions = v.positions; orphans = v.orphans; sets = same i }
 
--- the first position of a set may be put back in front of it
+-- putting the first position of a set back in front restores the set
 put_back : (v : OutsideValue) (f a : ℕ) → f < length v.sets → set_of v f ≡ a ∷ drop 1 (set_of v f) → with_first (taken v f) f a ≡ v
 put_back v f a l e = λ i. record { positions = v.positions; orphans = v.orphans; sets = same i }
   where
@@ -39,7 +39,7 @@ put_back v f a l e = λ i. record { positions = v.positions; orphans = v.orphans
     same : slice_set (slice_set v.sets f rest) f (joined true a (set_of (taken v f) f)) ≡ v.sets
     same = ap (slice_set (slice_set v.sets f rest) f) whole ∙ set-set v.sets f rest (set_of v f) ∙ set-get_or v.sets f []
 
--- other facets may wait, if those with an outside set do
+-- other facets can wait, if those with an outside set do
 with_pending : {s : RunState} (waiting : List ℕ) → IsUnderWay s → All (λ g. g < length s.sets.sets) waiting
     → ((g p : ℕ) → In p (set_of s.sets g) → In g waiting) → IsUnderWay (with_waiting s s.sets waiting)
 with_pending waiting k within waits = record {
@@ -75,7 +75,7 @@ module _ {s : RunState} (k : IsUnderWay s) (rest : List ℕ) (f : ℕ) (is : IsP
         (sym (put_back s.sets f a (All-head (λ g. g < length s.sets.sets) f rest range) e)) (with_pending (f ∷ rest) k range waits);
   }
 
--- what holds without the apex and its facet
+-- the facts without the apex and its facet
 module _ {s : RunState} {f a : ℕ} (k : IsPicked s f a) where
   abbrev sets : List (List ℕ)
   sets = s.sets.sets

@@ -1,4 +1,4 @@
--- The planes of facets that were made, written one after the other.
+-- The planes of new facets, written one after the other.
 use Rattle.std.proofs.Common.{drop, slice_index, ◌≡◌, ℕ, ◌+◌, ◌<◌, ◌≤◌, arith, ◌⊎◌, inl, inr, List, length, slice_set, get_or-set_same}
 use Rattle.std.proofs.Common.{get_or-set_other, length-set}
 use Rattle.std.proofs.lemmas.{Bool.cases_eq, List.drop_all, List.drop_more}
@@ -8,17 +8,17 @@ use Rattle.qh_pred.specs.contract.Planes.{PlaneValue, height}
 use Rattle.qh_mesh.specs.contract.{Replacement.IsLive, SoundMesh.facet_vol}
 use Rattle.qh_surface.specs.steps.{Planes.no_plane, Planes.plane_at, Runs.IsPlaneOf}
 
--- the planes of the facets of which there was one, or that were made, stand but for those from i on
+-- the planes of all old and new facets are right, except those of the new facets from i
 pub record AreRenewed (pts : List Vector) (fs : List StoredFacet) (old : List PlaneValue) (made : List ℕ)
     (i : ℕ) (new : List PlaneValue) : Type 0 where
   pub is : (f : ℕ) → IsLive fs f → IsPlaneOf pts fs old f ⊎ In f made → IsPlaneOf pts fs new f ⊎ In f (drop i made)
 
 module _ {pts : List Vector} {fs : List StoredFacet} {old : List PlaneValue} {made : List ℕ} where
-  -- none is written
+  -- at the start no plane is written
   pub none_renewed : AreRenewed pts fs old made 0 old
   none_renewed = record { is = λ f l h. h }
 
-  -- one more
+  -- one more plane is written
   pub more_renewed : {ps : List PlaneValue} {i : ℕ} (plane : PlaneValue) → i < length made → slice_index made i < length ps
       → ((p : Vector) → height plane p ≡ facet_vol (place pts) fs (slice_index made i) p)
       → AreRenewed pts fs old made i ps → AreRenewed pts fs old made (i + 1) (slice_set ps (slice_index made i) plane)
@@ -33,12 +33,12 @@ module _ {pts : List Vector} {fs : List StoredFacet} {old : List PlaneValue} {ma
       by_cases f (inr d) (inl (k, q)) = inl (omega (arith, long), λ p. rw (get_or-set_other ps (slice_index made i) f plane no_plane d) (q p))
       by_cases f (inr d) (inr n) = elim (rw (drop_more made i 0 m) at n) [ inl q ↦ absurd (d q) | inr l ↦ inr l ]
 
-  -- and all
+  -- at the end all planes are written
   pub all_renewed : {ps : List PlaneValue} {i : ℕ} → length made ≤ i → AreRenewed pts fs old made i ps
       → (f : ℕ) → IsLive fs f → IsPlaneOf pts fs old f ⊎ In f made → IsPlaneOf pts fs ps f
   all_renewed {ps} {i} b r f l g = elim (r.is f l g) [ inl h ↦ h | inr n ↦ absurd (rw (drop_all i made b) at n) ]
 
--- room for more planes changes none
+-- reserving memory for planes changes no plane
 pub roomy : (pts : List Vector) (fs : List StoredFacet) (ps qs : List PlaneValue) (made : List ℕ)
     → ((f : ℕ) → f < length ps → (f < length qs) × (plane_at qs f ≡ plane_at ps f))
     → (f : ℕ) → IsPlaneOf pts fs ps f ⊎ In f made → IsPlaneOf pts fs qs f ⊎ In f made

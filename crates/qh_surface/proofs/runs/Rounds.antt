@@ -1,4 +1,4 @@
--- A round of Quickhull: where a cone replaces what the apex sees, the released points are all that must be looked at.
+-- A round of Quickhull: after a cone replaces the facets that the apex sees, only the released points need a test.
 use Rattle.std.proofs.Common.{All, ◌≡◌, ℕ, ◌<◌, arith, ap, sym, ◌∙◌, true, inl, inr, List, ◌∷◌, length, get_or, subst, pos, ◌<ℤ◌, ◌≤ℤ◌}
 use Rattle.std.proofs.lemmas.{List.get_or_read, Bool.cases_Bool}
 use Rattle.qh_model.specs.headline.{Vector.Vector, Vector.origin, Predicates.vol, Predicates.place, Sets.In}
@@ -27,7 +27,7 @@ module _ (pts : List Vector) (fs : List StoredFacet) (p : ℕ) where
   done_of : IsUnseen (surface_of fs) (weighted_at (place pts)) (weighted_at (place pts) p) → IsDone pts fs p
   done_of u f l = rw (rise-vol (place pts) fs f p) at (u f (in_live fs f l))
 
--- what a round has after its replacement: the mesh, the facets that the apex saw, those that were made
+-- the state of a round after its replacement: the mesh, the facets that the apex saw, and the new facets
 pub record IsRound (pts : List Vector) (old new : List StoredFacet) (vs : List ℕ) (a : ℕ) (made : List ℕ) : Type 0 where
   pub visible : AreVisible (place pts) old vs a
   pub replaced : IsReplacement old new vs a made
@@ -48,7 +48,7 @@ module _ {pts : List Vector} {old new : List StoredFacet} {vs made : List ℕ} {
   abbrev m' : Surface
   m' = surface_of new
 
-  -- a facet that stays has its volumes
+  -- a facet that stays keeps its volumes
   stays-vol : (f : ℕ) (q : Vector) → IsKept old vs f → facet_vol at new f q ≡ facet_vol at old f q
   stays-vol f q h = let k = d.replaced.kept f h in λ i. vol (at (k.i_is i)) (at (k.j_is i)) (at (k.k_is i)) q
 
@@ -72,7 +72,7 @@ module _ {pts : List Vector} {old new : List StoredFacet} {vs made : List ℕ} {
 
   -- around a point in the old mesh
   module _ {o : Weighted} (z : IsSoundMesh (place pts) old o) where
-    -- the cone is made of the facets that were made
+    -- the cone consists of the new facets
     cone_unseen : (q : ℕ) → All (λ f. height_at pts new f q ≤ℤ pos 0) made → IsConeUnseen m home (home a) (home q)
     cone_unseen q h f i s k b =
         let r = d.rewired in let g = r.number f s in
@@ -86,12 +86,12 @@ module _ {pts : List Vector} {old new : List StoredFacet} {vs made : List ℕ} {
           | inr x ↦ All-In (λ f. height_at pts new f q ≤ℤ pos 0) made g h x
         ])
 
-    -- a point that no facet saw is seen by none
+    -- a point that no facet saw is seen by no facet
     still_done : (p : ℕ) → IsDone pts old p → IsDone pts new p
     still_done p x = done_of pts new p (settled_stay_unseen m m' home o a z.0 z.1 d.rewired (home p)
         (λ f i. rw (rise-vol at old f p) (x f (live_in old f i))))
 
-    -- nor is one that saw a facet that went and sees none that was made
+    -- a point that saw a removed facet and sees no new facet is seen by no facet
     drop_done : (p g : ℕ) → IsLive old g → is_listed vs g ≡ true → pos 0 <ℤ height_at pts old g p
         → All (λ f. height_at pts new f p ≤ℤ pos 0) made → IsDone pts new p
     drop_done p g l e s h f b = elim (d.replaced.only f b) [
@@ -102,7 +102,7 @@ module _ {pts : List Vector} {old new : List StoredFacet} {vs made : List ℕ} {
       | inr i ↦ All-In (λ f. height_at pts new f p ≤ℤ pos 0) made f h i
     ]
 
--- then the points that were released are all that must be looked at
+-- so only the released points need a test
 pub remade : {s : RunState} {new : List StoredFacet} {w : OutsideValue} {vs made : List ℕ} {f a : ℕ} → IsPicked s f a
     → IsRound s.points s.mesh new vs a made → AreReleased s.sets w vs → w.positions ≡ s.sets.positions
     → length w.sets ≡ length s.sets.sets
@@ -159,13 +159,13 @@ remade {s} {new} {w} {vs} {made} {f} {a} picked d rel e n = record {
       | inr h ↦ record { live = (still_outside picked g p (rel.kept g p i)).0; unlisted = h }
     ]
 
-    -- and is not the one whose turn it was
+    -- the facet is not the one that is processed
     other : (g p : ℕ) → In p (set_of w g) → g ≡ f → ⊥
     other g p i h =
         let seen = apex_outside picked in
         not_less _ _ seen.1 (d.visible.unseen f seen.0 (ap (is_listed vs) (sym h) ∙ (stays g p i).unlisted))
 
--- the point at a position, read from the list
+-- the point at a position of the list
 pub read_point : (pts : List Vector) (a : ℕ) (point : Vector) → a < length pts → point ≡ get_or pts a point → point ≡ place pts a
 unfolding place
 read_point pts a point l h = get_or_read pts a point l h origin

@@ -5,21 +5,21 @@ use Rattle.std.proofs.lemmas.{Bool.cases_eq, Grind.common_steps, List.set_past, 
 use Rattle.qh_model.specs.headline.Sets.{In}
 use Rattle.qh_surface.specs.contract.OutsideSets.{joined}
 
--- a member after a write is one of what was written, or was one
+-- a member after a write is a member of the written set, or was a member before
 pub of_write : (xs : List (List ℕ)) (f : ℕ) (ys : List ℕ) (g q : ℕ)
     → In q (get_or (set xs f ys) g []) → ((g ≡ f) × In q ys) ⊎ In q (get_or xs g [])
 of_write xs f ys g q i = grind (arith, common_steps, i, set_past xs f ys)
 
--- and the members of other sets stay
+-- the members of other sets stay
 pub write_keeps : (xs : List (List ℕ)) (f : ℕ) (ys : List ℕ) (g q : ℕ)
     → (g ≡ f → ⊥) → In q (get_or xs g []) → In q (get_or (set xs f ys) g [])
 write_keeps xs f ys g q n i = rw (get_or-set_other xs f g ys [] n) i
 
--- an empty set that was written is empty
+-- a set is empty after an empty set was written
 pub write_empty : (xs : List (List ℕ)) (f g : ℕ) → (g ≡ f) ⊎ (get_or xs g [] ≡ []) → get_or (set xs f []) g [] ≡ []
 write_empty xs f g h = grind (arith, common_steps, h, set_past xs f [], get_or_past xs g [])
 
--- members of a set that a position joined
+-- the members of a set after a position joined it
 of_joined : (b : Bool) (p q : ℕ) (xs : List ℕ) → In q (joined b p xs) → (q ≡ p) ⊎ In q xs
 of_joined b p q [] i = grind (arith, i)
 of_joined true p q (x ∷ xs) i = grind (arith, i)
@@ -30,12 +30,12 @@ joined_has b p q [] i = i
 joined_has true p q (x ∷ xs) i = i
 joined_has false p q (x ∷ xs) i = grind (arith, i)
 
--- in front is before all
+-- the front comes before all others
 pub joined_front : (p : ℕ) (xs : List ℕ) → joined true p xs ≡ p ∷ xs
 joined_front p [] = refl
 joined_front p (x ∷ xs) = refl
 
--- what a set has after a position joined one: that position, or what it had
+-- after a position joined a set, its members are this position and the old ones
 pub of_join : (xs : List (List ℕ)) (f : ℕ) (b : Bool) (p g q : ℕ)
     → In q (get_or (set xs f (joined b p (get_or xs f []))) g []) → ((g ≡ f) × (q ≡ p)) ⊎ In q (get_or xs g [])
 of_join xs f b p g q i = elim (of_write xs f (joined b p (get_or xs f [])) g q i) [
@@ -53,6 +53,6 @@ join_keeps xs f b p g q l i = elim (cases_eq g f) [
   | inr n ↦ write_keeps xs f (joined b p (get_or xs f [])) g q n i
 ]
 
--- room for more sets changes none
+-- room for more sets changes no set
 pub grown-set : (xs : List (List ℕ)) (n f : ℕ) → get_or (xs ++ replicate n []) f [] ≡ get_or xs f []
 grown-set xs n f = grind (arith, common_steps)

@@ -15,11 +15,11 @@ use Rattle.qh_surface.specs.steps.Settling.{IsDropped, IsAssigned, IsOneSettled,
 use Rattle.qh_surface.proofs.runs.SetWrites.{of_write, write_keeps, write_empty, of_join, join_has, join_keeps}
 
 -- ---- released
--- of no facet
+-- the points of no facet are released
 pub none_released : (v : OutsideValue) → AreReleased v v []
 none_released v = record { emptied = λ f n. absurd n; kept = λ f p i. i; moved = λ f p i. inl i; orphans = λ p i. inl i }
 
--- of one facet more
+-- the points of one more facet are released
 pub more_released : {v0 v w : OutsideValue} {vs : List ℕ} (x : ℕ) → AreReleased v0 v vs
     → w.orphans ≡ set_of v x ++ v.orphans → w.sets ≡ slice_set v.sets x [] → AreReleased v0 w (vs ++ x ∷ [])
 more_released {v0} {v} {w} {vs} x r o s = record {
@@ -41,7 +41,7 @@ more_released {v0} {v} {w} {vs} x r o s = record {
     orphans p (inr i) = elim (r.orphans p i) [ inl h ↦ inl h | inr h ↦ inr (h.0, in_append vs (x ∷ []) h.0 (inl h.1), h.2) ]
 
 -- ---- settled
--- the sets keep their points and get such as are above facets that were made, and orphans stay, are set or seen by none
+-- the sets keep their points and gain points above new facets; an orphan stays one, joins a set, or is seen by no facet
 settled_by : {pts : List Vector} {fs : List StoredFacet} {v w : OutsideValue} {pending made : List ℕ} → IsSettling pts fs v pending made
     → ((f p : ℕ) → In p (set_of w f) → In p (set_of v f) ⊎ (IsLive fs f × (pos 0 <ℤ height_at pts fs f p) × In f made))
     → ((p : ℕ) → In p w.orphans → In p v.orphans) → ((f p : ℕ) → In p (set_of v f) → In p (set_of w f))
@@ -53,12 +53,12 @@ settled_by k held rest still placed = record {
   drops = λ p i. k.drops p (rest p i);
 }
 
--- the same sets and orphans, in other values
+-- the same sets and orphans in another value
 pub same_settling : {pts : List Vector} {fs : List StoredFacet} {v w : OutsideValue} {pending made : List ℕ}
     → ((f : ℕ) → set_of w f ≡ set_of v f) → w.orphans ≡ v.orphans → IsSettling pts fs v pending made → IsSettling pts fs w pending made
 same_settling s o k = settled_by k (λ f p i. inl (rw (s f) at i)) (λ p i. rw o at i) (λ f p i. rw (s f) i) (λ p i. inl (rw o i))
 
--- the height of a position's point over a live facet, by its plane
+-- the height of a position's point above a live facet, from its plane
 plane_height : (pts : List Vector) (fs : List StoredFacet) (ps : List PlaneValue) (f p : ℕ)
     → ArePlanes (place pts) fs ps → IsLive fs f → height (plane_at ps f) (slice_index_or pts p origin) ≡ height_at pts fs f p
 unfolding place

@@ -1,18 +1,18 @@
--- The facets that were made wait for their turn if they have an outside set.
+-- The new facets with an outside set wait to be processed.
 use Rattle.std.proofs.Common.{All, ◌≡◌, ℕ, ◌<◌, ap, ◌∙◌, inl, inr, List, [], ◌∷◌, ◌++◌, length, subst}
 use Rattle.std.proofs.lemmas.List.Elements.{All-push}
 use Rattle.qh_model.specs.headline.Sets.{In}
 use Rattle.qh_model.proofs.lists.Joined.{in_append, of_append}
 use Rattle.qh_surface.specs.contract.OutsideSets.{OutsideValue, set_of}
 
--- those that waited, and of those made the ones with an outside set
+-- the facets that waited, and the new facets with an outside set
 pub record AreQueued (v : OutsideValue) (old new made : List ℕ) : Type 0 where
   pub within : All (λ f. f < length v.sets) old → All (λ f. f < length v.sets) new
   pub kept : (f : ℕ) → In f old → In f new
   pub added : (f p : ℕ) → In f made → In p (set_of v f) → In f new
 
 module _ (v : OutsideValue) (old new made : List ℕ) (x : ℕ) where
-  -- one with a set is
+  -- a new facet with an outside set waits
   pub more_queued : x < length v.sets → AreQueued v old new made → AreQueued v old (new ++ x ∷ []) (made ++ x ∷ [])
   more_queued l q = record {
     within = λ h. All-push (λ f. f < length v.sets) new x (q.within h) l;
@@ -20,7 +20,7 @@ module _ (v : OutsideValue) (old new made : List ℕ) (x : ℕ) where
     added = λ f p n i. in_append new (x ∷ []) f (elim (of_append made (x ∷ []) f n) [ inl m ↦ inl (q.added f p m i) | inr e ↦ inr e ]);
   }
 
-  -- one without need not be
+  -- a new facet without an outside set need not wait
   pub more_idle : set_of v x ≡ [] → AreQueued v old new made → AreQueued v old new (made ++ x ∷ [])
   more_idle e q = record {
     within = q.within;

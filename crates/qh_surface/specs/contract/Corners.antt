@@ -1,4 +1,4 @@
--- Where the corners of a mesh are.
+-- The range of the corners of a mesh.
 use Rattle.std.specs.Prelude.{ℕ, ◌<◌, List}
 use Rattle.qh_model.specs.contract.StoredSurface.{StoredFacet, facet_at}
 use Rattle.qh_mesh.specs.contract.Replacement.{IsLive}

@@ -1,4 +1,4 @@
--- A mesh over positions of a list of ids, and the same over the ids.
+-- A mesh over positions of a list of ids, and the same mesh over the ids.
 use Rattle.std.specs.Prelude.{◌≡◌, List, length, map}
 use Rattle.qh_model.specs.headline.Vector.{Vector}
 use Rattle.qh_model.specs.headline.Predicates.{place}
@@ -7,11 +7,11 @@ use Rattle.qh_mesh.specs.contract.Names.{name_in}
 use Rattle.qh_surface.specs.declared.named_mesh.NamedMesh.{NamedMesh}
 use Rattle.qh_surface.specs.contract.Corners.{AreCornersBelow}
 
--- its facets, with ids as corners
+-- the facets of the mesh, with ids as corners
 abbrev pub named : NamedMesh → List StoredFacet
 named m = map (named_facet (name_in m.ids.items)) m.mesh
 
--- the positions are those of ids, whose points are at hand
+-- the positions are those of ids, and the mesh has the points of these ids
 pub record IsNamedMesh (pts : List Vector) (m : NamedMesh) : Type 0 where
   pub points : m.points.items ≡ map (place pts) m.ids.items
   pub positions : AreCornersBelow (length m.ids.items) m.mesh

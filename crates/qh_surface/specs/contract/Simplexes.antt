@@ -1,4 +1,4 @@
--- First simplexes of runs.
+-- Initial simplexes of runs.
 -- Source: Barber, Dobkin and Huhdanpaa 1996.
 use Rattle.std.specs.Prelude.{◌≢◌, ℕ, pos, List}
 use Rattle.qh_model.specs.headline.Vector.{Vector}

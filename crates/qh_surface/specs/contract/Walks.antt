@@ -1,4 +1,4 @@
--- Walks over twins, from facets that pass a test P: what they keep on their way.
+-- Walks over twins, from facets that pass a test P, and their invariants.
 -- Source: Barber, Dobkin and Huhdanpaa 1996 (the visible set is found by a search over neighbours).
 use Rattle.std.specs.Prelude.{All, slice_index, ◌≡◌, ◌⊎◌, ℕ, ◌<◌, ◌≤◌, List, [], Bool, length, slice_index_or, true, false}
 use Rattle.qh_model.specs.headline.Sets.{In}
@@ -13,7 +13,7 @@ abbrev pub is_set : Mark → Bool
 is_set marks.Unset = false
 is_set marks.Set = true
 
--- the mark of place f; past the end no place is marked
+-- the mark of place f; it is not set past the end
 abbrev pub mark_at : List Bool → ℕ → Bool
 mark_at marks f = slice_index_or marks f false
 
@@ -31,15 +31,15 @@ pub record IsWalk (P : ℕ → Type 0) (fs : List StoredFacet) (marks : List Boo
 abbrev pub IsMet : (ℕ → Type 0) → List Bool → ℕ → Type 0
 IsMet P marks f = P f → IsMarked marks f
 
--- the neighbours of facet f are
+-- each neighbour of facet f is marked if it passes
 abbrev pub IsCrossed : (ℕ → Type 0) → List StoredFacet → List Bool → ℕ → Type 0
 IsCrossed P fs marks f = (s : Side) → IsMet P marks ((surface_of fs).over f s)
 
--- those of the first n facets found are
+-- each neighbour of the first n facets found is marked if it passes
 abbrev pub AreCrossed : (ℕ → Type 0) → List StoredFacet → List Bool → List ℕ → ℕ → Type 0
 AreCrossed P fs marks found n = (j : ℕ) → j < n → IsCrossed P fs marks (slice_index found j)
 
--- what was marked and found before still is, and stands where it stood; what was marked since was found
+-- marks stay set and found facets keep their positions; each facet marked since was found
 pub record IsFurther (marks marks' : List Bool) (found found' : List ℕ) : Type 0 where
   pub len : length marks' ≡ length marks
   pub kept : (f : ℕ) → IsMarked marks f → IsMarked marks' f
@@ -47,7 +47,7 @@ pub record IsFurther (marks marks' : List Bool) (found found' : List ℕ) : Type
   pub longer : length found ≤ length found'
   pub same : (j : ℕ) → j < length found → slice_index found' j ≡ slice_index found j
 
--- a walk from facet f over all that it found
+-- a complete walk from facet f
 pub record IsWalkFrom (P : ℕ → Type 0) (fs : List StoredFacet) (before after : List Bool) (f : ℕ) (found : List ℕ)
     : Type 0 where
   pub walk : IsWalk P fs after found

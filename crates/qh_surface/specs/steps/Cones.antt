@@ -1,4 +1,4 @@
--- Large cones: their facets as wedges in a ring round the apex, and what a search through the ring tells of a point.
+-- Large cones: their facets as wedges in a ring round the apex, and the results of a search through the ring.
 -- Source: Barber, Dobkin and Huhdanpaa 1996 (the cone of new facets over the horizon).
 use Rattle.std.specs.Prelude.{All, slice_index, ◌≡◌, ℕ, ◌<◌, List, length, slice_index_or, pos, ◌≤ℤ◌, ◌<ℤ◌}
 use Rattle.qh_model.specs.headline.Vector.{Vector, origin}
@@ -15,13 +15,13 @@ use Rattle.qh_surface.specs.declared.quickhull.cone_ring.Wedge.{Wedge}
 use Rattle.qh_surface.specs.declared.quickhull.cone_search.Visibility.{Visibility}
 use Rattle.qh_surface.specs.declared.quickhull.cone_search.Visibility.TheVariants.{Seen, Unseen, Unknown}
 
--- the facets have one third corner, and with each the list has the neighbour over its second side
+-- the facets share their third corner, and for each facet the list has the neighbour across its second side
 pub record IsFan (fs : List StoredFacet) (made : List ℕ) : Type 0 where
   pub apex : ℕ
   pub turned : All (λ f. (facet_at fs f).k ≡ apex) made
   pub closed : (f : ℕ) → In f made → In (facet_of (twin_of fs (edge_of f second))) made
 
--- the point of their third corner
+-- the point of the third corner that facets share
 abbrev pub apex_of : List Vector → List StoredFacet → List ℕ → Vector
 apex_of pts fs made = place pts (facet_at fs (slice_index made 0)).k
 
@@ -47,14 +47,14 @@ pub record IsConePlane (a : Vector) (w : Wedge) (plane : PlaneValue) : Type 0 wh
   pub from_below : height plane w.from ≤ℤ pos 0
   pub to_below : height plane w.to ≤ℤ pos 0
 
--- the wedge is that of a facet that was made, a triangle at the apex a, and has no ray above one that was made
+-- the wedge is that of a new facet, a triangle at the apex a, and has no ray above a new facet
 pub record IsWedge (ps : List PlaneValue) (made : List ℕ) (a : Vector) (w : Wedge) : Type 0 where
   pub named : In w.facet made
   pub plane : w.plane ≡ plane_at ps w.facet
   pub triangle : (q : Vector) → height w.plane q ≡ vol a w.from w.to q
   pub below : All (λ f. IsConePlane a w (plane_at ps f)) made
 
--- each wedge of the ring is one
+-- each wedge of the ring is the wedge of a new facet
 abbrev pub AreWedges : List PlaneValue → List ℕ → Vector → List Wedge → Type 0
 AreWedges ps made a ws = (i : ℕ) → i < length ws → IsWedge ps made a (wedge_at ws i)
 
@@ -63,7 +63,7 @@ abbrev pub AreTriangles : Vector → List Wedge → Type 0
 AreTriangles a ws = (i : ℕ) → i < length ws
     → (q : Vector) → height (wedge_at ws i).plane q ≡ vol a (wedge_at ws i).from (wedge_at ws i).to q
 
--- a wedge's facet f sees p
+-- the facet f of some wedge sees p
 pub record IsSeenBy (ws : List Wedge) (p : Vector) (f : ℕ) : Type 0 where
   pub place : ℕ
   pub within : place < length ws
@@ -83,7 +83,7 @@ pub record IsAmongRays (a : Vector) (ws : List Wedge) (p : Vector) : Type 0 wher
   pub within : place < length ws
   pub between : IsBetweenRays a (wedge_at ws 0).from (wedge_at ws place).from (wedge_at ws place).to p
 
--- the certificate of each answer
+-- the certificate of each result
 abbrev pub IsAnswer : Vector → List Wedge → Vector → Visibility → Type 0
 IsAnswer a ws p (Seen f) = IsSeenBy ws p f
 IsAnswer a ws p Unseen = IsAmongRays a ws p

@@ -1,19 +1,19 @@
--- How outside sets are kept: chains of positions over one list of links.
+-- The storage of outside sets: chains of positions over one list of links.
 use Rattle.std.specs.Prelude.{◌≡◌, ℕ, zero, suc, ◌+◌, ◌<◌, ◌≤◌, List, [], ◌∷◌, length, map, cond, nat_eq, nat_lt, slice_index}
 use Rattle.std.specs.List.{sum_by}
 use Rattle.qh_surface.specs.contract.OutsideSets.{OutsideValue}
 use Rattle.qh_surface.specs.declared.outside_sets.Ends.{Ends}
 
--- the number of no position
+-- the number that is not a position
 abbrev pub none : ℕ
 none = 4294967295
 
--- the first n positions of the chain from p on: it ends at a number that is no position
+-- the first n positions of the chain that begins at p: it ends at a number that is not a position
 unfoldable pub chain_from : List ℕ → ℕ → ℕ → List ℕ
 chain_from links zero p = []
 chain_from links (suc n) p = cond (nat_lt p (length links)) (p ∷ chain_from links n (slice_index links p)) []
 
--- what links, ends and a first orphan stand for
+-- the value that links, ends and a first orphan represent
 unfoldable pub value_of : List ℕ → List Ends → ℕ → OutsideValue
 value_of links es orphan =
     record {
@@ -22,7 +22,7 @@ value_of links es orphan =
       sets = map (λ e. chain_from links (length links) e.first) es;
     }
 
--- the list is the chain from p on
+-- the list is the chain that begins at p
 abbrev pub IsChain : List ℕ → ℕ → List ℕ → Type 0
 IsChain links p [] = length links ≤ p
 IsChain links p (x ∷ xs) = (p ≡ x) × (x < length links) × IsChain links (slice_index links x) xs
@@ -43,12 +43,12 @@ pub data AreSets (links : List ℕ) : List Ends → List (List ℕ) → Type 0 w
   one_more : {e : Ends} {es : List Ends} {xs : List ℕ} {xss : List (List ℕ)} → IsSet links e xs → AreSets links es xss
       → AreSets links (e ∷ es) (xs ∷ xss)
 
--- how often x stands in a list
+-- the number of times that x occurs in a list
 abbrev pub count : ℕ → List ℕ → ℕ
 count x [] = 0
 count x (y ∷ ys) = cond (nat_eq x y) 1 0 + count x ys
 
--- links, ends and a first orphan hold these orphans and sets: no position stands in them twice
+-- links, ends and a first orphan store these orphans and sets: no position occurs in them twice
 pub record IsKept (links : List ℕ) (es : List Ends) (orphan : ℕ) (orphans : List ℕ) (sets : List (List ℕ)) : Type 0 where
   pub small : length links ≤ none
   pub chain : IsChain links orphan orphans
@@ -56,6 +56,6 @@ pub record IsKept (links : List ℕ) (es : List Ends) (orphan : ℕ) (orphans : 
   pub once : (x : ℕ) → count x orphans + sum_by (count x) sets ≤ 1
   pub total : length orphans + sum_by length sets ≤ length links
 
--- they hold some
+-- links, ends and a first orphan store some orphans and sets
 abbrev pub AreKept : List ℕ → List Ends → ℕ → Type 0
 AreKept links es orphan = (orphans : List ℕ) × (sets : List (List ℕ)) × IsKept links es orphan orphans sets

@@ -1,4 +1,4 @@
--- First simplexes over positions of the ids.
+-- Initial simplexes over positions of the ids.
 use Rattle.std.specs.Prelude.{◌≡◌, ◌≢◌, ℕ, ◌<◌, pos, List, length, slice_index}
 use Rattle.qh_model.specs.headline.Vector.{Vector}
 use Rattle.qh_model.specs.headline.Predicates.{place, vol}
@@ -12,11 +12,11 @@ pub record IsSimplexIn (points : List Vector) (s : Simplex) : Type 0 where
   pub l_in : s.l < length points
   pub volume : vol (place points s.i) (place points s.j) (place points s.k) (place points s.l) ≢ pos 0
 
--- p is a position of the list at which the id stands
+-- p is a position of the id in the list
 abbrev pub IsPositionOf : List ℕ → ℕ → ℕ → Type 0
 IsPositionOf ids id p = (p < length ids) × (slice_index ids p ≡ id)
 
--- and so for four ids
+-- the second simplex has positions of the four ids of the first
 pub record ArePositionsOf (ids : List ℕ) (of s : Simplex) : Type 0 where
   pub i_is : IsPositionOf ids of.i s.i
   pub j_is : IsPositionOf ids of.j s.j

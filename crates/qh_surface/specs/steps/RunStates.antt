@@ -1,8 +1,8 @@
--- What the definitions on runs see of a run.
+-- The state of a run that the definitions use.
 use Rattle.qh_surface.specs.declared.quickhull.run.Run.{Run}
 use Rattle.qh_surface.specs.steps.Runs.{RunState}
 
--- the lists of a run, without those that only a round uses
+-- the lists of a run, without those that are used within one round only
 abbrev pub state_of : Run → RunState
 state_of r =
     record { points = r.points.items; mesh = r.mesh; planes = r.planes.items; sets = r.sets; pending = r.pending.items }

@@ -1,4 +1,4 @@
--- A run of Quickhull over a list of points, each known by its position: what holds between two rounds, and within a round.
+-- A run of Quickhull over a list of points, each identified by its position: the invariants between two rounds, and within a round.
 -- Source: Barber, Dobkin and Huhdanpaa 1996 (outside sets, the horizon, the cone of new facets).
 use Rattle.std.specs.Prelude.{All, ◌≡◌, ℕ, ◌<◌, ◌≤◌, ◌⊎◌, List, [], ◌∷◌, length, slice_set, true, ℤ, pos, ◌≤ℤ◌, ◌<ℤ◌}
 use Rattle.qh_model.specs.headline.Vector.{Vector}
@@ -13,7 +13,7 @@ use Rattle.qh_surface.specs.contract.Corners.{AreCornersBelow}
 use Rattle.qh_surface.specs.steps.Planes.{plane_at, ArePlanes}
 use Rattle.qh_surface.specs.contract.OutsideSets.{OutsideValue, set_of, joined}
 
--- six times the volume of facet f and the point at position p: above 0 where the facet strictly sees it
+-- six times the volume of facet f and the point at position p: above 0 if the facet strictly sees it
 abbrev pub height_at : List Vector → List StoredFacet → ℕ → ℕ → ℤ
 height_at pts fs f p = facet_vol (place pts) fs f (place pts p)
 
@@ -25,7 +25,7 @@ IsDone pts fs p = (f : ℕ) → IsLive fs f → height_at pts fs f p ≤ℤ pos 
 abbrev pub AreDone : List Vector → List StoredFacet → Type 0
 AreDone pts fs = (p : ℕ) → p < length pts → IsDone pts fs p
 
--- position p stands in some outside set
+-- position p is in some outside set
 abbrev pub IsOutside : OutsideValue → ℕ → Type 0
 IsOutside v p = (f : ℕ) × In p (set_of v f)
 
@@ -48,8 +48,8 @@ pub record IsGrown (pts : List Vector) (fs : List StoredFacet) : Type 0 where
   pub closed : IsClosedMesh (place pts) fs
   pub corners : AreCornersBelow (length pts) fs
 
--- what a run keeps from round to round: points known by position, a mesh over them, the plane of each place,
--- the points that are not settled, and the facets that wait for their turn
+-- the state that a run keeps from round to round: points by position, a mesh over them, the plane of each place, the points that are not settled, and the
+-- facets that wait
 pub record RunState : Type 0 where
   pub points : List Vector
   pub mesh : List StoredFacet
@@ -57,8 +57,7 @@ pub record RunState : Type 0 where
   pub sets : OutsideValue
   pub pending : List ℕ
 
--- between rounds: each point stands in the outside set of a facet that it is above, and that waits for its turn,
--- or no facet sees it
+-- between rounds: each point is in the outside set of a waiting facet that it is above, or no facet sees it
 pub record IsUnderWay (s : RunState) : Type 0 where
   pub grown : IsGrown s.points s.mesh
   pub planes : ArePlanes (place s.points) s.mesh s.planes
@@ -70,7 +69,7 @@ pub record IsUnderWay (s : RunState) : Type 0 where
   pub waits : (f p : ℕ) → In p (set_of s.sets f) → In f s.pending
   pub all : (p : ℕ) → p < length s.points → IsOutside s.sets p ⊎ IsDone s.points s.mesh p
 
--- the run with these sets, and these facets that wait
+-- the run with these sets and these waiting facets
 abbrev pub with_waiting : RunState → OutsideValue → List ℕ → RunState
 with_waiting s v pending = record { points = s.points; mesh = s.mesh; planes = s.planes; sets = v; pending = pending }
 
@@ -79,12 +78,12 @@ abbrev pub with_first : OutsideValue → ℕ → ℕ → OutsideValue
 with_first v f a =
     record { positions = v.positions; orphans = v.orphans; sets = slice_set v.sets f (joined true a (set_of v f)) }
 
--- the position a was taken out of the outside set of facet f, to be the next apex: with both put back, the run is under way
+-- the position a was removed from the outside set of facet f, to be the next apex: with both restored, the run is under way
 pub record IsPicked (s : RunState) (f a : ℕ) : Type 0 where
   pub apex : a < length s.points
   pub before : IsUnderWay (with_waiting s (with_first s.sets f a) (f ∷ s.pending))
 
--- while the orphans go to the facets that were made: an orphan that sees none of these sees no facet
+-- while the orphans are distributed among the new facets: an orphan that sees no new facet sees no facet
 pub record IsSettling (pts : List Vector) (fs : List StoredFacet) (v : OutsideValue)
     (pending made : List ℕ) : Type 0 where
   pub outside : AreOutside pts fs v
@@ -92,11 +91,11 @@ pub record IsSettling (pts : List Vector) (fs : List StoredFacet) (v : OutsideVa
   pub all : (p : ℕ) → p < length pts → In p v.orphans ⊎ IsOutside v p ⊎ IsDone pts fs p
   pub drops : (p : ℕ) → In p v.orphans → All (λ f. height_at pts fs f p ≤ℤ pos 0) made → IsDone pts fs p
 
--- the plane at f is that of the facet
+-- the plane at f is that of facet f
 abbrev pub IsPlaneOf : List Vector → List StoredFacet → List PlaneValue → ℕ → Type 0
 IsPlaneOf pts fs ps f = (f < length ps) × ((p : Vector) → height (plane_at ps f) p ≡ facet_vol (place pts) fs f p)
 
--- facets were made that have no plane and no outside set yet
+-- there are new facets that have no plane and no outside set yet
 pub record IsRemade (s : RunState) (made : List ℕ) : Type 0 where
   pub grown : IsGrown s.points s.mesh
   pub planes : (f : ℕ) → IsLive s.mesh f → IsPlaneOf s.points s.mesh s.planes f ⊎ In f made

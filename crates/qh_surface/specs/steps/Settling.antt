@@ -1,5 +1,5 @@
--- How one orphan finds its outside set, and what is released where facets go.
--- Source: Barber, Dobkin and Huhdanpaa 1996 (the points of the facets that go are partitioned among the new ones).
+-- How one orphan gets its outside set, and which points are released when facets are removed.
+-- Source: Barber, Dobkin and Huhdanpaa 1996 (the points of removed facets are partitioned among the new ones).
 use Rattle.std.specs.Prelude.{All, ◌≡◌, ℕ, ◌⊎◌, Bool, List, [], drop, slice_index, slice_index_or, slice_set, pos, ◌≤ℤ◌, ◌<ℤ◌}
 use Rattle.qh_model.specs.headline.Vector.{Vector, origin}
 use Rattle.qh_model.specs.headline.Sets.{In}
@@ -11,12 +11,12 @@ use Rattle.qh_surface.specs.contract.OutsideSets.{OutsideValue, set_of, joined}
 abbrev pub IsAboveNone : List PlaneValue → List ℕ → Vector → Type 0
 IsAboveNone ps made q = All (λ f. height (plane_at ps f) q ≤ℤ pos 0) made
 
--- the first orphan is above none of the facets, and stands in no set
+-- the first orphan is above none of the facets, and is in no set
 pub record IsDropped (ps : List PlaneValue) (points : List Vector) (made : List ℕ) (old new : OutsideValue) : Type 0 where
   pub unseen : IsAboveNone ps made (slice_index_or points (slice_index old.orphans 0) origin)
   pub sets : new.sets ≡ old.sets
 
--- it joined the set of one of the facets that it is above
+-- the first orphan joined the set of one of the facets that it is above
 pub record IsAssigned (ps : List PlaneValue) (points : List Vector) (made : List ℕ) (old new : OutsideValue) : Type 0 where
   pub facet : ℕ
   pub named : In facet made
@@ -24,12 +24,12 @@ pub record IsAssigned (ps : List PlaneValue) (points : List Vector) (made : List
   pub in_front : Bool
   pub sets : new.sets ≡ slice_set old.sets facet (joined in_front (slice_index old.orphans 0) (set_of old facet))
 
--- one or the other, and it is no orphan any more
+-- the first orphan was dropped or assigned, and is no longer an orphan
 pub record IsOneSettled (ps : List PlaneValue) (points : List Vector) (made : List ℕ) (old new : OutsideValue) : Type 0 where
   pub orphans : new.orphans ≡ drop 1 old.orphans
   pub fate : IsDropped ps points made old new ⊎ IsAssigned ps points made old new
 
--- the sets of the facets are empty, their points are orphans, and the other sets stay
+-- the sets of the facets are empty, their points are orphans, and the other sets do not change
 pub record AreReleased (old new : OutsideValue) (gone : List ℕ) : Type 0 where
   pub emptied : (f : ℕ) → In f gone → set_of new f ≡ []
   pub kept : (f p : ℕ) → In p (set_of new f) → In p (set_of old f)

@@ -1,8 +1,8 @@
 //! The facets of a large cone in a ring round its apex.
 //!
-//! Neighbouring facets of a cone meet in an edge from the apex, so a walk over these edges meets all facets.
-//! In that order a search can find the one facet that a point has to be tested against
-//! (`cone_search`). The ring begins where the cone is strictly convex.
+//! Neighbouring facets of a cone meet in an edge from the apex, so a walk over these edges meets all facets. In that
+//! order a search can find the one facet to test a point against (`cone_search`). The ring begins where the cone is
+//! strictly convex.
 ghost use Rattle.std.specs.Prelude.{All, ◌≡◌, ◌<◌, length, OnOk, []};
 ghost use Rattle.qh_model.specs.headline.Sets.{In};
 ghost use Rattle.qh_model.specs.headline.Predicates.{place};
@@ -20,7 +20,7 @@ use qh_model::{Memory, Point};
 use qh_pred::{Plane, point_at};
 use std::alloc::{AllocError, Global};
 
-/// The number of facets of a cone that are tested one by one. A cone that has more is searched.
+/// The greatest number of facets of a cone that are tested one by one. A larger cone is searched.
 pub const SCANNED: usize = 16;
 
 /// A facet of a cone, between two rays from the apex.
@@ -30,24 +30,24 @@ pub struct Wedge {
     pub facet: FacetNo,
     /// Its plane.
     pub plane: Plane,
-    /// The corner of the ray where it begins.
+    /// The corner of the ray at which the wedge begins.
     pub from: Point,
-    /// The corner of the ray where it ends and the next one begins.
+    /// The corner of the ray at which the wedge ends and the next one begins.
     pub to: Point,
 }
 
-/// The ring of a large cone, with room that it keeps from round to round. That of a small cone is empty.
+/// The ring of a large cone. It keeps its memory from round to round. The ring of a small cone is empty.
 #[derive(Drop)]
 pub struct ConeRing {
-    /// The corner that the facets have in common.
+    /// The corner that the facets share.
     pub apex: Point,
-    /// The facets, each followed by its neighbour over the ray where it ends.
+    /// The facets, each followed by its neighbour across the ray at which it ends.
     pub wedges: Vec<Wedge>,
-    /// The place of a wedge whose plane has the first ray strictly below.
+    /// The index of a wedge that has the first ray strictly below its plane.
     pub opposite: usize,
 }
 
-/// Returns the neighbour of a facet over the ray where it ends.
+/// Returns the neighbour of a facet across the ray at which the facet ends.
 fn next_facet(mesh: &Mesh, facet: FacetNo) -> FacetNo
     requires { IsLive mesh.now facet }
     ensures { result ≡ facet_of (twin_of mesh.now (edge_of facet second)) }
@@ -74,8 +74,8 @@ fn wedge_of(pts: &[Point], mesh: &Mesh, planes: &[Plane], facet: FacetNo) -> Wed
     }
 }
 
-/// Returns a facet where the cone is strictly convex: the ray before it is strictly below its plane.
-/// There is one, since no plane has all rays of a cone.
+/// Returns a facet where the cone is strictly convex: the ray before it is strictly below its plane. There is one,
+/// since no plane contains all rays of a cone.
 fn first_facet(pts: &[Point], mesh: &Mesh, planes: &[Plane], made: &[FacetNo]) -> FacetNo
     requires some { 0 < length made.now }
     requires live { All (IsLive mesh.now) made.now }
@@ -95,8 +95,7 @@ fn first_facet(pts: &[Point], mesh: &Mesh, planes: &[Plane], made: &[FacetNo]) -
     before.facet
 }
 
-/// Lists the wedges of the facets that were made, each after its neighbour, from one on where the cone is
-/// strictly convex.
+/// Appends the wedges of the new facets, each after its neighbour, beginning where the cone is strictly convex.
 fn go_round(
     wedges: &mut Vec<Wedge>,
     pts: &[Point],
@@ -121,8 +120,7 @@ fn go_round(
     Ok(())
 }
 
-/// Returns the place of a wedge whose plane has the first ray strictly below, or 0 if no wedge
-/// does.
+/// Returns the index of a wedge that has the first ray strictly below its plane, or 0 if there is no such wedge.
 pub fn opposite_of(wedges: &[Wedge]) -> usize {
     for place in 1..wedges.len() {
         if wedges[place].plane.height(wedges[0].from) < 0 {
@@ -133,7 +131,7 @@ pub fn opposite_of(wedges: &[Wedge]) -> usize {
 }
 
 impl ConeRing {
-    /// Creates a ring with no wedge. It takes no memory.
+    /// Creates a ring without wedges. It allocates no memory.
     pub fn new(alloc: Global) -> ConeRing
         ensures { result.wedges.items ≡ [] }
     {
@@ -146,7 +144,7 @@ impl ConeRing {
 
     /// Reserves memory for `wedges` wedges; nothing else changes.
     ///
-    /// `Err` says that an allocation failed.
+    /// Returns `Err` if an allocation failed.
     pub fn reserve(&mut self, wedges: usize) -> Result<(), Memory>
         ensures { self.new.wedges.items ≡ self.old.wedges.items }
     {
@@ -154,9 +152,9 @@ impl ConeRing {
         Ok(())
     }
 
-    /// Takes the facets that were made if they are more than [`SCANNED`], and else no facet.
+    /// Stores the new facets if there are more than [`SCANNED`], and otherwise no facet.
     ///
-    /// `Err` says that an allocation failed.
+    /// Returns `Err` if an allocation failed.
     pub fn take(
         &mut self,
         pts: &[Point],

@@ -1,12 +1,12 @@
 //! A search through a large cone for a facet that a point is above.
 //!
-//! The rays of the cone stand in a ring, and the half-planes from the first of them through the others
-//! are turned about it one after the other. So a binary search finds the wedge on whose side of them a
-//! point lies, and only three facets of the cone need a test: the first, the last and that of the wedge.
-//! If none of the three sees the point, it lies between three rays, and no facet of the cone sees it.
+//! The rays of the cone are in a ring, and the half-planes from the first ray through the others turn about it in
+//! order. So a binary search finds the wedge whose range contains a point. Only three facets of the cone need a test:
+//! the first, the last and that of the wedge. If none of the three sees the point, it lies between three rays, and no
+//! facet of the cone sees it.
 //!
-//! Nothing is proved of the search. Each answer has its certificate: the facet that sees the point, or
-//! the three rays. Where there is neither, the answer says so, and all facets are asked.
+//! The search itself is not proved. Each result has a certificate: the facet that sees the point, or the three rays.
+//! Without a certificate the result is `Unknown`, and all facets are tested.
 ghost use Rattle.std.specs.Prelude.{◌≡◌, ◌<◌, IsTrue, length, pos, ◌≤ℤ◌, ◌<ℤ◌};
 ghost use Rattle.qh_pred.specs.contract.Planes.{height};
 ghost use Rattle.qh_surface.specs.steps.Cones.{wedge_at, AreTriangles, IsAnswer};
@@ -19,16 +19,16 @@ use qh_pred::Plane;
 /// The result of a search through a ring for a point.
 #[derive(Clone, Copy, Drop)]
 pub enum Visibility {
-    /// This facet sees it.
+    /// This facet sees the point.
     Seen(FacetNo),
-    /// It lies between three rays, so no facet of the cone sees it.
+    /// The point lies between three rays, so no facet of the cone sees it.
     Unseen,
-    /// The search does not tell.
+    /// The search found neither.
     Unknown,
 }
 
-/// Returns true if a point that the wedge does not see lies between its rays and the first. The
-/// half-plane is that of the apex, the corner of the first ray and the point.
+/// Returns true if a point that the wedge does not see lies between the wedge's rays and the first ray. The half-plane
+/// is that of the apex, the corner of the first ray and the point.
 fn is_between(half: &Plane, first: Point, wedge: &Wedge) -> bool
     ensures spans { IsTrue result → height wedge.now.plane first <ℤ pos 0 }
     ensures from { IsTrue result → pos 0 ≤ℤ height half.now wedge.now.from }
@@ -38,7 +38,7 @@ fn is_between(half: &Plane, first: Point, wedge: &Wedge) -> bool
 }
 
 impl ConeRing {
-    /// Returns the wedge at a place.
+    /// Returns the wedge at an index.
     fn wedge(&self, place: usize) -> &Wedge
         requires { place < length self.now.wedges.items }
         ensures { result.now ≡ wedge_at self.now.wedges.items place }
@@ -46,8 +46,8 @@ impl ConeRing {
         &self.wedges[place]
     }
 
-    /// Returns the place of the last wedge but one that begins at the half-plane or before it, which
-    /// goes from the first ray through a point that neither the first nor the last wedge sees.
+    /// Returns the index of the last wedge, other than the last of the ring, that begins at the half-plane or before
+    /// it. The half-plane goes from the first ray through a point that neither the first nor the last wedge sees.
     fn place_of(&self, half: &Plane) -> usize
         requires { 2 < length self.now.wedges.items }
     {

@@ -15,10 +15,10 @@ use qh_model::Point;
 use qh_pred::{Plane, point_at};
 use std::alloc::AllocError;
 
-/// The number of places for which room is made beyond those that are asked for, so that few rounds make any.
+/// The number of spare places that are allocated with each request, so that few rounds allocate.
 pub const SPARE: usize = 64;
 
-/// Returns the plane of a live facet, whose corners are positions of the points: a point is above it where it
+/// Returns the plane of a live facet, whose corners are positions of the points. A point is above the plane if it
 /// strictly sees the facet.
 pub fn plane_of(pts: &[Point], mesh: &Mesh, facet: FacetNo) -> Plane
     requires live { IsLive mesh.now facet }
@@ -29,13 +29,13 @@ pub fn plane_of(pts: &[Point], mesh: &Mesh, facet: FacetNo) -> Plane
     Plane::through(point_at(pts, a), point_at(pts, b), point_at(pts, c))
 }
 
-/// Returns the plane that stands at a place until a facet is there.
+/// Returns the plane that is stored at a place without a facet.
 fn no_plane() -> Plane {
     let origin = Point::new(0, 0, 0);
     Plane::through(origin, origin, origin)
 }
 
-/// Makes room for the planes of `places` places, and some to spare.
+/// Reserves memory for the planes of `places` places and a few more.
 pub fn make_room(planes: &mut Vec<Plane>, places: usize) -> Result<(), AllocError>
     ensures room { OnOk result (places ≤ length planes.new.items) }
     ensures kept { (f : ℕ) → f < length planes.old.items
@@ -47,7 +47,7 @@ pub fn make_room(planes: &mut Vec<Plane>, places: usize) -> Result<(), AllocErro
     Ok(())
 }
 
-/// Writes the planes of the facets that were made.
+/// Writes the planes of the new facets.
 pub fn renew(pts: &[Point], mesh: &Mesh, made: &[FacetNo], planes: &mut Vec<Plane>)
     requires live { All (IsLive mesh.now) made.now }
     requires corners { AreCornersBelow (length pts.now) mesh.now }

@@ -1,4 +1,4 @@
-//! A run of Quickhull: rounds in each of which one point becomes a corner.
+//! A run of Quickhull. In each round one point becomes a corner.
 ghost use Rattle.std.specs.Prelude.{◌≡◌, ◌≤◌, ◌<◌, [], length, OnOk, IfOk};
 ghost use Rattle.qh_surface.specs.contract.OutsideSets.{listed};
 ghost use Rattle.qh_surface.specs.steps.Positions.{IsSimplexIn};
@@ -19,39 +19,40 @@ use qh_model::{Id, Memory, Point};
 use qh_pred::Plane;
 use std::alloc::Global;
 
-/// The least number of points for which a run asks for room for all its facets at once.
+/// The least number of points for which a run allocates memory for all its facets at once.
 const LARGE: usize = 262_144;
 
-/// The number of points for whose facets any other run asks for room, which most runs over few points need.
+/// The number of points for whose facets any other run allocates memory at its start. Most runs over few points need
+/// it.
 const SMALL: usize = 32;
 
-/// A mesh over points has at most two facets for each, and one more is room to spare.
+/// The number of places for each point. A mesh over points has at most two facets for each; the third is spare.
 const PLACES_EACH: usize = 3;
 
-/// What a run keeps from round to round.
+/// The state that a run keeps from round to round.
 #[derive(Drop)]
 pub struct Run {
     /// The surface so far: its corners are positions of the points.
     pub mesh: Mesh,
-    /// The points, each known by its position.
+    /// The points, each identified by its position.
     pub points: Vec<Point>,
     /// The planes of the facets, by place.
     planes: Vec<Plane>,
     /// The points that are not settled, by position.
     sets: OutsideSets,
-    /// The facets that the apex of a round sees.
+    /// The facets that the apex of the round sees.
     walk: Walk,
-    /// The facets that the last round made, if they are many.
+    /// The facets that the last round made, if there are many.
     ring: ConeRing,
-    /// The facets that wait for their turn.
+    /// The facets that wait to be processed.
     pending: Vec<FacetNo>,
-    /// Whose turn it is.
+    /// The order in which facets are processed.
     turns: Turns,
-    /// How many facets were made so far: what the run costs. A trial reads it.
+    /// The number of facets made so far, a measure of the cost of the run. A trial reads it.
     pub made: usize,
 }
 
-/// Returns the number of places that a run over `points` points asks for at its start.
+/// Returns the number of places that a run over `points` points requests at its start.
 fn places_asked(points: usize) -> usize {
     let asked_for = if points < LARGE {
         points.min(SMALL)
@@ -61,7 +62,7 @@ fn places_asked(points: usize) -> usize {
     asked_for.saturating_mul(PLACES_EACH)
 }
 
-/// Returns an empty list, with room for `items` items unless the allocation fails.
+/// Returns an empty list with capacity for `items` items, or without capacity if the allocation fails.
 fn room_for<T>(alloc: Global, items: usize) -> Vec<T>
     ensures { result.items ≡ [] }
 {
@@ -94,10 +95,9 @@ fn make_ready(
 }
 
 impl Run {
-    /// Returns a run over points that has the four facets of an initial simplex, four positions of
-    /// them.
+    /// Returns a run over points with the four facets of an initial simplex, given as four positions of the points.
     ///
-    /// `Err` says that an allocation failed, or that there are too many points for their numbers.
+    /// Returns `Err` if an allocation failed, or if there are more points than numbers for them.
     pub fn start(alloc: Global, points: Vec<Point>, first: Simplex) -> Result<Run, Memory>
         requires { IsSimplexIn points.items first }
         ensures points { IfOk result (λ r. r.points.items ≡ points.items) }
@@ -133,8 +133,8 @@ impl Run {
         Ok(run)
     }
 
-    /// Gives the facets that were made their planes, the orphans to those of them that they are above,
-    /// and those with an outside set a turn.
+    /// Stores the planes of the new facets, moves the orphans to the outside sets of those that they are above, and
+    /// lists those with an outside set as waiting.
     fn settle(&mut self, made: &[FacetNo]) -> Result<(), Memory>
         requires remade { IsRemade (state_of self.old) made.now }
         requires fan { SCANNED < length made.now → IsFan self.old.mesh made.now }
@@ -153,8 +153,7 @@ impl Run {
         Ok(())
     }
 
-    /// Makes the point at a position, which is above a facet, a corner: its cone replaces the
-    /// facets that see it.
+    /// Adds the point at a position, which is above a facet, as a corner: its cone replaces the facets that see it.
     fn add(&mut self, alloc: Global, facet: FacetNo, apex: Id) -> Result<(), Memory>
         requires { IsPicked (state_of self.old) facet apex }
         ensures points { self.new.points.items ≡ self.old.points.items }

@@ -35,7 +35,7 @@ pub fn release(sets: &mut OutsideSets, gone: &[FacetNo])
 #[derive(Clone, Copy, Drop)]
 struct Below {
     facet: FacetNo,
-    /// The index of the facet among those made, or `SCANNED` if the ring named it.
+    /// The index of the facet among the new ones, or `SCANNED` if the ring named it.
     at: usize,
     /// The height of the point over the facet, or 0 if the ring named it.
     height: i128,
@@ -59,8 +59,8 @@ fn first_below(planes: &[Plane], made: &[FacetNo], point: Point) -> Option<Below
     None
 }
 
-/// Returns a facet of those made that the point is above. The first [`SCANNED`] are tested one by one, so
-/// that points gather in few sets. If there are more, a search through their ring decides for the others.
+/// Returns a new facet that the point is above. The first [`SCANNED`] are tested one by one, so that points gather in
+/// few sets. If there are more, a search through their ring decides about the others.
 fn one_below(planes: &[Plane], ring: &ConeRing, made: &[FacetNo], point: Point) -> Option<Below>
     requires planes { All (λ f. f < length planes.now) made.now }
     requires ring { AreWedges planes.now made.now ring.now.apex ring.now.wedges.items }
@@ -85,8 +85,8 @@ fn one_below(planes: &[Plane], ring: &ConeRing, made: &[FacetNo], point: Point) 
     }
 }
 
-/// Returns true if the point is further above the facet than the first point of its outside set, or
-/// that set is empty.
+/// Returns true if the point is further above the facet than the first point of its outside set, or if that set is
+/// empty.
 fn is_above_first(
     sets: &OutsideSets,
     planes: &[Plane],
@@ -105,7 +105,7 @@ fn is_above_first(
     }
 }
 
-/// The cone over a horizon, among whose facets orphans are settled.
+/// The cone over a horizon, among whose facets orphans are distributed.
 #[derive(Clone, Copy, Drop)]
 struct Cone<'a> {
     /// The points, by position.
@@ -114,13 +114,13 @@ struct Cone<'a> {
     planes: &'a [Plane],
     /// The facets of the cone.
     made: &'a [FacetNo],
-    /// Their ring, if they are many.
+    /// The ring of the facets, if there are many.
     ring: &'a ConeRing,
 }
 
-/// Returns true if no point that was put over the facet is further above it than this one. `greatest` keeps
-/// the greatest height over each facet that is tested one by one, so that the height of a set's first point
-/// is not computed again.
+/// Returns true if no point that was put over the facet is further above it than this one. `greatest` keeps the
+/// greatest height over each facet that is tested one by one, so that the height of a set's first point is not computed
+/// again.
 fn is_furthest(
     greatest: &mut [i128; SCANNED],
     sets: &OutsideSets,
@@ -140,9 +140,9 @@ fn is_furthest(
     is_above
 }
 
-/// Puts the first orphan into the outside set of one of the facets that it is above: in front,
-/// if no other point of that set is known to be further. An orphan above no facet is dropped.
-/// `greatest` has the height of the first point of each facet that is tested one by one.
+/// Moves the first orphan into the outside set of one of the facets that it is above: in front, if no other point of
+/// that set is known to be further above. An orphan above no facet is dropped. `greatest` has the height of the first
+/// point of each facet that is tested one by one.
 fn settle_orphan(
     sets: &mut OutsideSets,
     cone: &Cone<'_>,
@@ -173,7 +173,7 @@ fn settle_orphan(
     }
 }
 
-/// Settles all orphans among the facets that were made.
+/// Distributes all orphans among the new facets, or drops them.
 pub fn settle_orphans(
     sets: &mut OutsideSets,
     planes: &[Plane],

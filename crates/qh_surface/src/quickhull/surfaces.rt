@@ -23,12 +23,12 @@ use qh_model::{Id, Memory, Point};
 use qh_polygon::{Shape, rank};
 use std::alloc::Global;
 
-/// The least number of ids that a run takes in Morton order, which keeps near points together.
+/// The least number of ids that a run processes in Morton order, which keeps near points together.
 const LARGE: usize = 16384;
 
 /// Returns the position of an id in a list that has it.
 ///
-/// `Err` says that positions have no numbers of 32 bits.
+/// Returns `Err` if positions exceed numbers of 32 bits.
 fn position_of(ids: &[Id], id: Id) -> Result<Id, Memory>
     requires { Members ids.now id }
     ensures { IfOk result (λ p. IsPositionOf ids.now id p) }
@@ -58,7 +58,7 @@ fn positions_of(ids: &[Id], first: Simplex) -> Result<Simplex, Memory>
     })
 }
 
-/// Returns a run over the points of ids, done: the corners of its surface are positions of the ids.
+/// Returns a finished run over the points of ids. The corners of its surface are positions of the ids.
 pub(super) fn run_over(
     alloc: Global,
     pts: &[Point],
@@ -78,8 +78,8 @@ pub(super) fn run_over(
     Ok(run)
 }
 
-/// Returns the surface of a set by a run over its ids in their order, from an initial simplex, as [`surface_from`] makes
-/// it. Near ids best stand near each other.
+/// Returns the surface of a set by a run over its ids in their order, from an initial simplex, as [`surface_from`]
+/// does. It is faster if near ids are near each other in the list.
 ///
 /// # Errors
 ///
@@ -104,9 +104,9 @@ pub fn surface_along(
 }
 
 /// Returns the surface of a set from an initial simplex: four of its ids whose points are not in one plane. The corners
-/// of its triangles are positions of the ids, in an order of its own.
+/// of its triangles are positions of the ids. The triangles have no specified order.
 ///
-/// `ids` are indices of points, each once; if an id stands twice, the contract says only that the corners are
+/// `ids` are indices of points, each once. If an id occurs twice, the contract states only that the corners are
 /// positions.
 ///
 /// # Errors
@@ -132,14 +132,12 @@ pub fn surface_from(
     surface_along(alloc, pts, near, far)
 }
 
-/// Returns the surface of the hull of a set of dimension 3, by Quickhull: a closed surface of triangles
-/// over the ids, each counterclockwise seen from outside, none of which strictly sees a point of the
-/// set. So the corners of each triangle are a supporting triple of the set, and each extreme id is a
-/// corner.
+/// Returns the surface of the hull of a set of dimension 3, by Quickhull: a closed surface of triangles over the ids,
+/// each counterclockwise seen from outside. No triangle strictly sees a point of the set. So the corners of each
+/// triangle are a supporting triple of the set, and each extreme id is a corner.
 ///
-/// `ids` rise, have distinct points, and each is the index of one of the points. It is not fixed
-/// which triangulation of a face the result has, and a corner need not be an extreme id: it may lie
-/// within an edge or a face.
+/// `ids` rise, have distinct points, and each is the index of one of the points. It is not specified how a face is
+/// divided into triangles. A corner need not be an extreme id: it may lie within an edge or a face.
 ///
 /// # Errors
 ///

@@ -1,33 +1,33 @@
-//! The order in which facets that wait have their turns.
+//! The order in which waiting facets are processed.
 //!
-//! If many points lie inside, it pays to grow the surface on all sides: more points are settled early, and the
-//! surface has fewer facets on the way. If few points lie inside, it pays to add near points one after the
-//! other: their facets are near in memory, and each point is tested against fewer facets.
+//! If many points lie inside, it pays to grow the surface on all sides: more points are settled early, and the surface
+//! has fewer facets on the way. If few points lie inside, it pays to add near points one after the other: their facets
+//! are near in memory, and each point is tested against fewer facets.
 ghost use Rattle.std.specs.Prelude.{◌<◌};
 
 use qh_model::Point;
 use qh_pred::Plane;
 
-/// The size of the sample, spread over all points, that decides whether many are inside.
+/// The size of the sample, spread over all points, that decides if many are inside.
 const LOOKED_AT: usize = 128;
 
-/// Many points are inside if at least one in this number is strictly inside the initial simplex.
+/// Many points are inside if at least one in `ONE_IN` is strictly inside the initial simplex.
 const ONE_IN: usize = 16;
 
-/// The order in which waiting facets have their turns.
+/// An order in which waiting facets are processed.
 #[derive(Clone, Copy, Debug, Drop)]
 enum Order {
-    /// The one that has waited for the shortest time.
+    /// The facet that was added last is next.
     Newest,
-    /// One place further on than the last time.
+    /// The facet one place after the previous one is next.
     Around,
 }
 
-/// Whose turn it is.
+/// The order in which facets are processed, and its state.
 #[derive(Clone, Copy, Debug, Drop)]
 pub struct Turns {
     order: Order,
-    /// How many facets had a turn.
+    /// The number of facets processed so far.
     taken: usize,
 }
 
@@ -49,7 +49,7 @@ fn are_many_inside(planes: &[Plane], points: &[Point]) -> bool {
 }
 
 impl Turns {
-    /// Returns the turns of facets of which the one that has waited for the shortest time is next.
+    /// Returns the order in which the facet that was added last is next.
     pub fn newest() -> Turns {
         Turns {
             order: Order::Newest,
@@ -57,8 +57,7 @@ impl Turns {
         }
     }
 
-    /// Returns the turns of the facets of a run over points that begins with facets in these
-    /// planes.
+    /// Returns the order for a run over points whose first facets have these planes.
     pub fn over(planes: &[Plane], points: &[Point]) -> Turns {
         let order = if are_many_inside(planes, points) {
             Order::Around
@@ -68,7 +67,7 @@ impl Turns {
         Turns { order, taken: 0 }
     }
 
-    /// Returns the place of the next facet among those that wait.
+    /// Returns the index of the next facet among those that wait.
     pub fn next(&mut self, waiting: usize) -> usize
         requires { 0 < waiting }
         ensures { result < waiting }

@@ -1,4 +1,4 @@
-//! The facets that wait for their turn.
+//! The facets that wait to be processed.
 ghost use Rattle.std.specs.Prelude.{All, ◌≡◌, ◌+◌, ◌<◌, ◌≤◌, ◌⊎◌, ℕ, [], ◌∷◌, ◌++◌, length, OnOk, IfNone, IfSome};
 ghost use Rattle.std.specs.Prelude.{vec_len, vec_capacity};
 ghost use Rattle.qh_model.specs.headline.Sets.{In};
@@ -11,8 +11,8 @@ use qh_mesh::FacetNo;
 use qh_model::Id;
 use std::alloc::AllocError;
 
-/// Adds a facet if it has an outside set. It is pushed, then popped if it has none;
-/// this keeps the loop free of branches.
+/// Adds a facet if it has an outside set. It is pushed, then popped if it has none; this keeps the loop free of
+/// branches.
 fn add(pending: &mut Vec<FacetNo>, sets: &OutsideSets, facet: FacetNo)
     requires place { facet < length sets.now.sets }
     requires room { vec_len pending.old < vec_capacity pending.old }
@@ -45,8 +45,8 @@ pub fn enqueue(
     Ok(())
 }
 
-/// Returns the next facet that has an outside set, and the first point of that set, which leaves
-/// all sets. Facets without one are passed over.
+/// Removes and returns the next facet that has an outside set, and the first point of that set, which leaves all sets.
+/// Facets without an outside set are skipped.
 pub fn next_apex(
     pending: &mut Vec<FacetNo>,
     turns: &mut Turns,

@@ -1,4 +1,4 @@
-//! The facets that a point sees: they hang together, so a walk from one of them finds all.
+//! The facets that a point sees. They are connected, so a walk from one of them finds all.
 ghost use Rattle.std.specs.Prelude.{All, ◌≡◌, ◌≤◌, ◌<◌, ◌<ℤ◌, pos, ℕ, OnOk, length, [], true, false};
 ghost use Rattle.qh_model.specs.headline.Sets.{In};
 ghost use Rattle.qh_model.specs.headline.Vector.{Vector};
@@ -16,8 +16,7 @@ use qh_pred::Plane;
 use std::alloc::{AllocError, Global};
 use std::marker::Model;
 
-/// The facet predicate that the apex, a point, sees a facet. `planes` has the planes of the facets, by
-/// place.
+/// The facet predicate that the apex, a point, sees a facet. `planes` has the planes of the facets, by place.
 #[derive(Clone, Copy, Drop)]
 struct Sees<'a> {
     planes: &'a [Plane],
@@ -33,20 +32,20 @@ impl FacetPredicate for Sees<'_> {
         self.planes[mesh.facet_of(edge).index()].sees(self.apex)
     }
 
-    // Without a branch on the mark.
+    // Free of branches on the mark.
     fn enters(&self, mesh: &Mesh, edge: EdgeNo, mark: Mark) -> bool {
         !mark.is_set() & self.passes(mesh, edge)
     }
 }
 
-/// Walks over the facets that a point sees, with room that they keep from round to round.
+/// A walk over the facets that a point sees. It keeps its memory from round to round.
 ///
-/// A contract sees the facets that it found last.
+/// A contract sees the facets that the last walk found.
 #[derive(Drop)]
 pub struct Walk {
-    /// Marks of facets, by place, for the time of a walk.
+    /// Marks of facets, by place, used during a walk.
     marks: Vec<bool>,
-    /// The facets that it found, in the order in which it came to them.
+    /// The facets that the walk found, in the order in which it reached them.
     found: Vec<FacetNo>,
 }
 
@@ -61,7 +60,7 @@ impl Model for Walk {
     ghost invariant = { λ w. (f : ℕ) → mark_at w.marks.items f ≡ false };
 }
 
-/// Makes room for the marks of `places` places.
+/// Reserves marks for `places` places.
 fn make_room(marks: &mut Vec<bool>, places: usize) -> Result<(), AllocError>
     ensures same { (f : ℕ) → mark_at marks.new.items f ≡ mark_at marks.old.items f }
     ensures room { OnOk result (places ≤ length marks.new.items) }
@@ -72,7 +71,7 @@ fn make_room(marks: &mut Vec<bool>, places: usize) -> Result<(), AllocError>
     Ok(())
 }
 
-/// Removes the marks of the facets found: no others have marks.
+/// Clears the marks of the facets found. No other facet has a mark.
 fn unmark(marks: &mut [bool], found: &[FacetNo])
     requires only { (f : ℕ) → mark_at marks.old f ≡ true → In f found.now }
     requires marked { All (IsMarked marks.old) found.now }
@@ -84,7 +83,7 @@ fn unmark(marks: &mut [bool], found: &[FacetNo])
 }
 
 impl Walk {
-    /// Creates a walk that found nothing yet. It takes no memory.
+    /// Creates a walk that has found no facet yet. It allocates no memory.
     pub fn new(alloc: Global) -> Walk
         ensures { result ≡ [] }
     {
@@ -94,10 +93,10 @@ impl Walk {
         }
     }
 
-    /// Finds the facets that a point, the apex, sees, from one of them. The planes are those of the
-    /// facets, by place.
+    /// Finds the facets that a point, the apex, sees, starting from one of them. The planes are those of the facets, by
+    /// place.
     ///
-    /// `Err` says that an allocation failed: what is found then is not said.
+    /// Returns `Err` if an allocation failed. The facets found then are not specified.
     pub fn find(
         &mut self,
         mesh: &Mesh,
@@ -110,7 +109,8 @@ impl Walk {
         requires sees { pos 0 <ℤ height (plane_at planes.now start) apex }
         ensures facets { OnOk result (AreFacets mesh.now self.new) }
 
-        // Of a sound mesh, and planes that are its own, they are all that the apex sees, and no other.
+        // If the mesh is sound and the planes are those of its facets, the found facets are exactly those that the apex
+        // sees.
         ensures visible { OnOk result ((at : ℕ → Vector) (o : Weighted) (l : ℕ) → at l ≡ apex
             → ArePlanes at mesh.now planes.now → IsSoundMesh at mesh.now o → AreVisible at mesh.now self.new l) }
     {

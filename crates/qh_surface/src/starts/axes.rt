@@ -1,11 +1,11 @@
-//! Places along the axes of a set. Each axis is stretched by itself, so that the set extends about equally along all three,
+//! Places along the axes of a set. Each axis has its own scale, so that the set extends about equally along all three,
 //! however flat or long it is.
 ghost use Rattle.qh_model.specs.contract.IdSets.{AreIndices};
 
 use qh_model::{Id, Point};
 use qh_pred::point_at;
 
-/// An axis: the least coordinate along it, and how many bits tell how far above it others are.
+/// An axis: its least coordinate, and the number of bits for distances above it.
 #[derive(Clone, Copy, Drop)]
 struct Axis {
     least: i32,
@@ -41,7 +41,7 @@ pub struct Axes {
 }
 
 impl Axes {
-    /// Returns the axes of a set with these ends ([`ends_of`](crate::starts::ends_of)).
+    /// Returns the axes of a set with these ends (see [`ends_of`](crate::ends_of)).
     pub fn of(pts: &[Point], ends: &[Id; 6]) -> Axes
         requires { AreIndices pts.now ends.now }
     {
@@ -53,7 +53,8 @@ impl Axes {
         }
     }
 
-    /// Returns the places of a point along the axes. If it lies between the ends, they are below 2^bits. No answer depends on them.
+    /// Returns the places of a point along the axes. They are below 2^bits if the point lies between the ends. No
+    /// answer depends on them.
     pub fn places(&self, point: Point, bits: u32) -> [u32; 3] {
         let (x, y, z) = (self.x, self.y, self.z);
         [

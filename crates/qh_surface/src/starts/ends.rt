@@ -7,7 +7,7 @@ ghost use Rattle.qh_model.specs.contract.IdSets.{AreIndices};
 use qh_model::{Id, Point};
 use qh_pred::point_at;
 
-/// An id, and how far its point reaches some way.
+/// An id, and how far its point reaches along a direction.
 #[derive(Clone, Copy, Drop)]
 struct End {
     id: Id,
@@ -15,7 +15,7 @@ struct End {
 }
 
 impl End {
-    /// Returns whichever of this end and another reaches further.
+    /// Returns this end or another, whichever reaches further.
     fn or(self, id: Id, reach: i32) -> End
         ensures { (ids : List ℕ) → Members ids self.id → Members ids id → Members ids result.id }
     {
@@ -27,8 +27,8 @@ impl End {
     }
 }
 
-/// Returns the first ids of the least and the greatest x, of the least and the greatest y, and of the least
-/// and the greatest z.
+/// Returns the first ids of the least and the greatest x, then of the least and the greatest y, then of the least and
+/// the greatest z.
 pub fn ends_of(pts: &[Point], ids: &[Id]) -> [Id; 6]
     requires some { 0 < length ids.now }
     requires indices { AreIndices pts.now ids.now }

@@ -15,8 +15,8 @@ ghost use Rattle.qh_surface.specs.contract.Simplexes.{IsSimplexOf};
 use qh_model::{Id, Point};
 use qh_pred::{Plane, cross, point_at, vol};
 
-/// The number of ids, spread over all, that are looked at for each corner: a sample is enough, since extremes of a
-/// large set lie as far apart.
+/// The number of ids, spread over all, that are tested for each corner: a sample is enough, since extremes of a large
+/// set lie as far apart.
 const LOOKED_AT: usize = 1_024;
 
 /// Four ids, or four positions of them, whose points are not in one plane: the corners of an initial simplex.
@@ -28,7 +28,7 @@ pub struct Simplex {
     pub l: Id,
 }
 
-/// What the next corner of a simplex is to be far from.
+/// The line or plane from which the next corner of a simplex should be far.
 #[derive(Clone, Copy, Drop)]
 enum FarFrom {
     /// The line through two points.
@@ -54,7 +54,7 @@ impl FarFrom {
     }
 }
 
-/// Returns the first of the ids looked at whose points are furthest.
+/// Returns the first of the tested ids whose points are furthest.
 fn furthest(pts: &[Point], ids: &[Id], from: FarFrom) -> Id
     requires some { 0 < length ids.now }
     requires indices { AreIndices pts.now ids.now }
@@ -75,7 +75,7 @@ fn furthest(pts: &[Point], ids: &[Id], from: FarFrom) -> Id
     found
 }
 
-/// Returns the furthest of the ends of a set and of the ids looked at.
+/// Returns the furthest of the ends of a set and of the tested ids.
 fn furthest_of(pts: &[Point], ids: &[Id], ends: &[Id], from: FarFrom) -> Id
     requires some { 0 < length ids.now }
     requires indices { AreIndices pts.now ids.now }
@@ -91,9 +91,9 @@ fn furthest_of(pts: &[Point], ids: &[Id], ends: &[Id], from: FarFrom) -> Id
     if is_end { end } else { looked_at }
 }
 
-/// Returns a simplex of ids that are far apart: those of the least and the greatest x, the one that is
-/// furthest from their line, and the one that is furthest from the plane of the three; or the one that
-/// is given, if these are in one plane. The ends are those along the three axes, the least x first.
+/// Returns a simplex of ids that are far apart: those of the least and the greatest x, the id that is furthest from
+/// their line, and the id that is furthest from the plane of the three. If these lie in one plane, it returns `given`.
+/// The ends are those along the three axes, the least x first.
 pub fn wide_simplex(pts: &[Point], ids: &[Id], ends: &[Id; 6], given: Simplex) -> Simplex
     requires some { 0 < length ids.now }
     requires indices { AreIndices pts.now ids.now }

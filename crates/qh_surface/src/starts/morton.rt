@@ -1,7 +1,7 @@
-//! An order of ids in which near points stand near each other.
+//! An order of ids in which near points are near each other.
 //!
-//! A run reads the points of a facet one after the other, and then those of its neighbours. Where they
-//! also lie together in memory, a large run seldom waits for it. No answer depends on the order.
+//! A run reads the points of a facet one after the other, and then those of its neighbours. If they are also near in
+//! memory, a large run seldom waits for memory. No answer depends on the order.
 ghost use Rattle.std.specs.Prelude.{◌≡◌, IfOk, map, IsPermutation};
 ghost use Rattle.qh_model.specs.contract.IdSets.{AreIndices};
 ghost use Rattle.qh_model.specs.contract.Halves.{low_of};
@@ -14,8 +14,8 @@ use std::alloc::{AllocError, Global};
 /// The bits of a cell's place along one axis. Three of them fit a cell's number.
 const PLACE_BITS: u32 = 10;
 
-/// The cells of a cube around points: its corner of the least coordinates, and how many of the lowest bits
-/// of a coordinate don't tell one cell from the next.
+/// The cells of a cube around points: its corner of the least coordinates, and the number of lowest bits of a
+/// coordinate that do not affect the cell.
 #[derive(Clone, Copy, Drop)]
 struct Cells {
     least: Point,
@@ -54,7 +54,7 @@ impl Cells {
     }
 }
 
-/// Returns the keys of ids: the number of the point's cell, then the id.
+/// Returns the keys of ids. A key has the number of the point's cell, then the id.
 fn keys_of(
     alloc: Global,
     pts: &[Point],
@@ -81,12 +81,12 @@ fn ids_of(alloc: Global, keys: Vec<Packed>) -> Result<Vec<Id>, AllocError>
         .collect(alloc)
 }
 
-/// Orders ids along a Morton curve through their points, so that the ids of near points stand near each
-/// other. The ends are those of the set along the three axes ([`ends_of`](crate::starts::ends_of)).
+/// Sorts ids along a Morton curve through their points, so that the ids of near points are near each other. The ends
+/// are those of the set along the three axes (see [`ends_of`](crate::ends_of)).
 ///
 /// # Errors
 ///
-/// `Memory` where an allocation failed.
+/// `Memory` if an allocation failed.
 pub fn morton_order(
     alloc: Global,
     pts: &[Point],

@@ -1,4 +1,4 @@
-//! Worked rows: a cube and a square, with what is wrong with claims of their faces.
+//! Worked rows: a cube and a square, with the faults of claims about their faces.
 mod judgements;
 mod sharp_surfaces;
 mod surfaces;

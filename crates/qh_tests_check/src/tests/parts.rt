@@ -1,4 +1,4 @@
-//! Hulls of few ids by parts, beside those of one thread.
+//! Hulls of few ids by parts, compared with those of one thread.
 use qh_block::hull;
 use qh_fixtures::ids::ids_of;
 use qh_fixtures::points::{cube, octahedron, square};
@@ -8,10 +8,10 @@ use std::alloc::Global;
 use std::test::Fail;
 use std::thread::Threads;
 
-/// The ids of a set, of which a test takes the first ones.
+/// The ids of a set, of which a test uses the first ones.
 const NUMBERS: [u32; 18] = [0, 1, 2, 3, 4, 5, 6, 7, 8, 9, 10, 11, 12, 13, 14, 15, 16, 17];
 
-/// What is told of a hull.
+/// The properties of a hull that the tests compare.
 #[derive(Clone, Copy, Debug, PartialEq, Eq, Drop)]
 struct Told {
     dim: u8,
@@ -21,7 +21,7 @@ struct Told {
 }
 
 impl Told {
-    /// Returns what is told of a hull.
+    /// Returns the properties of a hull.
     fn of(body: &Body) -> Told {
         Told {
             dim: body.dim,
@@ -48,7 +48,7 @@ const OCTAHEDRON: Told = Told {
     edges: 12,
 };
 
-/// Returns what is told of the hull of points by `parts` parts; `None` if it does not come out.
+/// Returns the properties of the hull of points by `parts` parts; `None` if the attempt fails.
 fn by_parts<R: Threads>(
     rt: &R,
     alloc: Global,
@@ -91,7 +91,7 @@ fn no_part_of_a_square_is_solid(rt: HostRuntime) -> Result<(), Fail> {
     Ok(())
 }
 
-/// Returns true if two lists of ids are the same.
+/// Returns true if two lists of ids are equal.
 fn are_same(ids: &[Id], others: &[Id]) -> bool {
     ids == others
 }

@@ -1,5 +1,5 @@
-//! A cube in two parts: four corners belong to both, and each has two more. The square at x = 0 stays of the
-//! one part, that at x = 1 of the other.
+//! A cube in two parts: four corners belong to both, and each part has two more. The square at x = 0 stays of one part,
+//! and the square at x = 1 of the other.
 ghost use Rattle.std.specs.Prelude.{IfOk, IfSome};
 ghost use Rattle.std.specs.List.{All};
 ghost use Rattle.qh_model.specs.contract.IdSets.{AreIndices};

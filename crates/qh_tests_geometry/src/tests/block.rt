@@ -21,7 +21,7 @@ mod runs;
 mod solid_rows;
 mod surfaces;
 
-/// What the hull of some points is: the dimension, the extreme ids, the faces and the number of edges.
+/// The expected hull of points: the dimension, the extreme ids, the faces and the number of edges.
 #[derive(Clone, Copy, Drop)]
 struct Row<'a> {
     dim: u8,
@@ -61,8 +61,7 @@ fn hull_and_extremes(alloc: Global, pts: &[Point], ids: &[Id]) -> Result<(Body, 
     Ok((body, corners))
 }
 
-/// Returns the hull of the distinct points of a list that is not too long and not empty, and their
-/// extreme ids.
+/// Returns the hull of the distinct points of a list that is neither empty nor too long, and their extreme ids.
 fn hull_of<R: Threads + Sync>(
     rt: &R,
     alloc: Global,
@@ -79,7 +78,7 @@ fn hull_of<R: Threads + Sync>(
     Ok(Some(found))
 }
 
-/// Asserts that the hull of the distinct points of a list, and their extreme ids alone, are those of a row.
+/// Asserts that the hull of the distinct points of a list, and their extreme ids, are those of a row.
 fn assert_hull<R: AllocGlobal + Abort + Threads + Sync>(
     rt: &R,
     pts: &[Point],
@@ -128,7 +127,7 @@ fn square_with_centre(rt: HostRuntime) -> Result<(), Fail> {
     assert_hull(&rt, &square(), &SQUARE)
 }
 
-/// Returns the point with all coordinates multiplied by a factor, kept within the limit.
+/// Returns the point with all coordinates multiplied by a factor, clamped to the limit.
 fn times(p: Point, factor: i32) -> Point {
     point(
         p.x().wrapping_mul(factor),
@@ -140,7 +139,7 @@ fn times(p: Point, factor: i32) -> Point {
 /// Three places beside the origin.
 type Places = [(i32, i32, i32); 3];
 
-/// Squares with a corner at the origin, of which the normals have each pattern of signs; and the row of each.
+/// Squares with a corner at the origin, whose normals have each pattern of signs, and the row of each.
 const SQUARES: [(Places, Row<'static>); 8] = [
     ([(2, 1, -2), (4, -1, -1), (2, -2, 1)], TURNED_SQUARE),
     ([(2, 1, 2), (4, -1, 1), (2, -2, -1)], SQUARE),
@@ -152,10 +151,10 @@ const SQUARES: [(Places, Row<'static>); 8] = [
     ([(-2, -1, 2), (-4, 1, 1), (-2, 2, -1)], TURNED_SQUARE),
 ];
 
-/// How many times as large the squares are taken, too: up to 2^20 and to 2^30.
+/// The factors by which the squares are also scaled: up to 2^20 and to 2^30.
 const FACTORS: [i32; 3] = [1, 262144, 268435456];
 
-/// Asserts the hull of a square, as it is and larger.
+/// Asserts the hull of a square, unscaled and scaled.
 fn assert_squares<R: AllocGlobal + Abort + Threads + Sync>(
     rt: &R,
     corners: &[Point; 4],

@@ -1,5 +1,5 @@
-//! Sets that are mapped, and sets that are not. A map multiplies all volumes by one number, and fills the range along each
-//! axis.
+//! Sets that are mapped, and sets that are not. A map multiplies all volumes by one number, and fills the range along
+//! each axis.
 
 use qh_fixtures::ids::ids_of;
 use qh_lattice::reduced;
@@ -21,7 +21,7 @@ fn rod(alloc: Global) -> Result<Vec<Point>, AllocError> {
     Ok(points)
 }
 
-/// Returns the points of a grid that is as long as wide and high.
+/// Returns the points of a grid with equal length, width and height.
 fn grid(alloc: Global) -> Result<Vec<Point>, AllocError> {
     let mut points = Vec::new(alloc);
     for number in 0..COUNT {
@@ -51,7 +51,7 @@ fn images_of(alloc: Global, points: &[Point]) -> Result<Option<Vec<Point>>, Memo
     reduced(alloc, points, &ids)
 }
 
-/// Returns the volume of four points of a list, each about `step` behind the one before.
+/// Returns the volume of four points of a list, each about `step` positions after the one before.
 fn volume(points: &[Point], step: u16) -> Option<i128> {
     let step = usize::from(step);
     let a = points.get(1)?;

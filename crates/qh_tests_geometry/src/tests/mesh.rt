@@ -11,10 +11,10 @@ use std::test::Fail;
 
 mod refusals;
 
-/// A triangle as its ids, written from the least.
+/// A triangle by its ids, beginning with the least.
 type Triangle = (u32, u32, u32);
 
-/// Returns the triangle of a place, or none.
+/// Returns the triangle at a place, if there is one.
 fn triangle(mesh: &Mesh, f: FacetNo) -> Option<Triangle> {
     if f.index() >= mesh.places() || !mesh.is_live(f) {
         return None;
@@ -38,7 +38,7 @@ fn point_of(pts: &[Point], number: u32) -> Point {
     }
 }
 
-/// Returns true if the triangle of a place strictly sees a point.
+/// Returns true if the triangle at a place strictly sees a point.
 fn sees(mesh: &Mesh, pts: &[Point], f: FacetNo, apex: u32) -> bool {
     match triangle(mesh, f) {
         Some((a, b, c)) => {
@@ -49,7 +49,7 @@ fn sees(mesh: &Mesh, pts: &[Point], f: FacetNo, apex: u32) -> bool {
     }
 }
 
-/// Returns true if the facets of a list are live ones by rising numbers.
+/// Returns true if the facets of a list are live, with rising numbers.
 fn are_facets(mesh: &Mesh, list: &[FacetNo]) -> bool
     ensures { result ≡ true → AreFacets mesh.now list.now }
 {
@@ -101,7 +101,8 @@ fn live(alloc: Global, mesh: &Mesh) -> Result<Vec<FacetNo>, AllocError> {
     Ok(out)
 }
 
-/// Returns true if the twin of each side of a facet runs against it and has it as its twin.
+/// Returns true if the twin of each side of a facet runs in the opposite direction, and the side is the twin of its
+/// twin.
 fn has_twins(mesh: &Mesh, f: FacetNo) -> bool {
     for side in 0..3 {
         if f.index() >= mesh.places() || !mesh.is_live(f) {
@@ -118,8 +119,7 @@ fn has_twins(mesh: &Mesh, f: FacetNo) -> bool {
     true
 }
 
-/// Returns the simplex of the first four points. `Err` says that an allocation failed, or that they are in
-/// one plane.
+/// Returns the simplex of the first four points. `Err` means that an allocation failed, or that they are in one plane.
 fn first_simplex(alloc: Global, pts: &[Point]) -> Result<Mesh, Memory> {
     let (a, b, c, d) = (Id::new(0), Id::new(1), Id::new(2), Id::new(3));
     if pts.len() < 4 {
@@ -137,7 +137,7 @@ fn first_simplex(alloc: Global, pts: &[Point]) -> Result<Mesh, Memory> {
     Mesh::simplex(alloc, pts, a, b, c, d)
 }
 
-/// Returns seven points, of which each after the fourth is outside the hull of those before it.
+/// Returns seven points, each of which after the fourth is outside the hull of those before it.
 fn seven() -> [Point; 7] {
     [
         Point::new(0, 0, 0),
@@ -150,8 +150,8 @@ fn seven() -> [Point; 7] {
     ]
 }
 
-/// A step: its apex, the triangles that it sees, those of its cone, and the live facets and the
-/// places after it.
+/// A step: its apex, the triangles that it sees, those of its cone, and the numbers of live facets and of places after
+/// it.
 type Row = (u32, &'static [Triangle], &'static [Triangle], usize, usize);
 
 /// The steps from the simplex of the first four of the seven points.
@@ -173,7 +173,7 @@ const ROWS: [Row; 3] = [
     ),
 ];
 
-/// Asserts the triangles of a list at the step to an apex, whatever their order.
+/// Asserts the triangles of a list at the step to an apex, in any order.
 fn assert_triangles<R: AllocGlobal + Abort>(
     rt: &R,
     mesh: &Mesh,
@@ -186,8 +186,8 @@ fn assert_triangles<R: AllocGlobal + Abort>(
     Ok(())
 }
 
-/// Asserts how many live facets and how many places there are after the step to an apex, and that each side
-/// of a facet has its twin.
+/// Asserts the numbers of live facets and of places after the step to an apex, and that each side of a facet has its
+/// twin.
 fn assert_counts<R: AllocGlobal + Abort>(
     rt: &R,
     mesh: &Mesh,
@@ -202,7 +202,7 @@ fn assert_counts<R: AllocGlobal + Abort>(
     Ok(())
 }
 
-/// Makes a step, asserts that it gives what its row says, and answers its cone.
+/// Makes a step, asserts that its result is that of its row, and returns its cone.
 fn step<R: AllocGlobal + Abort>(
     rt: &R,
     mesh: &mut Mesh,
@@ -218,7 +218,7 @@ fn step<R: AllocGlobal + Abort>(
     Ok(made)
 }
 
-/// Asserts the triangles of all live facets after the step to an apex, whatever their order.
+/// Asserts the triangles of all live facets after the step to an apex, in any order.
 fn assert_live<R: AllocGlobal + Abort>(
     rt: &R,
     mesh: &Mesh,
@@ -241,7 +241,7 @@ fn replaces(rt: HostRuntime) -> Result<(), Fail> {
     assert_counts(&rt, &mesh, 4, 4, 3)?;
     for row in ROWS {
         let made = step(&rt, &mut mesh, &pts, row)?;
-        // The next step's list lies in the room of this one's.
+        // The next step's list reuses the memory of this one's.
         mesh.take_room(made);
     }
     Ok(())
@@ -261,7 +261,7 @@ fn five() -> [Point; 5] {
 /// The step to the fifth of the five points.
 const LEVEL_ROW: Row = (4, &[(1, 2, 3)], &[(1, 2, 4), (1, 4, 3), (2, 3, 4)], 6, 6);
 
-/// The triangles after it.
+/// The triangles after this step.
 const LEVEL_TRIANGLES: [Triangle; 6] = [
     (0, 1, 3),
     (0, 2, 1),

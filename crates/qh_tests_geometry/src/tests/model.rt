@@ -6,18 +6,17 @@ use std::process::Abort;
 
 mod refusals;
 
-/// How a cut was answered: the number of its blocks and the bounds of the first and of the last, or why it was
-/// refused.
+/// The result of a cut: the number of its blocks and the bounds of the first and of the last block, or its error.
 type Answer = Result<(u32, (u32, u32), (u32, u32)), CutError>;
 
-/// Returns how a cut was answered.
+/// Returns the result of a cut.
 fn ends(cut: Result<Cut, CutError>) -> Answer {
     let cut = cut?;
     let blocks = cut.blocks();
     Ok((blocks, cut.block(0), cut.block(blocks - 1)))
 }
 
-/// Asserts how a cut was answered. A failure names the row.
+/// Asserts the result of a cut. A failure names the row.
 fn assert_cut<R: Abort>(rt: &R, cut: Result<Cut, CutError>, want: Answer, row: &[u32]) {
     assert_eq!(rt; ends(cut), want, "{row:?}");
 }
@@ -30,7 +29,7 @@ fn from(alloc: Global, bounds: &[u32]) -> Result<Cut, CutError> {
     Cut::from_bounds(bounds)
 }
 
-/// The number of points and the size of a block, with the even cut's answer.
+/// The number of points and the size of a block, with the result of the even cut.
 const EVEN: [(u32, u32, Answer); 5] = [
     (7, 3, Ok((3, (0, 3), (6, 7)))),
     (5, 9, Ok((1, (0, 5), (0, 5)))),
@@ -47,7 +46,7 @@ fn even_cuts(rt: HostRuntime) {
     }
 }
 
-/// Bounds with the answer of their cut.
+/// Bounds with the result of their cut.
 const GIVEN: [(&[u32], Answer); 5] = [
     (&[0, 2, 3], Ok((2, (0, 2), (2, 3)))),
     (&[0, 2, 2], Err(CutError::BadBounds)),
@@ -63,7 +62,7 @@ fn given_bounds(rt: HostRuntime) {
     }
 }
 
-/// Returns the cut of this many bounds, the numbers from 0 on.
+/// Returns the cut whose bounds are the first `count` numbers from 0.
 fn unit_blocks(alloc: Global, count: u32) -> Result<Cut, CutError> {
     let mut bounds = Vec::new(alloc);
     for number in 0..count {

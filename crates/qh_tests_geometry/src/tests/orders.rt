@@ -24,7 +24,7 @@ fn ordered(alloc: Global, pts: &[Point], numbers: &[u32]) -> Result<Vec<Id>, Mem
     morton_order(alloc, pts, &ids, &ends_of(pts, &ids))
 }
 
-/// A place on an axis. The point opposite it comes first, the middle of both then.
+/// Places on axes. Along the curve, the opposite point comes first, the middle of both second, and the place last.
 const ON_AXES: [(i32, i32, i32); 7] = [
     (3, 0, 0),
     (1048576, 0, 0),

@@ -33,11 +33,10 @@ fn square() -> [Point; 8] {
     ]
 }
 
-/// The numbers of all eight.
+/// The numbers of all eight points.
 const ALL_EIGHT: [u32; 8] = [0, 1, 2, 3, 4, 5, 6, 7];
 
-/// Returns the distinct ids of points, by threads, if they are those that the calling thread finds
-/// alone.
+/// Returns the distinct ids of points, found by threads, if they are those that the calling thread finds alone.
 fn distinct_ids<R: Threads + Sync>(
     rt: &R,
     alloc: Global,
@@ -79,7 +78,7 @@ fn polygon_of(
     polygon(alloc, pts, &ids, normal)
 }
 
-/// Asserts what the polygon of some of the points is, seen from the side of a normal and from the other.
+/// Asserts the polygons of some of the points, seen from the side of a normal and from the other side.
 fn assert_polygons<R: AllocGlobal + Abort>(
     rt: &R,
     pts: &[Point],
@@ -108,7 +107,7 @@ fn triangles(rt: HostRuntime) -> Result<(), Fail> {
     assert_polygons(&rt, &pts, &[0, 2, 4], &up, [&[0, 2, 4], &[0, 4, 2]])
 }
 
-/// Asserts what the shape of some of the points is.
+/// Asserts the shape of some of the points.
 fn assert_shape<R: AllocGlobal + Abort>(
     rt: &R,
     pts: &[Point],

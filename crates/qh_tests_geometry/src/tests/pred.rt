@@ -1,5 +1,5 @@
-//! Volumes of the unit corner, of the cube at the limit, and of a tetrahedron whose volume 64 bits lose;
-//! turns across two axes. What each predicate is equal to, for all points, stands in its contract.
+//! Volumes of the unit corner, of the cube at the limit, and of a tetrahedron whose volume does not fit 64 bits; turns
+//! across two axes. The contract of each predicate states its value for all points.
 ghost use Rattle.qh_model.specs.headline.Limits.{IsCoordinate};
 
 use qh_model::{COORDINATE_LIMIT, Point};
@@ -8,8 +8,7 @@ use std::cmp::Ordering;
 
 const LIMIT: i32 = COORDINATE_LIMIT as i32;
 
-/// Returns the corner of the cube at a limit that is below on all axes, and its neighbours along x,
-/// y and z.
+/// Returns the corner of the cube at a limit that has the least coordinates, and its neighbours along x, y and z.
 fn cube_corner(limit: i32) -> [Point; 4]
     requires { IsCoordinate limit }
 {
@@ -21,8 +20,7 @@ fn cube_corner(limit: i32) -> [Point; 4]
     ]
 }
 
-/// Returns four corners of the cube at a limit, no two of them neighbours. Their volume is a power
-/// of two.
+/// Returns four corners of the cube at a limit, no two of them neighbours. Their volume is a power of two.
 fn wrapping_tetrahedron(limit: i32) -> [Point; 4]
     requires { IsCoordinate limit }
 {

@@ -1,4 +1,4 @@
-//! Boards worked by one pass and by several. What they reduce are the rising lists of their blocks.
+//! Boards with one pass and with several. Their values are the rising lists of their blocks.
 ghost use Rattle.std.specs.Prelude.{◌≡◌};
 ghost use Rattle.qh_board.specs.contract.Closings.{closed_setup};
 
@@ -12,7 +12,7 @@ mod refusals;
 mod rows;
 mod runs;
 
-/// Returns how many numbers a list has; `None` if they are not those from 0 on.
+/// Returns the length of a list; `None` if its elements are not the numbers from 0 on.
 fn counted(list: &[u32]) -> Option<usize> {
     for (number, place) in list.iter().zip(0u32..) {
         if *number != place {
@@ -22,7 +22,7 @@ fn counted(list: &[u32]) -> Option<usize> {
     Some(list.len())
 }
 
-/// Returns what came out at the root, if something did, as `counted` has it.
+/// Returns `counted` of the root's value, if there is one.
 fn counted_root(closed: Closed<Numbers>) -> Option<Option<usize>> {
     match closed.into_root() {
         Some(root) => Some(counted(&root)),
@@ -43,13 +43,13 @@ fn passes_left(closed: &Closed<Numbers>, passes: u32) -> u32
     left
 }
 
-/// Blocks and passes, with how many claims and how many steps the passes make.
+/// The numbers of blocks and of passes, and the numbers of claims and of steps that the passes make.
 type Row = (u32, u32, u64, u64);
 
-/// Wants all passes to have left, after the row's claims and steps, and all blocks at the root.
+/// Asserts that all passes left, after the row's claims and steps, and that all blocks are at the root.
 ///
-/// The steps are what the passes met, each a claim, an arrival or the root's publication, and the end
-/// of each pass.
+/// The steps are the events of the passes, each a claim, an arrival or the root's publication, and the end of each
+/// pass.
 fn assert_joined<R: Abort>(rt: &R, closed: Closed<Numbers>, met: usize, row: Row)
     requires { (closed_setup closed).passes ≡ row.1 }
 {

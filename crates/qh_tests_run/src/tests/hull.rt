@@ -7,8 +7,7 @@ use std::test::Fail;
 
 mod large_sets;
 
-/// Returns what a hull says: how many points there are, distinct points, the dimension, edges, extreme ids
-/// and faces.
+/// Returns the counts of a hull: its points, its distinct points, the dimension, its edges, extreme ids and faces.
 fn counts_of(hull: &Hull) -> (u32, u32, u8, u64, usize, usize) {
     let body = &hull.body;
     (
@@ -21,7 +20,7 @@ fn counts_of(hull: &Hull) -> (u32, u32, u8, u64, usize, usize) {
     )
 }
 
-/// Returns the hull of these points, which are some, and not too many.
+/// Returns the hull of these points, whose number is above 0 and within the limit.
 fn hull_of(alloc: Global, points: &[Point]) -> Result<Hull, Memory> {
     if points.is_empty() || points.len() > POINT_LIMIT as usize {
         return Err(Memory);

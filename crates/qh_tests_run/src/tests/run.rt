@@ -16,7 +16,7 @@ use std::thread::Threads;
 mod finishes;
 mod refusals;
 
-/// What the hull of the octahedron says, as `numbers_of` has it.
+/// The hull of the octahedron, as `numbers_of` returns it.
 const OCTAHEDRON_HULL: [usize; 43] = [
     18, 18, 3, 12, 6, 0, 2, 3, 5, 6, 9, 3, 0, 2, 6, 3, 0, 5, 9, 3, 0, 6, 5, 3, 0, 9, 2, 3, 2, 3, 6,
     3, 2, 9, 3, 3, 3, 5, 6, 3, 3, 9, 5,
@@ -43,14 +43,13 @@ fn lattice(alloc: Global) -> Result<Vec<Point>, AllocError> {
     Ok(points)
 }
 
-/// What the hull of the corners of a cube, each given twice, says.
+/// The hull of the corners of a cube, each given twice, as `numbers_of` returns it.
 const CUBE_HULL: [usize; 43] = [
     16, 8, 3, 12, 8, 0, 2, 4, 6, 8, 10, 12, 14, 4, 0, 2, 6, 4, 4, 0, 4, 12, 8, 4, 0, 8, 10, 2, 4,
     2, 10, 14, 6, 4, 4, 6, 14, 12, 4, 8, 12, 14, 10,
 ];
 
-/// Cuts of more than 6 positions: even ones, the last of which may have
-/// one block, and an uneven one.
+/// Returns cuts of more than 6 positions: even ones, the last of which may have one block, and an uneven one.
 fn cuts_of(alloc: Global, count: u32) -> Result<Vec<Cut>, CutError> {
     if count <= 6 || count > POINT_LIMIT {
         return Err(CutError::BadBounds);
@@ -66,8 +65,8 @@ fn cuts_of(alloc: Global, count: u32) -> Result<Vec<Cut>, CutError> {
     Ok(cuts)
 }
 
-/// Returns the hull of a list of points by a cut of its distinct ids; `None` if the cut is of
-/// another number of positions.
+/// Returns the hull of a list of points by a cut of its distinct ids; `None` if the cut has a different number of
+/// positions.
 fn hull_by<R: Threads + Sync>(
     rt: &R,
     alloc: Global,
@@ -86,7 +85,7 @@ fn hull_by<R: Threads + Sync>(
     Ok(Some(run_hull(rt, alloc, points, &ids, cut, workers, &NoGate)?))
 }
 
-/// Returns the number of ids, and the ids.
+/// Appends the number of ids, and the ids.
 fn push_ids(numbers: &mut Vec<usize>, ids: &[Id]) -> Result<(), AllocError> {
     numbers.push(ids.len())?;
     for id in ids {
@@ -95,9 +94,8 @@ fn push_ids(numbers: &mut Vec<usize>, ids: &[Id]) -> Result<(), AllocError> {
     Ok(())
 }
 
-/// Returns what a hull says, as numbers: how many points and distinct points there are, the
-/// dimension, how many edges, then the extreme ids and the ids of each face, each list after its
-/// length.
+/// Returns a hull as numbers: the numbers of points and of distinct points, the dimension, the number of edges, then
+/// the extreme ids and the ids of each face, each list after its length.
 fn numbers_of(alloc: Global, hull: &Hull) -> Result<Vec<usize>, AllocError> {
     let mut numbers = Vec::new(alloc);
     numbers.push(hull.given as usize)?;
@@ -111,7 +109,7 @@ fn numbers_of(alloc: Global, hull: &Hull) -> Result<Vec<usize>, AllocError> {
     Ok(numbers)
 }
 
-/// Returns the board of a job whose one pass was worked to its end.
+/// Returns the board of a job whose only pass was run to its end.
 fn worked_by_one<'a>(alloc: Global, job: Job<'a>) -> Result<Closed<Job<'a>>, BoardError>
     ensures { IfOk result (λ c. (closed_setup c).passes ≡ 1) }
 {
@@ -124,8 +122,8 @@ fn worked_by_one<'a>(alloc: Global, job: Job<'a>) -> Result<Closed<Job<'a>>, Boa
     Ok(board.close(lefts))
 }
 
-/// Returns the points, their distinct ids and a cut of them as a job; `None` if the cut is of
-/// another number of positions.
+/// Returns the points, their distinct ids and a cut of them as a job; `None` if the cut has a different number of
+/// positions.
 fn job<'a>(pts: &'a [Point], ids: &'a [Id], cut: &'a Cut) -> Option<Job<'a>>
     requires { AreDistinctIds pts.now ids.now }
 {
@@ -136,8 +134,7 @@ fn job<'a>(pts: &'a [Point], ids: &'a [Id], cut: &'a Cut) -> Option<Job<'a>>
     Some(Job { pts, ids, cut })
 }
 
-/// Returns what one pass finds of all blocks: the number of claims, the mark, and the ids at the
-/// root.
+/// Returns the result of one pass over all blocks: the number of claims, the mark, and the ids at the root.
 fn reduced_by_one<'a>(alloc: Global, job: Job<'a>) -> Result<(u64, Mark, Vec<usize>), Fail> {
     let closed = worked_by_one(alloc, job)?;
     let (claims, mark) = (closed.claims(), closed.mark(0));
@@ -159,8 +156,7 @@ fn one_pass_reduces_all_blocks(rt: HostRuntime) -> Result<(), Fail> {
     Ok(())
 }
 
-/// Returns how one pass ends on 2,048 points in blocks of a size: the number of claims, and the
-/// mark.
+/// Returns how one pass ends on 2,048 points in blocks of one size: the number of claims, and the mark.
 fn end_of<R: Threads + Sync>(
     rt: &R,
     alloc: Global,
@@ -194,8 +190,8 @@ fn assert_ends<R: AllocGlobal + Abort + Threads + Sync>(
     Ok(())
 }
 
-/// Blocks that tell by their first ids, one that tells by all of its own, then blocks that tell by the
-/// first two joined, and by the first four.
+/// Blocks whose first ids show that the tree does not pay, a block whose ids all have to be tested, then blocks for
+/// which the first two joined ones show it, and the first four.
 const PARABOLOID_ENDS: [(u32, u64, Mark); 4] = [
     (2048, 1, Mark::GaveUp),
     (1024, 1, Mark::GaveUp),
@@ -203,7 +199,7 @@ const PARABOLOID_ENDS: [(u32, u64, Mark); 4] = [
     (256, 4, Mark::GaveUp),
 ];
 
-/// One block is worked at like any other.
+/// A single block is processed like any other.
 const LATTICE_ENDS: [(u32, u64, Mark); 3] = [
     (2048, 2, Mark::Left),
     (1024, 3, Mark::Left),
@@ -216,7 +212,7 @@ fn gives_up_where_the_tree_does_not_pay(rt: HostRuntime) -> Result<(), Fail> {
     assert_ends(&rt, &lattice(rt.alloc())?, &LATTICE_ENDS)
 }
 
-/// Asserts what the hull of a list of points by a cut says, whatever the number of workers.
+/// Asserts the hull of a list of points by a cut, for every number of workers.
 fn assert_hull<R: AllocGlobal + Abort + Threads + Sync>(
     rt: &R,
     points: &[Point],

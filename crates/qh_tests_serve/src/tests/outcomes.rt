@@ -1,4 +1,5 @@
-//! Calls of `answer` and `serve` by the parts of their settings, with their outcomes as texts, as tests compare them.
+//! Calls of `answer` and `serve` with settings given by their parts, and the outcomes as texts, for comparison in
+//! tests.
 
 use qh_model::Form;
 use qh_read::MemSource;
@@ -8,7 +9,7 @@ use qh_write::{MemSink, Out};
 use std::alloc::{AllocError, Global};
 use std::thread::Threads;
 
-/// The parts of settings, from which [`Asked::settings`] makes them.
+/// The parts of settings, from which [`Asked::settings`] creates them.
 #[derive(Clone, Copy, Debug)]
 pub struct Asked<'a> {
     /// The number of workers.
@@ -21,7 +22,7 @@ pub struct Asked<'a> {
     pub form: Form,
 }
 
-/// The summary, with the settings that the program takes where its command line names no others.
+/// The summary, with the default settings of the program's command line.
 pub const SUMMARY: Asked<'static> = Asked {
     workers: 4,
     block: 4096,
@@ -39,16 +40,16 @@ macro_rules! asked_for {
     };
 }
 
-/// The same with the rank.
+/// The same settings with the rank.
 pub const RANK: Asked<'static> = asked_for!(Rank);
 
-/// The same with the extreme points.
+/// The same settings with the extreme points.
 pub const FX: Asked<'static> = asked_for!(Fx);
 
-/// The same with the faces as an OFF file.
+/// The same settings with the faces as an OFF file.
 pub const OFF: Asked<'static> = asked_for!(Off);
 
-/// The same with fans of triangles.
+/// The same settings with fans of triangles.
 pub const OFFT: Asked<'static> = asked_for!(OffTriangles);
 
 impl Asked<'_> {
@@ -73,7 +74,7 @@ pub struct Outcome {
     pub status: u8,
 }
 
-/// What an outcome is compared with: its output, its error and its status.
+/// The expected values of an outcome: its output, its error and its status.
 pub type Told<'a> = (&'a str, &'a str, u8);
 
 impl Outcome {
@@ -96,7 +97,7 @@ pub fn refusal(alloc: Global, fault: &Fault) -> Result<Outcome, AllocError> {
     })
 }
 
-/// Returns the outcome of a text; bytes that are no text are told as `not text`.
+/// Returns the outcome of a text; bytes that are not a text are shown as `not text`.
 ///
 /// # Errors
 ///
@@ -110,7 +111,7 @@ pub fn shown(alloc: Global, bytes: &[u8]) -> Result<Outcome, AllocError> {
     })
 }
 
-/// A call of `answer` or `serve`, watched by a gate.
+/// A call of `answer` or `serve`, observed by a gate.
 #[derive(Clone, Copy, Drop)]
 pub struct Call<'a, G> {
     input: &'a [u8],
@@ -119,7 +120,7 @@ pub struct Call<'a, G> {
 }
 
 impl<'a, G: Gate> Call<'a, G> {
-    /// Returns the call for the bytes of an input under settings, whose workers a gate watches.
+    /// Returns the call for the bytes of an input with settings. The gate observes the workers.
     pub fn new(input: &'a [u8], settings: &'a Settings, gate: &'a G) -> Call<'a, G> {
         Call {
             input,
@@ -144,7 +145,7 @@ impl<'a, G: Gate> Call<'a, G> {
         }
     }
 
-    /// Returns the outcome of `serve` between memory devices.
+    /// Returns the outcome of `serve` with devices in memory.
     ///
     /// # Errors
     ///

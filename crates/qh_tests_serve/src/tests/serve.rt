@@ -1,4 +1,4 @@
-//! The worked rows: what settings and an input answer, by `answer` and by `serve`.
+//! The worked rows: the results of `answer` and `serve` for settings and an input.
 
 mod devices;
 mod fans;
@@ -18,12 +18,12 @@ use std::process::Abort;
 use std::test::Fail;
 use std::thread::Threads;
 
-/// Returns how an input begins, for messages.
+/// Returns the beginning of an input, for messages.
 fn beginning(input: &[u8]) -> &str {
     str::from_utf8(&input[..input.len().min(200)]).unwrap_or("no text")
 }
 
-/// Asserts what `answer` gives for an input under settings.
+/// Asserts the result of `answer` for an input and settings.
 fn assert_answered<R: AllocGlobal + Abort + Threads + Sync>(
     rt: &R,
     asked: Asked,
@@ -37,7 +37,7 @@ fn assert_answered<R: AllocGlobal + Abort + Threads + Sync>(
     Ok(())
 }
 
-/// Asserts what `answer` and `serve` give for an input under settings.
+/// Asserts the results of `answer` and `serve` for an input and settings.
 fn assert_gives<R: AllocGlobal + Abort + Threads + Sync>(
     rt: &R,
     asked: Asked,
@@ -52,7 +52,7 @@ fn assert_gives<R: AllocGlobal + Abort + Threads + Sync>(
     Ok(())
 }
 
-/// Asserts the text of each row: settings, an input and what it answers.
+/// Asserts the text of each row, which has settings, an input and its text.
 fn assert_rows<R: AllocGlobal + Abort + Threads + Sync>(
     rt: &R,
     rows: &[(Asked, &str, &str)],
@@ -63,7 +63,7 @@ fn assert_rows<R: AllocGlobal + Abort + Threads + Sync>(
     Ok(())
 }
 
-/// Asserts the text of each row under settings: an input and what it answers.
+/// Asserts the text of each row with the same settings; a row has an input and its text.
 fn assert_texts<R: AllocGlobal + Abort + Threads + Sync>(
     rt: &R,
     asked: Asked,
@@ -75,7 +75,7 @@ fn assert_texts<R: AllocGlobal + Abort + Threads + Sync>(
     Ok(())
 }
 
-/// Asserts that each row is refused with status 1 under settings: an input and its fault line.
+/// Asserts that each row with the same settings is refused with status 1; a row has an input and its fault line.
 fn assert_faults<R: AllocGlobal + Abort + Threads + Sync>(
     rt: &R,
     asked: Asked,

@@ -1,4 +1,4 @@
-//! What workers do: that they run at once, what they tell a gate, what the tree joins, and one text for all.
+//! The workers: they run in parallel, notify a gate, join results in the tree, and always produce the same text.
 
 mod gated;
 mod joins;

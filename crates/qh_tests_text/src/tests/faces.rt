@@ -1,10 +1,10 @@
-//! Worked rows: texts, and the faces that they have.
+//! Worked rows: texts, and their faces.
 use qh_fixtures::faces::are_round;
 use qh_model::ReadFault;
 use qh_read::faces::{Layout, Reading, Turn, read_faces};
 use std::alloc::Global;
 
-/// Returns a file of this layout, whose faces go as in OFF files.
+/// Returns the reading of a file with this layout, whose faces are oriented as in OFF files.
 fn counterclockwise(layout: Layout) -> Reading {
     Reading {
         layout,
@@ -25,11 +25,11 @@ fn fault(alloc: Global, text: &str, reading: Reading) -> Option<ReadFault> {
     read_faces(alloc, text.as_bytes(), reading).err()
 }
 
-/// An OFF file of two faces, the first with a colour, on lines that go on.
+/// An OFF file of two faces, the first with a colour, with further words on their lines.
 const OFF: &str =
     "OFF # two faces\n3 2 3\n1 1 1 0 0 0\n1 0 0\n3 0 1\n2 255 0.5\n3 2 1 0 # no colour\n";
 
-/// Its faces.
+/// The faces of this file.
 const OFF_FACES: [&[u32]; 2] = [&[0, 1, 2], &[2, 1, 0]];
 
 #[test]
@@ -38,7 +38,7 @@ fn colours_are_passed_over(rt: HostRuntime) {
     assert!(rt; holds);
 }
 
-/// A face that goes the other way in its text.
+/// A face that is written in the opposite direction.
 const TURNED: [&[u32]; 1] = [&[9, 8, 7]];
 
 #[test]

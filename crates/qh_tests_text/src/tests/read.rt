@@ -1,4 +1,4 @@
-//! Rows: what each text stands for, in whatever way it comes.
+//! Rows: the result for each text, for each way to read it.
 ghost use Rattle.std.specs.Prelude.{◌<◌, ◌≤◌, length};
 
 mod numbers;
@@ -18,10 +18,10 @@ use std::process::Abort;
 /// The coordinates of a point.
 type Place = (i32, i32, i32);
 
-/// The points of that file.
+/// The points of the tetrahedron file.
 const TETRAHEDRON: [Place; 4] = [(0, 0, 0), (1, 0, 0), (0, 1, 0), (0, 0, 1)];
 
-/// Its corners.
+/// The corners of the cube file.
 const CUBE_CORNERS: [Place; 8] = [
     (0, 0, 0),
     (0, 0, 1),
@@ -33,7 +33,7 @@ const CUBE_CORNERS: [Place; 8] = [
     (1, 1, 1),
 ];
 
-/// Returns true if the reading gave just these points, in this order.
+/// Returns true if the reading returned exactly these points, in this order.
 fn gave(outcome: &Result<Vec<Point>, ReadFault>, places: &[Place]) -> bool {
     match outcome {
         Ok(points) => {
@@ -45,14 +45,14 @@ fn gave(outcome: &Result<Vec<Point>, ReadFault>, places: &[Place]) -> bool {
     }
 }
 
-/// How a text comes to be read.
+/// A way to read a text.
 #[derive(Clone, Copy, Debug)]
 enum Way {
     /// All at once.
     Whole,
     /// From a source.
     Source,
-    /// From a source of which the read with this number fails.
+    /// From a source whose read with this number fails.
     FailingRead(u64),
     /// In pieces of this length.
     Pieces(usize),
@@ -60,7 +60,7 @@ enum Way {
     Cut(usize),
 }
 
-/// Asserts that a reading gave just these points, in this order. A failure names the text and the way.
+/// Asserts that a reading returned exactly these points, in this order. A failure names the text and the way.
 fn assert_points<R: Abort>(
     rt: &R,
     outcome: Result<Vec<Point>, ReadFault>,
@@ -71,7 +71,7 @@ fn assert_points<R: Abort>(
     assert!(rt; gave(&outcome, places), "{text:?}, {way:?}");
 }
 
-/// Asserts that a reading gave this fault. A failure names the text and the way.
+/// Asserts that a reading returned this fault. A failure names the text and the way.
 fn assert_fault<R: Abort>(
     rt: &R,
     outcome: Result<Vec<Point>, ReadFault>,
@@ -107,13 +107,13 @@ fn feed_times(reader: &mut Reader, piece: &[u8], times: u32) -> Result<(), FeedF
     Ok(())
 }
 
-/// Asserts that a reader was fed the most bytes that it takes.
+/// Asserts that a reader was fed the greatest number of bytes that it accepts.
 fn assert_full<R: Abort>(rt: &R, reader: &mut Reader) {
     let answers = (reader.feed(b" "), reader.feed(b""));
     assert_eq!(rt; answers, (Err(FeedFault::Big), Ok(())));
 }
 
-/// Returns the reading of these bytes, cut in two.
+/// Returns the result of reading these bytes, cut in two.
 fn read_cut(alloc: Global, form: Form, bytes: &[u8], cut: usize) -> Result<Vec<Point>, ReadFault>
     requires { cut ≤ length bytes.now }
 {
@@ -134,7 +134,7 @@ fn feed_in_pieces(reader: &mut Reader, bytes: &[u8], length: usize) -> Result<()
     Ok(())
 }
 
-/// Returns the reading of these bytes in pieces of this length, which is above 0.
+/// Returns the result of reading these bytes in pieces of this length, which is above 0.
 fn read_in_pieces(
     alloc: Global,
     form: Form,

@@ -1,4 +1,4 @@
-//! Texts of small hulls, and what sinks keep of them.
+//! Texts of small hulls, and the bytes that sinks receive.
 ghost use Rattle.std.specs.Prelude.{◌≡◌, [], ◌∷◌, IfOk};
 
 use qh_model::{Body, Hull, Id, Memory, Point, Polygon};
@@ -12,7 +12,7 @@ mod many_points;
 mod refusals;
 mod writers;
 
-/// Returns the hull of one point that was given once.
+/// Returns the hull of a single point.
 fn one_point(alloc: Global) -> Result<Hull, Memory>
     ensures { IfOk result (λ h. h.body.extremes ≡ 0 ∷ []) }
 {
@@ -51,7 +51,7 @@ fn texts_of_point(alloc: Global, outs: &[Out]) -> Result<Vec<u8>, Memory> {
     text(alloc, &hull, &[Point::new(5, 5, 5)], outs)
 }
 
-/// Asserts the texts of that hull.
+/// Asserts the texts of the hull of the point (5, 5, 5).
 fn assert_texts<R: AllocGlobal + Abort>(rt: &R, outs: &[Out], want: &str) -> Result<(), Fail> {
     let texts = texts_of_point(rt.alloc(), outs)?;
     assert_eq!(rt; texts.as_slice(), want.as_bytes());
@@ -79,8 +79,8 @@ fn plan(greatest_piece: usize, room: usize) -> SinkPlan {
     }
 }
 
-/// Asserts what happens when the tetrahedron is sent to a device that fails by a plan: `send` answers `want`,
-/// the device has the first `length` bytes, and it failed once if `want` is an error, else not at all.
+/// Asserts the result of sending the tetrahedron to a device that fails according to a plan: `send` returns `want`, the
+/// device received the first `length` bytes, and it failed once if `want` is an error, else never.
 fn assert_sent<R: AllocGlobal + Abort>(
     rt: &R,
     plan: SinkPlan,

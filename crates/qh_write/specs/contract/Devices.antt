@@ -1,17 +1,17 @@
--- What the devices of the tests show.
+-- The observable state of the test devices.
 use Rattle.std.specs.Prelude.{ℕ, List}
 use Rattle.qh_write.specs.declared.mem_sink.MemSink.{MemSink}
 use Rattle.qh_write.specs.declared.fakes.FailSink.{FailSink}
 use Rattle.qh_write.specs.declared.fakes.SinkPlan.{SinkPlan}
 
--- the bytes that the sink has
+-- the bytes that the sink received
 abbrev pub kept : MemSink → List ℕ
 kept s = s.bytes.items
 
--- the bytes that a sink took before it failed
+-- the bytes that a sink received before it failed
 abbrev pub kept_before_failing : FailSink → List ℕ
 kept_before_failing s = s.bytes.items
 
--- when the sink fails
+-- the plan by which the sink fails
 abbrev pub plan_of : FailSink → SinkPlan
 plan_of s = s.plan

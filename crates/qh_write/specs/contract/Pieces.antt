@@ -4,7 +4,7 @@ use Rattle.std.specs.declared.alloc.Global.{Global}
 use Rattle.std.specs.List.{flat_map}
 use Rattle.qh_write.specs.declared.pieces.Pieces.{Pieces}
 
--- the bytes of pieces in a row
+-- the concatenated bytes of pieces
 abbrev pub bytes_of : List (Vec ℕ Global) → List ℕ
 bytes_of pieces = flat_map (λ (piece : Vec ℕ Global). piece.items) pieces
 

@@ -1,4 +1,4 @@
--- Faces as they are shown: each as a whole, or as a fan of triangles.
+-- Faces as they are written: as a whole, or as a fan of triangles.
 -- Source: OpenGL (a fan of triangles goes out from its first vertex).
 use Rattle.std.specs.Prelude.{ℕ, List}
 use Rattle.qh_model.specs.headline.{Fan.fans, Fan.edge_count, Hull.BodyValue}

@@ -1,4 +1,4 @@
--- The numbers of vertices, as the writer tells them: from a table with a place for each id, or by a search among the extreme ids.
+-- The numbers of vertices, as the writer finds them: in a table with an entry for each id, or by a search among the extreme ids.
 use Rattle.std.specs.Prelude.{ℕ, suc, ◌≡◌, ◌<◌, List, [], ◌∷◌, ◌++◌, All, length, set, slice_index, decimal}
 use Rattle.std.specs.List.{flat_map}
 use Rattle.std.specs.List.Sorted.{IsStrictlyIncreasing}
@@ -26,11 +26,11 @@ HasNumber (Search extremes) i = IsStrictlyIncreasing extremes.now × In i extrem
 abbrev pub AreNumbered : VertexNumbers → List ℕ → Type 0
 AreNumbered numbers face = All (HasNumber numbers) face
 
--- a face, each vertex by the number that it gets
+-- a face, each vertex by its number
 abbrev pub face_by_numbers : VertexNumbers → List ℕ → List ℕ
 face_by_numbers numbers q = line (decimal (length q) ++ flat_map (λ i. spaced (number_in numbers i)) q)
 
--- each extreme id gets its number
+-- each extreme id gets its vertex number
 pub record NumberExtremes (extremes : List ℕ) (numbers : VertexNumbers) : Type 0 where
   pub has : (i : ℕ) → In i extremes → HasNumber numbers i
   pub is : (i : ℕ) → In i extremes → number_in numbers i ≡ vertex_number extremes i

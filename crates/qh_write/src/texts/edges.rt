@@ -1,4 +1,4 @@
-//! The number of edges of fans. Each pair of neighbours is one number; these are sorted, and equal ones
+//! The number of edges of fans. Each pair of neighbours is one number; the numbers are sorted, and equal ones are
 //! counted once.
 ghost use Rattle.std.specs.Prelude.{◌≡◌, IfOk, OnOk, [], ◌∷◌, min, max};
 ghost use Rattle.qh_model.specs.headline.Fan.{fan, fans, pairs_round, edge_count};
@@ -8,7 +8,7 @@ use qh_model::keys::Packed;
 use qh_model::{Id, Polygon, Sides};
 use std::alloc::{AllocError, Global};
 
-/// Appends the number of two neighbours, unless they are one id.
+/// Appends the number of two neighbours, unless they are equal.
 fn push_pair(keys: &mut Vec<Packed>, u: Id, v: Id) -> Result<(), AllocError>
     ensures { OnOk result (AddsPairs ((min u v, max u v) ∷ []) keys.old.items keys.new.items) }
 {
@@ -19,7 +19,7 @@ fn push_pair(keys: &mut Vec<Packed>, u: Id, v: Id) -> Result<(), AllocError>
     Ok(())
 }
 
-/// Appends the numbers of the neighbours round a face.
+/// Appends the numbers of the pairs of neighbours around a face.
 fn push_round(keys: &mut Vec<Packed>, face: &[Id]) -> Result<(), AllocError>
     ensures { OnOk result (AddsPairs (pairs_round face.now) keys.old.items keys.new.items) }
 {
@@ -29,7 +29,7 @@ fn push_round(keys: &mut Vec<Packed>, face: &[Id]) -> Result<(), AllocError>
     Ok(())
 }
 
-/// Appends the numbers of the neighbours of a fan.
+/// Appends the numbers of the pairs of neighbours in a fan.
 fn push_fan(keys: &mut Vec<Packed>, face: &Polygon) -> Result<(), AllocError>
     ensures { OnOk result (AddsPairs (pairs_of (fan face.now)) keys.old.items keys.new.items) }
 {
@@ -42,7 +42,7 @@ fn push_fan(keys: &mut Vec<Packed>, face: &Polygon) -> Result<(), AllocError>
     Ok(())
 }
 
-/// Appends the numbers of the neighbours of the fans of faces.
+/// Appends the numbers of the pairs of neighbours in the fans of faces.
 fn push_fans(keys: &mut Vec<Packed>, faces: &[Polygon]) -> Result<(), AllocError>
     ensures { OnOk result (AddsPairs (pairs_of (fans faces.now)) keys.old.items keys.new.items) }
 {
@@ -52,7 +52,7 @@ fn push_fans(keys: &mut Vec<Packed>, faces: &[Polygon]) -> Result<(), AllocError
     Ok(())
 }
 
-/// Returns the number of edges of the fans of faces; `count` is how many faces the fans have, for the
+/// Returns the number of edges of the fans of faces; `count` is the number of faces of the fans, which determines the
 /// memory.
 pub fn fan_edges(alloc: Global, faces: &[Polygon], count: usize) -> Result<usize, AllocError>
     ensures { IfOk result (λ n. n ≡ edge_count (fans faces.now)) }

@@ -12,7 +12,7 @@ use super::off::push_face;
 use qh_model::{Body, Id, Polygon};
 use std::alloc::{AllocError, Global};
 
-/// Appends a face as a fan of triangles, or as it is where it has fewer than three corners.
+/// Appends a face as a fan of triangles, or unchanged if it has fewer than three corners.
 fn push_fan(text: &mut Vec<u8>, numbers: &VertexNumbers, face: &Polygon) -> Result<(), AllocError>
     requires { AreNumbered numbers.now face.now }
     ensures { OnOk result (text.new.items ≡ text.old.items ++ flat_map (face_by_numbers numbers.now) (fan face.now)) }
@@ -41,20 +41,20 @@ pub fn push_fans(
     Ok(())
 }
 
-/// Returns how many faces the fan of a face has.
+/// Returns the number of faces in the fan of a face.
 pub fn fan_size(face: &[Id]) -> usize
     ensures { result ≡ length (fan face.now) }
 {
     if face.len() < 3 { 1 } else { face.len() - 2 }
 }
 
-/// Returns how many faces the fans of faces have.
+/// Returns the number of faces in the fans of faces.
 fn fan_faces(faces: &[Polygon]) -> Result<usize, AllocError>
     ensures { IfOk result (λ n. n ≡ length (fans faces.now)) }
 {
     let mut count: usize = 0;
     for face in faces {
-        // A sum past the range would need more ids than fit into memory.
+        // A sum out of range would need more ids than fit into memory.
         let Some(sum) = count.checked_add(fan_size(face.ids())) else {
             return Err(AllocError);
         };

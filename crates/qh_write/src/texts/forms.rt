@@ -1,4 +1,4 @@
-//! The forms in which faces are shown: each as a whole, or as a fan of triangles.
+//! The forms in which faces are written: as a whole, or as a fan of triangles.
 ghost use Rattle.std.specs.Prelude.{◌≡◌, ◌++◌, OnOk, All, length, decimal};
 ghost use Rattle.std.specs.List.{flat_map};
 ghost use Rattle.qh_model.specs.headline.Text.{line, spaced};
@@ -17,7 +17,7 @@ use std::alloc::{AllocError, Global};
 pub enum Form {
     /// Each face with all its corners.
     Whole,
-    /// Each face as triangles that go out from its first corner.
+    /// Each face as triangles that share its first corner.
     Fans,
 }
 
@@ -54,7 +54,7 @@ impl Form {
         }
     }
 
-    /// Returns an upper bound of the bytes that the lines of faces take in this form.
+    /// Returns an upper bound of the number of bytes that the lines of faces take in this form.
     pub fn room(self, faces: &[Polygon]) -> usize {
         match self {
             Form::Whole => faces_room(faces),

@@ -8,7 +8,8 @@ ghost use Rattle.qh_write.specs.steps.Numberings.{numbered, number_in, HasNumber
 use qh_model::Id;
 use std::alloc::{AllocError, Global};
 
-/// With at least this many points for each extreme id, a search for each vertex takes less time than a table of all ids.
+/// If there are at least this many points for each extreme id, searching for each vertex is faster than a table of all
+/// ids.
 const POINTS_FOR_SEARCH: usize = 128;
 
 /// The numbers of vertices: the position of each extreme id among the extreme ids.
@@ -16,7 +17,7 @@ const POINTS_FOR_SEARCH: usize = 128;
 pub enum VertexNumbers<'a> {
     /// A number at each extreme id, and 0 elsewhere.
     Table(Vec<u32>),
-    /// The extreme ids, rising, among which each vertex is searched.
+    /// The extreme ids, rising, which are searched for each vertex.
     Search(&'a [Id]),
 }
 
@@ -33,7 +34,7 @@ impl VertexNumbers<'_> {
     }
 }
 
-/// Returns the position of an id in a rising list that has it.
+/// Returns the position of an id in a rising list that contains it.
 fn position_of(ids: &[Id], id: Id) -> u64
     requires rising { IsStrictlyIncreasing ids.now }
     requires has { In id ids.now }
@@ -45,7 +46,7 @@ fn position_of(ids: &[Id], id: Id) -> u64
     }
 }
 
-/// Returns a table with the position among rising ids at each of them, and 0 elsewhere.
+/// Returns a table that has, at each of the rising ids, its position among them, and 0 elsewhere.
 fn number_table(alloc: Global, extremes: &[Id], count: usize) -> Result<Vec<u32>, AllocError>
     requires within { All (λ i. i < count) extremes.now }
     requires rising { IsStrictlyIncreasing extremes.now }
@@ -53,7 +54,7 @@ fn number_table(alloc: Global, extremes: &[Id], count: usize) -> Result<Vec<u32>
 {
     let mut numbers = vec![in alloc; 0u32; count]?;
     for (number, id) in extremes.iter().enumerate() {
-        // An id is no lower than its position among rising ids, so the position has 32 bits, too.
+        // An id is at least its position among rising ids, so the position fits 32 bits, too.
         let vertex = id.number();
         numbers[vertex as usize] = number as u32;
     }

@@ -1,4 +1,4 @@
-//! The text of `Fx`, and that of an OFF file.
+//! The texts of `Fx` and of OFF files.
 ghost use Rattle.std.specs.Prelude.{◌≡◌, ◌++◌, ◌<◌, OnOk, All, length, decimal, codes};
 ghost use Rattle.std.specs.List.{flat_map};
 ghost use Rattle.qh_model.specs.headline.Text.{line, spaced, extremes_text, vertex_text, face_text, off_text};
@@ -54,7 +54,7 @@ fn push_vertex(text: &mut Vec<u8>, point: Point) -> Result<(), AllocError>
     push_line_end(text)
 }
 
-/// Appends the points of ids.
+/// Appends the points with these ids.
 #[tactic(auto, unfolding(qh_model::specs::headline::Predicates::place))]
 pub fn push_vertices(text: &mut Vec<u8>, pts: &[Point], ids: &[Id]) -> Result<(), AllocError>
     requires { All (λ i. i < length pts.now) ids.now }
@@ -105,8 +105,8 @@ pub fn push_faces(
     Ok(())
 }
 
-/// Appends the faces of a hull in a form, each vertex by its number among the extreme ids, all of which are below
-/// the count.
+/// Appends the faces of a hull in a form, each vertex by its number among the extreme ids, all of which are below the
+/// count.
 pub fn push_numbered<S: Scribe>(
     scribe: &S,
     text: &mut Pieces,

@@ -1,15 +1,15 @@
-//! How long a text can be, so that its memory is taken once.
+//! Upper bounds for the lengths of texts, so that their memory is allocated once.
 
 use super::fans::fan_size;
 use qh_model::{Body, Out, Polygon};
 
-/// The most bytes of a number with a blank or a line end.
+/// The greatest number of bytes of a number with a blank or a line end.
 const NUMBER: usize = 12;
 
-/// The most bytes of the texts of `rank` and `s`.
+/// The greatest number of bytes of the texts of `rank` and `s`.
 const SUMMARY: usize = 256;
 
-/// Returns how many numbers the faces have in all, their lengths with them.
+/// Returns the number of numbers in the lines of the faces, their lengths included.
 fn face_numbers(faces: &[Polygon]) -> usize {
     let mut numbers = faces.len();
     for face in faces {
@@ -18,7 +18,7 @@ fn face_numbers(faces: &[Polygon]) -> usize {
     numbers
 }
 
-/// Returns how many numbers the fans of the faces have at most, their lengths with them.
+/// Returns an upper bound of the number of numbers in the lines of the fans of the faces, their lengths included.
 fn fan_numbers(faces: &[Polygon]) -> usize {
     let mut triangles = 0usize;
     for face in faces {
@@ -27,17 +27,17 @@ fn fan_numbers(faces: &[Polygon]) -> usize {
     triangles.saturating_mul(4)
 }
 
-/// Returns an upper bound of the bytes that the lines of faces take.
+/// Returns an upper bound of the number of bytes of the lines of faces.
 pub fn faces_room(faces: &[Polygon]) -> usize {
     face_numbers(faces).saturating_mul(NUMBER)
 }
 
-/// Returns an upper bound of the bytes that the lines of the fans of faces take.
+/// Returns an upper bound of the number of bytes of the lines of the fans of faces.
 pub fn fans_room(faces: &[Polygon]) -> usize {
     fan_numbers(faces).saturating_mul(NUMBER)
 }
 
-/// Returns an upper bound of the bytes that the lines of vertices take.
+/// Returns an upper bound of the number of bytes of the lines of vertices.
 pub fn vertices_room(count: usize) -> usize {
     count.saturating_mul(3 * NUMBER)
 }
@@ -56,7 +56,7 @@ fn output_room(body: &Body, out: Out) -> usize {
     }
 }
 
-/// Returns an upper bound of the bytes that the outputs take.
+/// Returns an upper bound of the number of bytes of the outputs.
 pub fn room_for(body: &Body, outs: &[Out]) -> usize {
     let mut room = 0usize;
     for out in outs {

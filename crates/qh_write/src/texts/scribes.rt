@@ -1,4 +1,4 @@
-//! Who writes the lines of vertices and faces: the calling thread alone, or threads side by side.
+//! Scribes, which write the lines of vertices and faces: with the calling thread alone, or with several threads.
 ghost use Rattle.std.specs.Prelude.{◌≡◌, ◌++◌, ◌*◌, ◌<◌, IfOk, OnOk, All, length, take, drop};
 ghost use Rattle.std.specs.List.{flat_map};
 ghost use Rattle.std.specs.Thread.{IsSync};
@@ -18,7 +18,7 @@ use qh_threads::{PARTS_FOR_EACH, map_claimed};
 use std::alloc::{AllocError, Global};
 use std::thread::Threads;
 
-/// Threads share the lines of at least this many vertices or faces.
+/// The least number of vertices or faces whose lines are shared between threads.
 const SHARED_FROM: usize = 16_384;
 
 /// The vertices of a text.
@@ -43,10 +43,10 @@ pub struct NumberedFaces<'a> {
 
 /// A way to write the lines of vertices and faces.
 pub trait Scribe {
-    /// What is known of one that writes.
+    /// Precondition of this scribe.
     ghost ready: { Self → Type 0 };
 
-    /// Returns how many bytes the first piece of a text takes at most, or at first.
+    /// Returns an upper bound, or a first estimate, of the number of bytes of the first piece of a text.
     fn room(&self, body: &Body, outs: &[Out]) -> usize;
 
     /// Appends the points of vertices.
@@ -74,8 +74,8 @@ pub trait Scribe {
             ++ flat_map (face_by_numbers faces.entry.numbers.now) (shown faces.entry.form faces.entry.polygons.now)) };
 }
 
-/// Returns the part of a list with a number, where it is cut into parts of one size; the last may be
-/// shorter, and there is nothing past it.
+/// Returns the part with this number of a list that is cut into parts of one size. The last part may be shorter, and
+/// parts past it are empty.
 fn part_of<T>(items: &[T], size: usize, number: usize) -> &[T]
     ensures { result.now ≡ take size (drop (number * size) items.now) }
 {
@@ -85,7 +85,7 @@ fn part_of<T>(items: &[T], size: usize, number: usize) -> &[T]
     part
 }
 
-/// Returns the lines of the points of ids.
+/// Returns the lines of the points with these ids.
 fn vertices_text(alloc: Global, pts: &[Point], ids: &[Id]) -> Result<Vec<u8>, AllocError>
     requires { All (λ i. i < length pts.now) ids.now }
     ensures { IfOk result (λ t. t.items ≡ flat_map (λ i. vertex_text (place pts.now i)) ids.now) }
@@ -110,7 +110,7 @@ fn faces_text(
     Ok(text)
 }
 
-/// The calling thread alone.
+/// The scribe that uses the calling thread alone.
 #[derive(Clone, Copy, Debug)]
 pub struct Alone;
 
@@ -150,13 +150,13 @@ pub struct InThreads<'a, R> {
 }
 
 impl<R> InThreads<'_, R> {
-    /// Returns true if threads share a number of lines.
+    /// Returns true if threads share this number of lines.
     fn share(&self, lines: usize) -> bool {
         self.threads > 1 && lines >= SHARED_FROM
     }
 }
 
-/// Appends the points of vertices by a number of threads, which claim parts of them.
+/// Appends the points of vertices with a number of threads, which claim parts of them.
 fn push_vertices_in_threads<R: Threads + Sync>(
     scribe: &InThreads<'_, R>,
     text: &mut Pieces,
@@ -183,7 +183,7 @@ fn push_vertices_in_threads<R: Threads + Sync>(
     text.append_parts(alloc, parts)
 }
 
-/// Appends faces by a number of threads, which claim parts of them.
+/// Appends faces with a number of threads, which claim parts of them.
 fn push_faces_in_threads<R: Threads + Sync>(
     scribe: &InThreads<'_, R>,
     text: &mut Pieces,
@@ -219,7 +219,7 @@ impl<R: Threads + Sync> Scribe for InThreads<'_, R> {
     ghost ready = { λ _. IsSync R.row };
 
     fn room(&self, body: &Body, outs: &[Out]) -> usize {
-        // What threads write are pieces of their own.
+        // The output of the threads is kept as separate pieces.
         if self.share(body.polygons.len()) {
             0
         } else {

@@ -36,7 +36,7 @@ fn push_title(text: &mut Vec<u8>, given: u32) -> Result<(), AllocError>
     push_line_end(text)
 }
 
-/// Appends the lines on what was given.
+/// Appends the lines about the input.
 #[tactic(auto, using(std::proofs::Common::append_assoc))]
 fn push_given(text: &mut Vec<u8>, hull: &Hull) -> Result<(), AllocError>
     ensures { OnOk result (text.new.items ≡ text.old.items ++ given_text hull.now) }
@@ -46,7 +46,7 @@ fn push_given(text: &mut Vec<u8>, hull: &Hull) -> Result<(), AllocError>
     push_labelled(text, b"  distinct points: ", u64::from(hull.distinct))
 }
 
-/// Appends the lines on what was found.
+/// Appends the lines about the hull.
 #[tactic(auto, using(std::proofs::Common::append_assoc))]
 fn push_found(text: &mut Vec<u8>, body: &Body) -> Result<(), AllocError>
     ensures { OnOk result (text.new.items ≡ text.old.items ++ found_text body.now) }

@@ -1,4 +1,4 @@
--- The words so far and those to come ask what all words do.
+-- The words so far and the remaining ones specify the same settings as all words.
 use Rattle.std.proofs.Common.{◌≡◌, drop, map}
 use Rattle.std.specs.Prelude.{string_bytes}
 use Rattle.hullcheck.specs.contract.CommandLine.{asked_by_default, asked_in, with_words}

@@ -1,4 +1,4 @@
--- A numeral in range is what the word stands for; without a numeral it stands for nothing.
+-- A word with a numeral in range denotes that number; any other word denotes no number.
 use Rattle.std.proofs.Common.{arith, refl}
 use Rattle.hullcheck.proofs.WordLaws.{no_workers, number_of_workers}
 use Rattle.hullcheck.proofs.command_line.workers_of.Goals as goal

@@ -1,4 +1,4 @@
--- The line of the judgement is what the output was handed.
+-- The output received the line of the judgement.
 use Rattle.std.proofs.Common.{refl}
 use Rattle.qh_check.specs.contract.Texts.{judgement_text}
 use Rattle.hullcheck.proofs.program.end.Goals as goal

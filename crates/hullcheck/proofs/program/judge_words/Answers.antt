@@ -1,4 +1,4 @@
--- What the source gave is what the files that the words name contain.
+-- The bytes read from the source are the content of the files that the words name.
 use Rattle.std.proofs.Common.{◌≡◌, Some, IfSome, map}
 use Rattle.std.specs.Prelude.{string_bytes}
 use Rattle.std.proofs.lemmas.Result.{IfOk-weaker, IfErr-weaker}

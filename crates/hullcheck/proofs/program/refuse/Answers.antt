@@ -1,4 +1,4 @@
--- The line of the fault is what the device was handed.
+-- The device received the line of the fault.
 use Rattle.std.proofs.Common.{refl}
 use Rattle.hullcheck.specs.contract.FaultTexts.{fault_text}
 use Rattle.hullcheck.proofs.program.refuse.Goals as goal

@@ -1,4 +1,4 @@
--- The line of the fault is what the device of errors was handed.
+-- The device of errors received the line of the fault.
 use Rattle.std.proofs.Common.{refl}
 use Rattle.qh_serve.specs.contract.FaultLines.{fault_line}
 use Rattle.qconvex.proofs.program.end.Goals as goal

@@ -1,4 +1,4 @@
--- The corners so far, and the triangles that are left.
+-- The corners so far, and the remaining triangles.
 use Rattle.std.proofs.Common.{◌≡◌, ◌++◌}
 use Rattle.qconvex_c.specs.contract.Flat.{corners_of}
 use Rattle.qconvex_c.specs.steps.FaceFans.{face_corners}

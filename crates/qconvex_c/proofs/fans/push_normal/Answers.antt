@@ -1,4 +1,4 @@
--- Three components more.
+-- Three more components.
 use Rattle.std.proofs.Common.{arith}
 use Rattle.std.proofs.lemmas.Grind.{common_steps}
 use Rattle.qconvex_c.proofs.fans.push_normal.Goals as goal

@@ -1,4 +1,4 @@
--- The normals so far, and the triangles that are left.
+-- The normals so far, and the remaining triangles.
 use Rattle.std.proofs.Common.{◌≡◌, ◌++◌, All}
 use Rattle.std.specs.List.{flat_map}
 use Rattle.qh_model.specs.contract.IdSets.{AreIndices}

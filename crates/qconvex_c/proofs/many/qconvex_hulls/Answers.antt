@@ -3,7 +3,7 @@ use Rattle.qconvex_c.specs.{declared.buffers.Buffers.Buffers, steps.Buffers.AreS
 use Rattle.qconvex_c.proofs.SetHulls.{fits_part, written_more}
 use Rattle.qconvex_c.proofs.many.qconvex_hulls.Goals as goal
 
--- buffers stay the same through two calls
+-- buffers that are the same through two calls
 same_twice : (a b c : Buffers) → AreSame a b → AreSame b c → AreSame a c
 same_twice a b c s t = record {
   extremes = t.extremes ∙ s.extremes;

@@ -1,4 +1,4 @@
--- A body of one polygon: its extreme ids are the members of this one.
+-- A body of one polygon: its extreme ids are the members of the polygon.
 use Rattle.std.proofs.Common.{◌≡◌, [], ◌∷◌, ⊎_elim, subst}
 use Rattle.qh_model.specs.headline.Sets.{In}
 use Rattle.qh_block.proofs.bodies.flat_body.Goals as goal

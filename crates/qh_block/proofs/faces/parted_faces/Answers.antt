@@ -1,4 +1,4 @@
--- The faces are gathered facet by facet, into the list that its mark tells.
+-- The faces are gathered facet by facet, into the list that the mark of the facet selects.
 use Rattle.std.proofs.Common.{◌≡◌, ◌∙◌, ℕ, List, Bool, false, arith, ap, length, sym, subst}
 use Rattle.std.proofs.lemmas.List.{length-map}
 use Rattle.qh_model.specs.contract.StoredSurface.{named_facet}

@@ -1,4 +1,4 @@
--- The extreme ids of what a look leaves are those of the set.
+-- The extreme ids of the ids that the filter keeps are those of the set.
 use Rattle.std.proofs.Common.{subst}
 use Rattle.std.specs.Prelude.{IfOk}
 use Rattle.std.proofs.lemmas.Result.{IfOk-weaker}

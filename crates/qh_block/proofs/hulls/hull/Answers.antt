@@ -1,4 +1,4 @@
--- The hull of what a look leaves is that of the set.
+-- The hull of the ids that the filter keeps is that of the set.
 use Rattle.std.proofs.Common.{subst}
 use Rattle.std.specs.Prelude.{IfOk}
 use Rattle.std.proofs.lemmas.Result.{IfOk-weaker}

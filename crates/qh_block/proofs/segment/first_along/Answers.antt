@@ -1,4 +1,4 @@
--- The first of some ids and one more is the earlier one of these two.
+-- The first of some ids and one more is the earlier of the two.
 use Rattle.std.proofs.Common.{◌≡◌, ◌∙◌, ◌<◌, ◌+◌, ℕ, List, length, get_or, arith, subst, sym, ◌⊎◌, ⊎_elim}
 use Rattle.std.proofs.lemmas.{Grind.get_or_default_zero, Int.ints}
 use Rattle.std.specs.Prelude.{ℤ, ◌≤ℤ◌}

@@ -1,4 +1,4 @@
--- The first of the ids looked at.
+-- The first of the ids so far.
 use Rattle.std.proofs.Common.{◌<◌, ℕ, length, get_or}
 use Rattle.std.specs.Prelude.{◌≤ℤ◌}
 use Rattle.qh_model.specs.headline.Sets.{In}

@@ -1,4 +1,4 @@
--- The faces of a finished mesh close up, so they tell the hull.
+-- The faces of a finished mesh close up, so they determine the hull.
 use Rattle.qh_model.specs.headline.Predicates.{place}
 use Rattle.qh_model.proofs.surfaces.Complete.{finished_is_solid}
 use Rattle.qh_block.proofs.finished.SolidBodies.{closed}

@@ -1,4 +1,4 @@
--- The keys so far, turned back.
+-- The keys so far, reversed.
 use Rattle.std.proofs.Common.{◌≡◌, map, take}
 use Rattle.qh_model.specs.contract.Halves.{halves}
 use Rattle.qh_bodies.specs.steps.StepKeys.{back}

@@ -1,4 +1,4 @@
--- The keys of both are there, in another order.
+-- The list has the keys of both, in another order.
 use Rattle.std.proofs.lemmas.List.Sorted.{IsNonDecreasingBy-from_sort}
 use Rattle.qh_bodies.proofs.StepBorders.{steps_and_back}
 use Rattle.qh_bodies.proofs.borders.steps_and_back.Goals as goal

@@ -1,4 +1,4 @@
--- The keys so far that go down, turned back.
+-- The keys so far of steps down, reversed.
 use Rattle.std.proofs.Common.{◌≡◌, filter, map, take}
 use Rattle.qh_model.specs.contract.Halves.{halves}
 use Rattle.qh_bodies.specs.steps.StepKeys.{back, goes_down}

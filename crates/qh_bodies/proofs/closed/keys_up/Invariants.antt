@@ -1,4 +1,4 @@
--- The keys so far that go up.
+-- The keys so far of steps up.
 use Rattle.std.proofs.Common.{◌≡◌, filter, take}
 use Rattle.qh_bodies.specs.steps.StepKeys.{goes_up}
 use Rattle.qh_bodies.proofs.closed.keys_up.Given as goal

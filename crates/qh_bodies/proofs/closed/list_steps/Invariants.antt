@@ -1,4 +1,4 @@
--- The steps so far, and the sides that are left.
+-- The steps so far, and the remaining sides.
 use Rattle.std.proofs.Common.{◌≡◌, ◌++◌, map}
 use Rattle.qh_model.specs.contract.Halves.{halves}
 use Rattle.qh_model.specs.contract.ClosedPolygons.{steps_round}

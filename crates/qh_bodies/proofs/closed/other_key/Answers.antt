@@ -1,4 +1,4 @@
--- The lower key at the first difference, or the next of the longer list.
+-- The lower key at the first difference, or the next key of the longer list.
 use Rattle.std.proofs.Common.{◌≡◌, ◌<◌, ◌≤◌, ◌∙◌, arith, eqb, length, subst, sym, take}
 use Rattle.std.proofs.lemmas.List.{get_or_default}
 use Rattle.qh_model.proofs.closed_surfaces.Sums.{count, count-is}

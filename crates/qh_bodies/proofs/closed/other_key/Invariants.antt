@@ -1,4 +1,4 @@
--- The lists are the same so far.
+-- The lists agree so far.
 use Rattle.std.proofs.Common.{◌≡◌, take}
 use Rattle.qh_bodies.proofs.closed.other_key.Given as goal
 

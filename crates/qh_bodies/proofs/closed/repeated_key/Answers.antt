@@ -1,4 +1,4 @@
--- Two side by side are the same, or none.
+-- Two neighbours are the same, or no two are.
 use Rattle.std.proofs.Common.{◌≤◌, ◌<◌, ◌∙◌, ◌-◌, arith, eqb, eqb-true, length, subst, sym}
 use Rattle.std.proofs.lemmas.List.{get_or_default}
 use Rattle.qh_model.proofs.closed_surfaces.Sums.{count, count-is}

@@ -1,4 +1,4 @@
--- No two of the keys so far are the same side by side.
+-- No two neighbours among the keys so far are the same.
 use Rattle.std.proofs.Common.{ℕ, ◌≡◌, ◌≢◌, ◌+◌, ◌<◌, get_or}
 use Rattle.qh_bodies.proofs.closed.repeated_key.Given as goal
 

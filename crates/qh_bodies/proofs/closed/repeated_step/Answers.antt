@@ -1,4 +1,4 @@
--- The sorted keys of the steps to a higher id tell.
+-- The sorted keys of the steps to a higher id decide.
 use Rattle.std.proofs.lemmas.List.Sorted.{IsNonDecreasingBy-from_sort}
 use Rattle.qh_bodies.proofs.Steps.{once_by_keys, twice_by_key}
 use Rattle.qh_bodies.proofs.closed.repeated_step.Goals as goal

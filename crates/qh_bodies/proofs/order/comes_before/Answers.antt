@@ -1,4 +1,4 @@
--- The first difference tells, or the lengths.
+-- The first difference decides, or the lengths.
 use Rattle.std.proofs.Common.{◌≡◌, ◌≢◌, ℕ, ◌<◌, ◌∙◌, arith, get_or, length, min, sym, Bool, true, false, eqb, eq-eqb}
 use Rattle.std.specs.Prelude.{not}
 use Rattle.std.proofs.lemmas.Bool.Decides.{nat_tests}

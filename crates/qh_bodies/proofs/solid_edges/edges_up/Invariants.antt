@@ -1,4 +1,4 @@
--- What is counted, and the steps up that are left on the way.
+-- The number counted so far, and the steps up on the rest of the path.
 use Rattle.std.proofs.Common.{◌≡◌, ◌+◌, ◌≤◌, drop, length}
 use Rattle.qh_bodies.specs.contract.SolidEdges.{ups_along}
 use Rattle.qh_bodies.proofs.solid_edges.edges_up.Given as goal

@@ -1,4 +1,4 @@
--- One polygon more is marked.
+-- One more polygon is marked.
 use Rattle.std.proofs.Common.{◌<◌, ◌∙◌, ℕ, List, ap, length, subst, sym, take_all}
 use Rattle.std.specs.List.{All}
 use Rattle.qh_polygon.proofs.MarkedLists.{lists_marked, lists_room}

@@ -1,4 +1,4 @@
--- The bound grows with one polygon more.
+-- The bound grows with one more polygon.
 use Rattle.std.proofs.Common.{◌<◌, ℕ, List, arith, subst, take_all}
 use Rattle.std.proofs.lemmas.Grind.{common_steps}
 use Rattle.std.specs.List.{All}

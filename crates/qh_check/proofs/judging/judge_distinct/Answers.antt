@@ -1,4 +1,4 @@
--- The distinct ids are ids of distinct points, and of these the verdict on the polygons is so.
+-- The distinct ids are ids of distinct points, so the verdict on the polygons is true.
 use Rattle.qh_model.proofs.DistinctIds.{ids_within, some_id}
 use Rattle.qh_check.proofs.{ImageVerdicts.named_corners, Judgements.told}
 use Rattle.qh_check.proofs.judging.judge_distinct.Goals as goal

@@ -1,4 +1,4 @@
--- Each face is of indices of points.
+-- Each face consists of indices of points.
 use Rattle.std.proofs.Common.{arith}
 use Rattle.qh_check.proofs.OwnIndices.{own_faces}
 use Rattle.qh_check.proofs.own_indices.are_own.Goals as goal

@@ -1,4 +1,4 @@
--- One member more is met, before the one that was looked at before it.
+-- One more member is met, before the member that was tested previously.
 use Rattle.std.proofs.Common.{ℕ, ◌≡◌, ◌∙◌, ◌+◌, ◌-◌, ◌<◌, ◌≤◌, arith, drop, get_or, length, subst, sym}
 use Rattle.std.proofs.lemmas.List.{get_or_default}
 use Rattle.qh_check.specs.contract.Pieces.{IsMetAlong}

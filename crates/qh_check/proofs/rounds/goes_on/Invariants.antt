@@ -1,4 +1,4 @@
--- What was looked at is met from the place of its first on.
+-- The tested members are met from the position of their first.
 use Rattle.std.proofs.Common.{◌+◌, ◌-◌, ◌≤◌, drop, length}
 use Rattle.qh_check.specs.contract.Pieces.{IsMetAlong}
 use Rattle.qh_check.specs.steps.Rounds.{way_behind}

@@ -1,4 +1,4 @@
--- All are met, on the one way and on the other.
+-- All members are met, before the end and after it.
 use Rattle.std.proofs.Common.{◌≡◌, ◌+◌, ◌-◌, arith, drop, eq-eqb, eqb-true, length, take}
 use Rattle.std.proofs.lemmas.List.{length-drop, take_all}
 use Rattle.qh_check.proofs.MetLists.{met_both}

@@ -1,4 +1,4 @@
--- The list is met from no position so far.
+-- The list is met from none of the positions so far.
 use Rattle.std.proofs.Common.{ℕ, ◌<◌}
 use Rattle.qh_check.specs.contract.Pieces.{IsMetFrom}
 use Rattle.qh_check.proofs.rounds.is_met_round.Given as goal

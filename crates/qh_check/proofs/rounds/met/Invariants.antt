@@ -1,4 +1,4 @@
--- What is left of the list is met along what is left of the ids, where the list is met along all.
+-- The rest of the list is met along the rest of the ids exactly if the list is met along all.
 use Rattle.std.proofs.Common.{ℕ, ◌≤◌, ◌++◌, List, drop, length}
 use Rattle.std.specs.Prelude.{◌↔◌}
 use Rattle.qh_check.specs.contract.Pieces.{IsMetAlong}

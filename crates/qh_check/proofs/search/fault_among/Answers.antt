@@ -1,4 +1,4 @@
--- One more polygon is seen to be a piece, or has a fault.
+-- One more polygon is found to be a piece, or has a fault.
 use Rattle.std.proofs.Common.{ℕ, [], arith, below_more, get_or, subst, List}
 use Rattle.std.proofs.lemmas.List.{get_or_default}
 use Rattle.std.specs.Prelude.{Option, MatchOption}

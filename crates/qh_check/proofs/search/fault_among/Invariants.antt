@@ -1,4 +1,4 @@
--- The polygons so far are seen to be pieces.
+-- The polygons so far are found to be pieces.
 use Rattle.std.proofs.Common.{ℕ, ◌<◌, [], get_or}
 use Rattle.qh_check.specs.steps.Findings.{IsSeen}
 use Rattle.qh_check.proofs.search.fault_among.Given as goal

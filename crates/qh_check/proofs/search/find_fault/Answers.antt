@@ -1,4 +1,4 @@
--- What is seen among the faces of the hull, or by its plane, is a piece of a face of the set.
+-- A polygon that is found among the faces of the hull, or shown by its plane, is a piece of a face of the set.
 use Rattle.std.proofs.Common.{◌≡◌}
 use Rattle.std.proofs.lemmas.Result.{IfOk-weaker}
 use Rattle.qh_check.proofs.HullPieces.{faces_of_body, seen_pieces}

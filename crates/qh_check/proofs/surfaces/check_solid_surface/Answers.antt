@@ -1,4 +1,4 @@
--- What is found, or the steps tell.
+-- A fault that was found gives the verdict, or the steps do.
 use Rattle.std.proofs.lemmas.Result.{IfOk-weaker}
 use Rattle.qh_check.proofs.SurfaceVerdicts.{is_no_piece}
 use Rattle.qh_check.proofs.surfaces.check_solid_surface.Goals as goal

@@ -1,4 +1,4 @@
--- A solid set has its own way.
+-- Solid sets and other sets are checked separately.
 use Rattle.std.proofs.lemmas.Result.{IfOk-weaker}
 use Rattle.qh_model.proofs.extremes.Dimensions.{one_dimension}
 use Rattle.qh_polygon.proofs.ShapeIds.{solid_only}

@@ -1,4 +1,4 @@
--- An open step, one taken twice, or all is right.
+-- There is an open step, or a step that is taken twice, or no fault.
 use Rattle.qh_check.proofs.SurfaceVerdicts.{is_open, is_twice, is_right}
 use Rattle.qh_check.proofs.surfaces.judge_steps.Goals as goal
 

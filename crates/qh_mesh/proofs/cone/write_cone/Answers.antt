@@ -1,4 +1,4 @@
--- One facet of the cone more is written.
+-- One more facet of the cone is written.
 use Rattle.qh_mesh.proofs.cone.write_cone.Goals as goal
 use Rattle.std.proofs.{Common.◌+◌, Common.◌++◌, Common.ap, Common.drop, Common.slice_index, lemmas.List.drop_more, lemmas.List.get_or_read}
 use Rattle.qh_model.specs.contract.StoredSurface.{StoredFacet, no_facet}

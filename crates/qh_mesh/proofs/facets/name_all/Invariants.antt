@@ -1,4 +1,4 @@
--- The facets so far have their names, the others are as they were.
+-- The facets so far have their names, the others are unchanged.
 use Rattle.std.proofs.Common.{◌≡◌, ◌++◌, map, take, drop}
 use Rattle.qh_model.specs.contract.StoredSurface.{named_facet}
 use Rattle.qh_mesh.specs.contract.Names.{name_in}

@@ -1,4 +1,4 @@
--- The open sides of the facets so far are gathered.
+-- The open sides of the facets so far are collected.
 use Rattle.std.proofs.Common.{take, ◌≡◌, ◌≤◌, ◌*◌}
 use Rattle.std.specs.Prelude.{vec_len, vec_capacity}
 use Rattle.qh_mesh.specs.steps.Horizons.{open_sides}

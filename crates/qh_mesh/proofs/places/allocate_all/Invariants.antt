@@ -1,4 +1,4 @@
--- The places chosen so far and those that are free are a pool.
+-- The places chosen so far and the free ones are a pool.
 use Rattle.std.proofs.Common.{ℕ, ◌++◌, reverse, ◌≡◌, ◌+◌, ◌<◌, ◌≤◌}
 use Rattle.std.specs.Prelude.{vec_len, vec_capacity}
 use Rattle.qh_model.specs.contract.StoredSurface.{facet_at}

@@ -1,4 +1,4 @@
--- One facet more is gone, and its place is free.
+-- One more facet is removed, and its place is free.
 use Rattle.std.proofs.Common.{slice_index, ◌≡◌, ℕ, ◌<◌, ◌∙◌, ◌∷◌, [], reverse, arith, ap}
 use Rattle.std.proofs.lemmas.List.{get_or_read, reverse-append}
 use Rattle.qh_model.specs.contract.StoredSurface.{facet_at, no_facet}

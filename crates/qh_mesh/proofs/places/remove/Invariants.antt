@@ -1,4 +1,4 @@
--- The facets so far are gone, and their places are free.
+-- The facets so far are removed, and their places are free.
 use Rattle.std.proofs.Common.{◌≡◌, ◌+◌, reverse}
 use Rattle.std.specs.Prelude.{vec_len, vec_capacity}
 use Rattle.qh_mesh.specs.steps.Places.{Removed, IsPool}

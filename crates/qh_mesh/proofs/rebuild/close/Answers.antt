@@ -1,4 +1,4 @@
--- Twins and facets that are written make the cone.
+-- The written twins and facets form the cone.
 use Rattle.std.proofs.Common.{◌++◌, ap}
 use Rattle.qh_mesh.specs.steps.Kept.{is_live}
 use Rattle.qh_mesh.proofs.Pools.{pool_same}

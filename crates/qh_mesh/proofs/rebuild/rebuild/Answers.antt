@@ -1,4 +1,4 @@
--- What the steps before leave is what the last ones need, and together they are a replacement.
+-- The first steps establish the precondition of the last ones, and together they are a replacement.
 use Rattle.qh_mesh.proofs.rebuild.rebuild.Goals as goal
 use Rattle.std.proofs.{Common.arith, lemmas.List.with_items_is}
 use Rattle.qh_mesh.specs.steps.Rebuilt.{IsConed}

@@ -1,4 +1,4 @@
--- How many sides so far meet at the corner.
+-- The number of sides so far that meet at the corner.
 use Rattle.std.proofs.Common.{◌≡◌, ◌+◌}
 use Rattle.qh_mesh.specs.steps.Horizons.{other, rank}
 use Rattle.qh_mesh.proofs.slots.find_mate.Given as goal

@@ -1,4 +1,4 @@
--- How many sides so far end, or start, at the corner.
+-- The number of sides so far that end, or start, at the corner.
 use Rattle.std.proofs.Common.{◌≡◌, ◌≤◌}
 use Rattle.qh_mesh.specs.steps.Horizons.{rank}
 use Rattle.qh_mesh.proofs.slots.rank.Given as goal

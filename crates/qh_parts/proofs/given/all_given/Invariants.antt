@@ -1,4 +1,4 @@
--- The faces so far are contributed, and so are those in the answers that are left.
+-- The faces so far are contributed, and so are those in the remaining answers.
 use Rattle.std.proofs.Common.{All, length}
 use Rattle.std.specs.Prelude.{IfOk, IfSome}
 use Rattle.qh_parts.specs.steps.Given.{AreGivenOf, IsContribution}

@@ -1,4 +1,4 @@
--- Nothing is known of outlines; each turn takes one.
+-- No property of outlines is needed; each turn takes one.
 use Rattle.std.proofs.Common.{length}
 use Rattle.qh_parts.proofs.given.outlines_in_threads.Given as goal
 

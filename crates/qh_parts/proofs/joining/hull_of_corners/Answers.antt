@@ -1,4 +1,4 @@
--- The hull of what is kept of a set is its hull.
+-- The hull of the kept ids of a set is its hull.
 use Rattle.std.proofs.lemmas.{Option.IfSome_then, Result.IfOk-weaker}
 use Rattle.qh_model.proofs.hulls.ExtremeParts.{part_body}
 use Rattle.qh_parts.proofs.joining.hull_of_corners.Goals as goal

@@ -1,4 +1,4 @@
--- What the parts contribute is merged.
+-- The contributions of the parts are merged.
 use Rattle.qh_parts.proofs.JoinedParts.{given_in_any_order}
 use Rattle.qh_parts.proofs.joint.joint_of.Goals as goal
 

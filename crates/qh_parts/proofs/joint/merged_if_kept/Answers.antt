@@ -1,4 +1,4 @@
--- The corners of the parts are what is kept.
+-- The corners of the parts are the kept ids.
 use Rattle.qh_parts.proofs.joint.merged_if_kept.Goals as goal
 
 pub returns-clause-kept : goal.returns-clause-kept

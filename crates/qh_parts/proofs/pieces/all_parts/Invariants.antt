@@ -1,4 +1,4 @@
--- The parts so far are parts, and so are those in the answers that are left.
+-- The parts so far are parts, and so are those in the remaining answers.
 use Rattle.std.proofs.Common.{All, length}
 use Rattle.std.specs.Prelude.{IfOk, IfSome}
 use Rattle.qh_parts_join.specs.contract.Parts.{IsPartOf}

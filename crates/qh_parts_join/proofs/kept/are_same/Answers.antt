@@ -1,4 +1,4 @@
--- The test of lists tells.
+-- The test of lists decides equality.
 use Rattle.std.proofs.Common.{◌∙◌, sym}
 use Rattle.std.specs.Cmp.Lexicographic.{same_text}
 use Rattle.qh_parts_join.proofs.kept.are_same.Goals as goal

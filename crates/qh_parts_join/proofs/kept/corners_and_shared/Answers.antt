@@ -1,4 +1,4 @@
--- The sorted corners and shared ids are these.
+-- Sorting keeps the corners and shared ids.
 use Rattle.std.proofs.Common.{◌∙◌}
 use Rattle.std.proofs.lemmas.Result.{IfOk-weaker}
 use Rattle.qh_model.proofs.lists.Joined.{in_append, of_append}

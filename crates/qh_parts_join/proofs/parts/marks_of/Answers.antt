@@ -1,4 +1,4 @@
--- Each id is marked in its turn.
+-- One more id is marked.
 use Rattle.std.proofs.Common.{◌≡◌, true, arith}
 use Rattle.qh_surface.specs.contract.Walks.{mark_at}
 use Rattle.qh_places.proofs.Listed.{each_listed}

@@ -1,4 +1,4 @@
--- One more id is left, or is one of the others.
+-- One more id is kept, or is one of the others.
 use Rattle.std.proofs.Common.{◌<◌, inl, inr, length, arith, ◌∙◌, ap, ◌⊎◌}
 use Rattle.qh_model.specs.headline.Sets.{In}
 use Rattle.std.proofs.lemmas.Grind.{get_or_default_zero}

@@ -1,4 +1,4 @@
--- The first block that is below all planes tells.
+-- The first block that is below all planes decides.
 use Rattle.std.proofs.Common.{sym, subst}
 use Rattle.qh_places.specs.steps.Levels.{IsLevel}
 use Rattle.qh_places.proofs.levels.below_all.Goals as goal

@@ -1,4 +1,4 @@
--- What was found in a piece are the first ones of it.
+-- The results for a piece are its first points.
 use Rattle.std.proofs.Common.{◌≡◌, ◌∙◌, ◌+◌, ◌/◌, ◌%◌, length, get_or, min, arith, ap, sym, subst}
 use Rattle.std.proofs.lemmas.{Option.IfSome_then, Result.IfOk-weaker}
 use Rattle.qh_plane.specs.steps.FirstIds.{ArePieces}

@@ -1,4 +1,4 @@
--- All points before are seen.
+-- All points before are processed.
 use Rattle.qh_plane.specs.steps.FirstIds.{AreSeen}
 use Rattle.qh_plane.proofs.first_ids.distinct_in_slots.Given as goal
 

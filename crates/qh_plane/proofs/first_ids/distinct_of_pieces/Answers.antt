@@ -1,4 +1,4 @@
--- One piece more.
+-- One more piece.
 use Rattle.std.proofs.Common.{◌≡◌, ◌≤◌, ◌+◌, ◌*◌, length, arith, sym, subst, IfSome, Vec, ℕ, Global}
 use Rattle.std.specs.Option.{option_copied}
 use Rattle.qh_plane.specs.steps.{FirstIds.AreFirstIds, Pieces.end_of}

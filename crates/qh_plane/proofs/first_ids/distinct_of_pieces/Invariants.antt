@@ -1,4 +1,4 @@
--- All points of the pieces before are seen.
+-- All points of the pieces before are processed.
 use Rattle.std.proofs.Common.{◌≡◌}
 use Rattle.qh_plane.specs.steps.{FirstIds.AreSeen, Pieces.end_of}
 use Rattle.qh_plane.proofs.first_ids.distinct_of_pieces.Given as goal

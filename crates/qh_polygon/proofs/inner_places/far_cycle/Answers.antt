@@ -1,4 +1,4 @@
--- What is put onto the cycle is one of the ids.
+-- An id that is added to the cycle is one of the ids.
 use Rattle.qh_polygon.proofs.inner_places.far_cycle.Goals as goal
 use Rattle.std.proofs.Common.{◌∷◌, [], ⊎_elim, subst, sym}
 use Rattle.qh_model.proofs.{hulls.ExtremeParts.part_indices, lists.Joined.of_append}

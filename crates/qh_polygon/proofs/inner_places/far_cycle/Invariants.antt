@@ -1,4 +1,4 @@
--- The cycle so far goes over ids of the set.
+-- The cycle so far consists of ids of the set.
 use Rattle.std.proofs.Common.{ℕ}
 use Rattle.qh_model.specs.headline.Sets.{In}
 use Rattle.qh_polygon.proofs.inner_places.far_cycle.Given as goal

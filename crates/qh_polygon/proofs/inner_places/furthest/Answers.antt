@@ -1,4 +1,4 @@
--- What is found is one of the ids.
+-- The id found is one of the ids.
 use Rattle.std.proofs.Common.{arith}
 use Rattle.qh_model.proofs.Members.{In-get_or}
 use Rattle.qh_polygon.proofs.inner_places.furthest.Goals.{then-reach-most, else-reach-most}

@@ -1,4 +1,4 @@
--- What is kept is of the set, and passes a test that all extreme ids pass.
+-- The kept ids are in the set, and pass a test that all extreme ids pass.
 use Rattle.qh_polygon.proofs.inner_places.outer_ids.Goals as goal
 use Rattle.std.proofs.{Common.sym, Common.subst, lemmas.List.Kept.IsStrictlyIncreasing-filter}
 use Rattle.std.specs.List.Sorted.{IsStrictlyIncreasing}

@@ -1,4 +1,4 @@
--- The cycle over the two chains goes round the extremes, and is turned to its least.
+-- The cycle of the two chains goes round the extremes, and is rotated to its least id.
 use Rattle.qh_polygon.proofs.planar.corners.Goals as goal
 use Rattle.std.proofs.Common.{◌<◌, ◌≤◌, ℕ, length, get_or, sym, subst}
 use Rattle.qh_model.specs.headline.{Predicates.place, Sets.Members}

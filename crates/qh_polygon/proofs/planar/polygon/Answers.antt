@@ -1,4 +1,4 @@
--- The polygon of three or four ids by their turns, of more by their corners, of many without those inside.
+-- The polygon of three or four ids by their turns, of more ids by their corners, of many ids without those inside.
 use Rattle.qh_polygon.proofs.planar.polygon.Goals as goal
 use Rattle.std.proofs.Common.{ℕ}
 use Rattle.std.specs.List.Sorted.{IsStrictlyIncreasing}

@@ -1,4 +1,4 @@
--- What is found is an order of the four that turns left at each.
+-- The result is an order of the four that turns left at each.
 use Rattle.std.proofs.Common.{◌≡◌, ◌⊎◌, inl, inr, ℕ, [], ◌∷◌, refl, sym, ◌∙◌, arith}
 use Rattle.std.proofs.lemmas.Grind.{common_steps}
 use Rattle.std.specs.Prelude.{◌↔◌}
@@ -10,7 +10,7 @@ use Rattle.qh_polygon.proofs.planar.quadrilateral.Goals as goal
 abbrev IsPair : ℕ × ℕ → ℕ → ℕ → Type 0
 IsPair p j k = (p ≡ (j, k)) ⊎ (p ≡ (k, j))
 
--- the id beside them may stand anywhere
+-- the other id may be at any position
 module _ (p : ℕ × ℕ) (j k l : ℕ) (o : IsPair p j k) where
   last : (z : ℕ) → In z (j ∷ k ∷ l ∷ []) ↔ In z (p.0 ∷ p.1 ∷ l ∷ [])
   last z = elim o [ inl e ↦ rw e (λ m. m, λ m. m) | inr e ↦ rw e (λ m. grind (arith, common_steps, m), λ m. grind (arith, common_steps, m)) ]

@@ -3,7 +3,7 @@ use Rattle.std.proofs.{Common.◌≡◌, Common.rules, Common.FitsSigned, Common
 use Rattle.qh_model.specs.headline.{Predicates.cross, Predicates.vol, Vector.Vector, Vector.dot, Vector.minus}
 use mir.Syntax.{w128}
 
--- the volume is the normal's product with the way to the fourth point
+-- the volume is the scalar product of the normal and the vector to the fourth point
 vol_from : (a b c d n e : Vector) → n ≡ cross a b c → e ≡ minus d a → dot n e ≡ vol a b c d
 unfolding vol cross
 vol_from a b c d n e h k = rw (h, k) refl

@@ -4,7 +4,7 @@ use Rattle.std.specs.Io.KnownBytes.{Consumes}
 use Rattle.qh_read.proofs.SourceLemmas.{Consumes-append}
 use Rattle.qh_read.proofs.filling.fill.Goals as goal
 
--- what came before, and one piece
+-- the bytes read before, and one piece
 pub returns-then-taken-before-clause-stops : goal.returns-then-taken-before-clause-stops
 returns-then-taken-before-clause-stops g c =
     let at = c.loop-count.count in
@@ -30,7 +30,7 @@ returns-then-taken-before-clause-stops g c =
       no_text = λ t. t.2 refl;
     }
 
--- one piece more
+-- one more piece
 pub loop-count-preserved : goal.loop-count-preserved
 loop-count-preserved g c =
     let at = c.loop-count.count in

@@ -3,7 +3,7 @@ use Rattle.std.specs.Io.KnownBytes.{Consumes}
 use Rattle.qh_model.specs.declared.limits.TheConstants.{BYTE_LIMIT}
 use Rattle.qh_read.proofs.filling.fill.Given as goal
 
--- the bytes begin with what the source gave so far, and no read failed
+-- the buffer begins with the bytes read from the source so far, and no read failed
 abbrev pub invariant-loop-count : goal.invariant-loop-count
 invariant-loop-count g l = record {
   given : Consumes (g.S.Source.remaining l.fn.source) (g.S.Source.remaining l.source) (take l.count l.bytes);

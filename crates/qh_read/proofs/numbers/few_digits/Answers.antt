@@ -7,7 +7,7 @@ use Rattle.qh_read.specs.contract.Holding.{next_held}
 use Rattle.qh_read.specs.{contract.Progress.Progress, declared.token.TheConstants.MAGNITUDE_CAP, declared.token.Token.TheVariants.Digits, steps.Numbers.quiet}
 use Rattle.qh_read.proofs.{DigitLaws.greatest, DigitLaws.greatest-rises, CursorLaws.step}
 
--- one digit more, below the cap
+-- one more digit, below the cap
 digit_more : (form : Form) (p : Progress) (line : ℕ) (minus : Bool) (n d : ℕ) → is_ascii_digit d ≡ true
     → 10 * n + (d - 48) ≤ MAGNITUDE_CAP → next_held (quiet form p line (Digits minus n)) d ≡ quiet form p line (Digits minus (10 * n + (d - 48)))
 digit_more form p line minus n d h k = grind (arith, common_steps)

@@ -4,7 +4,7 @@ use Rattle.qh_model.specs.declared.form.Form.{Form}
 use Rattle.qh_read.specs.{contract.Holding.held_by, contract.Progress.Progress, declared.token.Token.TheVariants.Digits, steps.Numbers.quiet}
 use Rattle.qh_read.proofs.DigitLaws.{greatest}
 
--- the bytes so far are digits that make the magnitude
+-- the bytes so far are the digits of the magnitude
 abbrev pub invariant-loop-i : goal.invariant-loop-i
 invariant-loop-i l = record {
   continued : (form : Form) (p : Progress) (line : ℕ) (minus : Bool) → held_by (quiet form p line (Digits minus l.fn.first)) (drop l.fn.at l.bytes)

@@ -1,4 +1,4 @@
--- The bytes so far are a gap, and a line ends at one of them for each line more.
+-- The bytes so far are a gap, and a line ends at one of them for each further line.
 use Rattle.std.proofs.Common.{◌≡◌, ◌≤◌, ◌+◌, false, drop}
 use Rattle.std.specs.Prelude.{None}
 use Rattle.qh_read.specs.steps.Arriving.{arriving}

@@ -1,4 +1,4 @@
--- The bytes so far are of the word.
+-- The bytes so far belong to the word.
 use Rattle.qh_read.proofs.numerals.after_word.Given as goal
 use Rattle.std.proofs.Common.{ℕ, ◌≡◌, false, drop}
 use Rattle.std.specs.Prelude.{Some}

@@ -3,7 +3,7 @@ use Rattle.std.proofs.{Common.arith, Common.sym, Common.subst, Common.[], lemmas
 use Rattle.std.specs.Prelude.{All}
 use Rattle.qh_read.specs.{declared.segment.Segment.Segment, steps.Segments.IsSegment}
 
--- one segment of no bytes more
+-- one more segment of no bytes
 pub loop-preserved : goal.loop-preserved
 loop-preserved c = record {
   so_far = omega (arith, c.push_reserved.ensures.len, c.loop.invariant.so_far);

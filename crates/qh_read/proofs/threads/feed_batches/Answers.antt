@@ -17,7 +17,7 @@ returns-in_err-at_end-2-clause-stops g c =
     let p = err_from_is_err_and c.from_residual-in_err-at_end-2.result c.from_residual-in_err-at_end-2.ensures.1 in
     rw p.1 (Stops-equal _ _ _ _ _ _ _ p.2 (Stops-after _ _ _ _ _ _ _ _ all _ s.took c.loop-at_end.invariant.steady count c.in_err-at_end-2.ensures.stops))
 
--- one batch was fed, and one more read
+-- one batch was fed, and one more was read
 pub loop-at_end-preserved : goal.loop-at_end-preserved
 loop-at_end-preserved g c =
     let inv = c.loop-at_end.invariant in
@@ -48,7 +48,7 @@ loop-at_end-preserved g c =
       end = λ e. c.in_ok-at_end-2.ensures.end (ap Ok e);
     }
 
--- the two batches that were left
+-- the last two batches
 pub returns-clause-fed : goal.returns-clause-fed
 returns-clause-fed g c =
     let s = c.loop-at_end.invariant.so_far in

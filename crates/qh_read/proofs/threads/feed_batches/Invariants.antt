@@ -5,7 +5,7 @@ use Rattle.qh_read.specs.steps.Segments.{batch_text, IsGoneOver}
 use Rattle.qh_read.proofs.SourceLemmas.{FedBut}
 use Rattle.qh_read.proofs.threads.feed_batches.Given as goal
 
--- the source gave what the reader was fed, and then the two batches
+-- the bytes read from the source are those fed to the reader, followed by the two batches
 abbrev pub invariant-loop-at_end : goal.invariant-loop-at_end
 invariant-loop-at_end g l = record {
   so_far : FedBut l.fn.reader l.reader (batch_text l.done ++ batch_text l.raw) (g.S.Source.remaining l.fn.source) (g.S.Source.remaining l.source);

@@ -4,7 +4,7 @@ use Rattle.qh_read.specs.{contract.Holding.Reading, contract.Holding.Fed, headli
 use Rattle.qh_read.proofs.SourceLemmas.{AnswersSource-fed, AnswersSource-stopped, FedOn-append, Gives-all, Stops-after, Stops-equal}
 use Rattle.qh_read.proofs.threads.read_form_sizes.{Given.Over, Goals.then-not-branch+in_ok-feed_batches, Goals.else-not-branch}
 
--- the batches came after the start
+-- the batches were read after the start
 pub returns-in_err-feed_batches : goal.returns-in_err-feed_batches
 returns-in_err-feed_batches g c =
     let p = err_from_is_err_and c.from_residual-in_err-feed_batches.result c.from_residual-in_err-feed_batches.ensures.1 in

@@ -8,13 +8,13 @@ use Rattle.qh_read.specs.contract.{Holding.Fed, ReadFaults.read_fault, ReadFault
 use Rattle.qh_read.specs.{declared.fault.FeedFault.FeedFault, declared.whole.TheConstants.PIECE_LENGTH, steps.Sources.Stops}
 use Rattle.qh_read.proofs.SourceLemmas.{Consumes-append, Stops-equal}
 
--- each fault comes of one refusal alone
+-- each fault has one refusal
 same_refusal : (f h : FeedFault) → read_fault f ≡ read_fault h → f ≡ h
 same_refusal refusals.Big refusals.Big e = refl
 same_refusal refusals.Memory refusals.Memory e = refl
 same_refusal f h e = cc
 
--- and no fault of the device or the text of either
+-- no refusal is a fault of the device or the text
 no_device : (f : FeedFault) → read_fault f ≡ faults.Device → ⊥
 no_device refusals.Big h = cc
 no_device refusals.Memory h = cc
@@ -26,11 +26,11 @@ no_text refusals.Memory t = t.0 refl
 not_refused : (x : Unit {0}) (f : FeedFault) → Ok x ≡ Err f → ⊥
 not_refused x f h = cc
 
--- what is written back to a vector by a slice of its length
+-- the content written back to a vector by a slice of its length
 written : (n : ℕ) (new rest : List ℕ) → length new ≡ n → take n (new ++ rest) ≡ new
 written n new rest e = ap (λ (k : ℕ). take k (new ++ rest)) (sym e) ∙ take-append_seam new rest
 
--- one piece more
+-- one more piece
 pub loop-source-preserved : goal.loop-source-preserved
 loop-source-preserved g c =
     let s = c.loop-source.invariant.so_far in
@@ -56,7 +56,7 @@ loop-source-preserved g c =
       ];
     }
 
--- the piece that was refused was no longer than the buffer; one that was refused memory did not pass the limit
+-- the refused piece was no longer than the buffer; if an allocation failed, the limit was not exceeded
 pub returns-in_err-feed-clause-stops : goal.returns-in_err-feed-clause-stops
 returns-in_err-feed-clause-stops g c =
     let s = c.loop-source.invariant.so_far in

@@ -3,7 +3,7 @@ use Rattle.std.proofs.Common.{◌≡◌, ◌≤◌, ◌-◌, vec_len}
 use Rattle.qh_model.specs.declared.limits.TheConstants.{BYTE_LIMIT}
 use Rattle.qh_read.specs.{declared.whole.TheConstants.PIECE_LENGTH, steps.Sources.FedOn}
 
--- the reader was fed all that the source gave so far, and no read failed
+-- the reader was fed all bytes read from the source so far, and no read failed
 abbrev pub invariant-loop-source : goal.invariant-loop-source
 invariant-loop-source g l = record {
   so_far : FedOn l.fn.reader l.reader (g.S.Source.remaining l.fn.source) (g.S.Source.remaining l.source);

@@ -4,7 +4,7 @@ use Rattle.qh_model.specs.declared.form.Form.{Form}
 use Rattle.qh_read.specs.contract.Holding.{Reading, Fed}
 use Rattle.qh_read.proofs.whole.read_form.Given as goal
 
--- the bytes fed, and then what is left, are all bytes
+-- the bytes fed, followed by the remaining bytes, are all bytes
 pub record FedSoFar (form : Form) (reader : Reading) (left bytes : List ℕ) : Type 0 where
   pub done : List ℕ
   pub fed : Fed form reader done

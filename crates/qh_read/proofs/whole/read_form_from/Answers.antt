@@ -3,12 +3,12 @@ use Rattle.std.proofs.Common.{◌≡◌, arith, refl, ap, Bool, true, false, Ok}
 use Rattle.std.specs.Io.KnownBytes.{IsAtEnd}
 use Rattle.qh_read.proofs.SourceLemmas.{AnswersSource-fed, Gives-all}
 
--- either of two, of which one cannot be
+-- one of two cases, the other of which is impossible
 one_of : {X : Type 0} (b : Bool) → (b ≡ true → X) → (b ≡ false → ⊥) → X
 one_of true f h = f refl
 one_of false f h = absurd (h refl)
 
--- the reader never has more bytes than the limit, so the end came, and all that the source gave was fed
+-- the reader never has more bytes than the limit, so the end was reached, and all bytes read from the source were fed
 pub returns : goal.returns
 returns g c =
     let ok = c.in_ok-feed_from in

@@ -1,4 +1,4 @@
--- What the filter leaves stands for the set's ids, and is no longer.
+-- The ids that remain after the filter have the hull of the set's ids, and are no more.
 use Rattle.std.proofs.Common.{◌≤◌, length, ap, subst, sym}
 use Rattle.qh_model.specs.contract.Cut.{positions}
 use Rattle.qh_model.specs.headline.Predicates.{place}

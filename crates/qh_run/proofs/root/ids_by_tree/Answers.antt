@@ -1,4 +1,4 @@
--- What stands for a part that stands for the set's ids stands for these.
+-- If a part has the hull of the set's ids, ids with the hull of the part have that of the set's ids.
 use Rattle.std.proofs.lemmas.Option.{IfSome_then}
 use Rattle.qh_model.proofs.hulls.ExtremeParts.{part_indices, part_set}
 use Rattle.qh_run.specs.steps.Parts.{StandsFor}

@@ -1,4 +1,4 @@
--- What comes out at the root stands for the set's ids.
+-- The value of the root has the hull of the set's ids.
 use Rattle.qh_run.proofs.Roots.{root_stands}
 use Rattle.qh_run.proofs.root.root_ids.Goals as goal
 

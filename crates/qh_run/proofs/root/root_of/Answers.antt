@@ -1,4 +1,4 @@
--- Where all passes left, all blocks are claimed.
+-- If all passes left, all blocks are claimed.
 use Rattle.std.proofs.Common.{sym, subst}
 use Rattle.std.specs.Prelude.{IsSome}
 use Rattle.qh_run.proofs.WorkedBoards.{all_claimed}

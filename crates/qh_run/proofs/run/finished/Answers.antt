@@ -1,4 +1,4 @@
--- The hull of ids that stand for all ids is that of all ids.
+-- The hull of the ids that the tree or the filter returns is that of all ids.
 use Rattle.std.proofs.Common.{sym, subst}
 use Rattle.std.proofs.lemmas.Result.{IfOk-weaker}
 use Rattle.qh_model.specs.contract.IdSets.{AreIndices}

@@ -1,7 +1,7 @@
 use Rattle.qh_run.specs.steps.Turns.{IsAnswerOf, SinceClaim, answered, answered_node}
 use Rattle.qh_run.proofs.worker.climb.Given as goal
 
--- the answer is still this pass's
+-- the result still belongs to this pass
 abbrev pub invariant-up : goal.invariant-up
 invariant-up g l = IsAnswerOf g.S.Spans.right l.board l.answer × SinceClaim (answered l.initial.answer) (answered l.answer)
 

@@ -1,4 +1,4 @@
--- The numbers are those of the hull that the points have.
+-- The numbers are those of the hull of the points.
 use Rattle.std.proofs.Common.{◌≤◌, length, refl, arith, subst, sym}
 use Rattle.std.proofs.lemmas.Result.{IfOk-weaker}
 use Rattle.qh_model.specs.headline.Dimension.{IsDimension}

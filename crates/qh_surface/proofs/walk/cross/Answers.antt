@@ -9,7 +9,7 @@ use Rattle.qh_surface.proofs.walk.cross.Given.{Over}
 use Rattle.qh_surface.proofs.walk.cross.Goals as goal
 use Rattle.qh_surface.proofs.walk.cross.Goals.{After-push_reserved}
 
--- whether it is entered or not, the neighbour is marked if it passes
+-- the neighbour is marked if it passes, whether it is entered or not
 module _ (g : Over) (c : After-push_reserved g) where
   abbrev P : ℕ → Type 0
   P = g.T.FacetPredicate.Passes c.args.test.now c.args.mesh.now

@@ -1,4 +1,4 @@
--- What a walk keeps while it goes on.
+-- The invariant of a walk.
 use Rattle.std.proofs.Common.{slice_index, ◌≡◌, ◌-◌, ◌<◌, ◌≤◌, [], length}
 use Rattle.qh_surface.specs.contract.Walks.{IsWalk, AreCrossed, IsFurther}
 use Rattle.qh_surface.proofs.walk.walk.Given as goal

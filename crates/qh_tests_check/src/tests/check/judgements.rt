@@ -1,10 +1,10 @@
-//! Worked rows: faces of a tetrahedron, and what is told of them.
+//! Worked rows: faces of a tetrahedron, and the judgements on them.
 use qh_check::{Judgement, SurfaceVerdict, judge_faces, judge_faces_alone};
 use qh_fixtures::faces::polygons_of;
 use qh_model::Point;
 use std::test::Fail;
 
-/// Returns the corners of a tetrahedron, one of them once more.
+/// Returns the corners of a tetrahedron, one of them twice.
 fn corners() -> [Point; 5] {
     [
         Point::new(0, 0, 0),
@@ -15,7 +15,7 @@ fn corners() -> [Point; 5] {
     ]
 }
 
-/// Its faces, one of its corners named by both of its indices.
+/// The faces of the tetrahedron, one of whose corners is named by both of its indices.
 const FACES: [&[u32]; 4] = [&[0, 2, 4], &[0, 1, 3], &[0, 3, 2], &[4, 2, 3]];
 
 #[test]

@@ -1,4 +1,4 @@
-//! Worked rows: surfaces of an octahedron with points inside, and of a cube, whose triangles lie in planes by twos.
+//! Worked rows: surfaces of an octahedron with points inside, and of a cube, whose triangles lie in planes in pairs.
 use super::EIGHT;
 use super::surfaces::TRIANGLES;
 use qh_check::convex::is_sharp_surface;
@@ -9,7 +9,7 @@ use qh_model::{Memory, Point};
 use std::alloc::Global;
 use std::test::Fail;
 
-/// The faces of the octahedron, in some order, from some corner each.
+/// The faces of the octahedron, in any order, each from any corner.
 const FACES: [&[u32]; 8] = [
     &[0, 1, 2],
     &[1, 3, 2],
@@ -21,7 +21,7 @@ const FACES: [&[u32]; 8] = [
     &[0, 4, 5],
 ];
 
-/// Returns the corners of an octahedron, its middle, and a point under a face.
+/// Returns the corners of an octahedron, its middle, and a point below a face.
 fn octahedron() -> [Point; 8] {
     [
         Point::new(9, 0, 0),
@@ -35,7 +35,7 @@ fn octahedron() -> [Point; 8] {
     ]
 }
 
-/// Returns true if faces of eight points are seen to be a surface with an angle at each edge.
+/// Returns true if faces of eight points are verified to be a surface with an angle at each edge.
 fn is_sharp(alloc: Global, pts: &[Point; 8], faces: &[&[u32]]) -> Result<bool, Memory> {
     let ids = ids_of(alloc, pts, &EIGHT)?;
     is_sharp_surface(alloc, pts, &ids, &polygons_of(alloc, faces)?)

@@ -1,4 +1,4 @@
-//! Worked rows: surfaces of a cube in pieces, and what is wrong with others.
+//! Worked rows: surfaces of a cube in pieces, and the faults of others.
 use super::EIGHT;
 use qh_check::{Claim, FaceFault, SurfaceVerdict, check_surface};
 use qh_fixtures::faces::{CUBE_FACES, polygons_of};
@@ -9,7 +9,7 @@ use std::alloc::Global;
 use std::process::Abort;
 use std::test::Fail;
 
-/// The twelve triangles of a cube, as Qhull writes them, turned round.
+/// The twelve triangles of a cube, as Qhull writes them, in reverse orientation.
 pub const TRIANGLES: [&[u32]; 12] = [
     &[0, 2, 6],
     &[0, 6, 4],
@@ -25,7 +25,7 @@ pub const TRIANGLES: [&[u32]; 12] = [
     &[7, 3, 5],
 ];
 
-/// The faces of a cube in some order, from some corner each.
+/// The faces of a cube in any order, each from any corner.
 const TURNED_FACES: [&[u32]; 6] = [
     &[6, 7, 5, 4],
     &[3, 2, 0, 1],
@@ -41,15 +41,15 @@ const INWARD: [&[u32]; 1] = [&[0, 6, 2]];
 /// Two corners of a cube.
 const EDGE: [&[u32]; 1] = [&[0, 1]];
 
-/// A face of a cube that goes back to one of its corners.
+/// A face of a cube that returns to one of its corners.
 const BACK_TO_A_CORNER: [&[u32]; 1] = [&[0, 1, 3, 2, 1]];
 
-/// Returns the id that stands in a row for any id that a verdict names.
+/// Returns the id that represents, in a row, any id that a verdict names.
 fn any() -> Id {
     Id::new(0)
 }
 
-/// Returns a verdict with `any` for each id that it names.
+/// Returns a verdict with each id that it names replaced by `any`.
 fn unnamed(verdict: SurfaceVerdict) -> SurfaceVerdict {
     match verdict {
         SurfaceVerdict::Open(_, _) => SurfaceVerdict::Open(any(), any()),
@@ -110,7 +110,7 @@ fn surfaces_of_a_cube(rt: HostRuntime) -> Result<(), Fail> {
     assert_verdict(&rt, &TURNED_FACES, SurfaceVerdict::Right)
 }
 
-/// Returns the verdict that the first polygon is no piece of a face, for this fault.
+/// Returns the verdict that the first polygon is not a piece of a face, with this fault.
 fn first_is_no_piece(fault: FaceFault) -> SurfaceVerdict {
     SurfaceVerdict::NoPiece(0, fault)
 }

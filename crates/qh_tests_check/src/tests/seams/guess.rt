@@ -1,4 +1,4 @@
-//! What is guessed of the cube.
+//! The guesses for the cube.
 use super::{ALL, halves_of};
 use qh_fixtures::faces::{CUBE_FACES, polygons_of};
 use qh_fixtures::ids::ids_of;
@@ -12,8 +12,8 @@ use qh_polygon::rising_ids;
 use std::alloc::{AllocError, Global};
 use std::test::Fail;
 
-/// What is found of the first part: how many of its facets stay, how many corners of the other have
-/// witnesses, how many corners are beside the gap, and whether the seam pays.
+/// The results for the first part: the number of its facets that stay, the number of corners of the other part with
+/// witnesses, the number of corners beside the gap, and true if the seam pays.
 #[derive(Clone, Copy, Debug, PartialEq, Eq, Drop)]
 struct Found {
     staying: usize,
@@ -22,7 +22,7 @@ struct Found {
     is_worth: bool,
 }
 
-/// Returns how many ids have witnesses.
+/// Returns the number of ids with witnesses.
 fn count(runs: &[Vec<Run>]) -> usize {
     let mut count = 0usize;
     for run in runs.iter().flatten() {
@@ -31,7 +31,7 @@ fn count(runs: &[Vec<Run>]) -> usize {
     count
 }
 
-/// Returns what is found of the first part of the cube.
+/// Returns the results for the first part of the cube.
 fn first_part(alloc: Global) -> Result<Option<Found>, Memory> {
     let pts = cube(0, 1);
     let Some(halves) = halves_of(alloc, &pts)? else {
@@ -65,7 +65,7 @@ fn the_square_of_the_first_part_stays(rt: HostRuntime) -> Result<(), Fail> {
     Ok(())
 }
 
-/// Returns the numbers round polygons, one after the other.
+/// Returns the numbers of the corners of polygons, one polygon after the other.
 fn numbers(alloc: Global, polygons: &[Polygon]) -> Result<Vec<u32>, AllocError> {
     let mut numbers = Vec::new(alloc);
     for polygon in polygons {
@@ -76,7 +76,8 @@ fn numbers(alloc: Global, polygons: &[Polygon]) -> Result<Vec<u32>, AllocError> 
     Ok(numbers)
 }
 
-/// Returns the numbers round the polygons that close the gap where some faces of the cube go, and others stay.
+/// Returns the numbers of the corners of the polygons that close the gap if some faces of the cube are removed, and
+/// others stay.
 fn bridged(alloc: Global, go: &[&[u32]]) -> Result<Option<Vec<u32>>, Memory> {
     let pts = cube(0, 1);
     let seam = ids_of(alloc, &pts, &ALL)?;
@@ -88,7 +89,7 @@ fn bridged(alloc: Global, go: &[&[u32]]) -> Result<Option<Vec<u32>>, Memory> {
     }
 }
 
-/// Returns true if the numbers round squares are just those of these squares, in any order.
+/// Returns true if the numbers of the corners of squares are exactly those of these squares, in any order.
 fn are_squares(found: &[u32], squares: &[&[u32]]) -> bool {
     for square in squares {
         let is_there = found.chunks(4).any(|part| part == *square);

@@ -1,4 +1,4 @@
-//! What is kept of the cube, and how its faces are joined.
+//! The ids that are kept of the cube, and the joining of its faces.
 ghost use Rattle.std.specs.Prelude.{◌<◌, length};
 ghost use Rattle.qh_mesh.specs.contract.Replacement.{IsLive};
 ghost use Rattle.qh_surface.specs.contract.NamedMeshes.{IsNamedMesh};
@@ -20,7 +20,7 @@ use std::alloc::{AllocError, Global};
 use std::test::Fail;
 use std::thread::Threads;
 
-/// Which facets are marked to stay.
+/// The facets that are marked to stay.
 #[derive(Clone, Copy, Drop)]
 enum Marking {
     AtZero,
@@ -51,7 +51,7 @@ fn sees(pts: &[Point], surface: &NamedMesh, f: FacetNo, id: Id) -> bool
     ) > 0
 }
 
-/// Marks by which the facets in the plane x = 0 stay.
+/// Returns marks with which the facets in the plane x = 0 stay.
 fn marks_of(alloc: Global, pts: &[Point], surface: &NamedMesh) -> Result<Vec<bool>, AllocError>
     requires { IsNamedMesh pts.now surface.now }
 {
@@ -64,7 +64,7 @@ fn marks_of(alloc: Global, pts: &[Point], surface: &NamedMesh) -> Result<Vec<boo
     Ok(marks)
 }
 
-/// Returns the first facet that sees the point of an id, or the facet of number 0.
+/// Returns the first facet that sees the point of an id, or facet 0.
 fn witness_of(pts: &[Point], surface: &NamedMesh, id: Id) -> Run
     requires named { IsNamedMesh pts.now surface.now }
     requires id { id < length pts.now }
@@ -81,7 +81,7 @@ fn witness_of(pts: &[Point], surface: &NamedMesh, id: Id) -> Run
     }
 }
 
-/// Returns a witness for each id of a part, by the mesh of another.
+/// Returns a witness for each id of a part, in the mesh of another part.
 fn runs_of(
     alloc: Global,
     pts: &[Point],
@@ -99,8 +99,8 @@ fn runs_of(
     Ok(runs)
 }
 
-/// Returns the faces of the first part, those that it contributes apart, where the facets in the plane x = 0 are
-/// marked, or all are.
+/// Returns the faces of the first part, separated into those that it contributes and the others, if the facets in the
+/// plane x = 0 are marked, or if all are.
 fn first_faces(alloc: Global, marking: Marking) -> Result<Option<PartedFaces>, Memory> {
     let pts = cube(0, 1);
     let Some(halves) = halves_of(alloc, &pts)? else {
@@ -167,8 +167,8 @@ fn all_corners_of_the_cube_are_kept(rt: HostRuntime) -> Result<(), Fail> {
     Ok(())
 }
 
-/// Returns the hull of the cube from faces that its parts contribute and other polygons in place of those that are
-/// gone; `None` if these do not make it.
+/// Returns the hull of the cube from faces that its parts contribute and other polygons in place of the removed ones;
+/// `None` if these do not form the hull.
 fn cube_with<R: Threads>(
     rt: &R,
     alloc: Global,

@@ -1,5 +1,5 @@
-//! The order of the faces of a solid: a cuboctahedron, round each corner of which triangles and squares take turns.
-//! Some of its triangles have ids below 2^21 alone, others do not.
+//! The order of the faces of a solid: a cuboctahedron, around each corner of which triangles and squares alternate.
+//! Some of its triangles have only ids below 2^21, others do not.
 use super::{Row, is};
 use qh_block::hull;
 use qh_fixtures::ids::ids_of;
@@ -48,7 +48,7 @@ const CUBOCTAHEDRON: Row<'static> = Row {
     edges: 24,
 };
 
-/// Returns the points up to the last corner: where no corner is, the centre.
+/// Returns the points up to the last corner: where there is no corner, the centre.
 fn points(alloc: Global) -> Result<Vec<Point>, AllocError> {
     let mut pts = vec![in alloc; Point::new(0, 0, 0); 2097155]?;
     for (number, corner) in CUBOCTAHEDRON.extremes.iter().zip(&corners()) {

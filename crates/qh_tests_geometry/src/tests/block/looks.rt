@@ -25,8 +25,8 @@ fn many(alloc: Global) -> Result<Vec<Point>, AllocError> {
     Ok(points)
 }
 
-/// Returns the ids that the filter leaves of a list of points, by a number of threads, and those that are
-/// extreme.
+/// Returns the ids that the filter leaves of a list of points, with a number of threads, and the extreme ones among
+/// them.
 fn left_of<R: Threads + Sync>(
     rt: &R,
     alloc: Global,
@@ -45,7 +45,7 @@ fn left_of<R: Threads + Sync>(
     Ok((left, extremes))
 }
 
-/// Returns true if the filter finds nothing in few points, of which eight are extreme.
+/// Returns true if the filter finds no interior point in few points, of which eight are extreme.
 fn leaves_few<R: Threads + Sync>(rt: &R, alloc: Global) -> Result<bool, Memory> {
     let points = few(alloc)?;
     let (left, extremes) = left_of(rt, alloc, &points, 4)?;
@@ -59,8 +59,8 @@ fn few_points(rt: HostRuntime) -> Result<(), Fail> {
     Ok(())
 }
 
-/// Returns true if the filter leaves less than half of many points, of which eight are extreme, and the same by three
-/// threads and by one.
+/// Returns true if the filter leaves less than half of many points, of which eight are extreme, and the same with three
+/// threads and with one.
 fn leaves_less_than_half<R: Threads + Sync>(rt: &R, alloc: Global) -> Result<bool, Memory> {
     let points = many(alloc)?;
     let (left, extremes) = left_of(rt, alloc, &points, 3)?;

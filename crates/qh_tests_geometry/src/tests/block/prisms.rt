@@ -1,6 +1,6 @@
-//! A prism over a polygon of many sides: each of its ends has a facet for each side when it is begun. A run that gave all
-//! points to the first facet that sees them would make a cone over all sides again and again, two thousand million
-//! facets, which takes longer than a test may; a search spreads the points over the facets.
+//! A prism over a polygon with many sides: in the beginning, each of its ends has a facet for each side. A run that
+//! gave all points to the first facet that sees them would repeatedly make a cone over all sides, two thousand million
+//! facets in total, which takes longer than a test may. A search distributes the points over the facets.
 use super::surfaces::{solid_surface, triangles};
 use qh_fixtures::points::point;
 use qh_model::Point;

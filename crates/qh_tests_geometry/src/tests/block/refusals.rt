@@ -1,5 +1,5 @@
-//! Calls of which one growth is refused: what they answer is right, or memory was wanted and the same
-//! call gives it. `scripts/trials/refusals.py` refuses each growth in turn.
+//! Calls during which one allocation fails: the result is right, or the call is out of memory and returns the right
+//! result when it is repeated. `scripts/trials/refusals.py` makes each allocation fail in turn.
 use super::solid_rows::{CUBE, OCTAHEDRON};
 use super::surfaces::{is_surface, solid_surface, triangles};
 use super::{Row, SQUARE, hull_of, is};
@@ -10,7 +10,7 @@ use std::alloc::{AllocError, Global};
 use std::test::Fail;
 use std::thread::Threads;
 
-/// Returns the hull and the extreme ids, asked for again if an allocation failed.
+/// Returns the hull and the extreme ids. Repeats the call if an allocation failed.
 fn hull_again<R: Threads + Sync>(
     rt: &R,
     alloc: Global,
@@ -22,8 +22,7 @@ fn hull_again<R: Threads + Sync>(
     }
 }
 
-/// Returns true if the surface, asked for again if an allocation failed, is one; `None` if the
-/// points are flat.
+/// Returns true if the result is a surface; `None` if the points are flat. Repeats the call if an allocation failed.
 fn has_surface<R: Threads + Sync>(
     rt: &R,
     alloc: Global,
@@ -46,8 +45,8 @@ fn has_surface<R: Threads + Sync>(
     }
 }
 
-/// Returns true if the hull, the extreme ids and the surface of some points, each asked for again where
-/// an allocation failed, are those of a row.
+/// Returns true if the hull, the extreme ids and the surface of some points are those of a row. Repeats each call if an
+/// allocation failed.
 fn comes_out_right<R: Threads + Sync>(
     rt: &R,
     alloc: Global,

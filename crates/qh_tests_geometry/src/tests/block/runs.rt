@@ -1,5 +1,5 @@
-//! Faces in a run: the triangles that have keys rise, and so do the other polygons, by their first three ids. The order
-//! shows in the text of `Debug` alone.
+//! The order of faces: first the triangles that have keys, rising, then the other polygons, rising by their first three
+//! ids. Only the text of `Debug` shows the order.
 use qh_bodies::UnsortedFaces;
 use qh_fixtures::faces::polygons_of;
 use qh_model::Memory;

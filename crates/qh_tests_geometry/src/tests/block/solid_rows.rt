@@ -37,7 +37,7 @@ const TETRAHEDRON: Row<'static> = Row {
     edges: 6,
 };
 
-/// The cube, each of whose corners was given twice.
+/// The cube, with each corner given twice.
 const DOUBLED_CUBE: Row<'static> = Row {
     dim: 3,
     extremes: &[0, 2, 4, 6, 8, 10, 12, 14],
@@ -98,7 +98,7 @@ fn few_points(rt: HostRuntime) -> Result<(), Fail> {
     Ok(())
 }
 
-/// Returns 20,000 points, each second one with the greatest x and the others with the least.
+/// Returns 20,000 points, which alternately have the greatest and the least x.
 fn greatest_and_least(alloc: Global, greatest: i32) -> Result<Vec<Point>, AllocError> {
     let mut pts = Vec::new(alloc);
     for y in 0..100i32 {

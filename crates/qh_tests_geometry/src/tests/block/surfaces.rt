@@ -1,5 +1,5 @@
-//! The surfaces of solid sets, against a plain checker: each edge has its opposite, each triangle
-//! supports all points, and the counts are Euler's.
+//! The surfaces of solid sets, checked by a simple checker: each edge has its opposite, each triangle supports all
+//! points, and the counts are Euler's.
 ghost use Rattle.qh_model.specs.contract.IdSets.{IsIdSet};
 ghost use Rattle.qh_model.specs.contract.IdSets.{AreIndices};
 
@@ -112,7 +112,7 @@ fn corner_count(alloc: Global, triangles: &[Triangle]) -> Result<usize, AllocErr
     Ok(used.len())
 }
 
-/// Returns true if the triangles close up, support all points, and are 2 V - 4, as on a sphere.
+/// Returns true if the triangles close up, support all points, and their number is 2 V - 4, as on a sphere.
 pub fn is_surface(
     alloc: Global,
     pts: &[Point],
@@ -126,8 +126,7 @@ pub fn is_surface(
     )
 }
 
-/// Returns true if the triangles of a mesh are a surface of the points, and the numbers of triangles and of
-/// corners.
+/// Returns true if the triangles of a mesh are a surface of the points, and the numbers of triangles and of corners.
 fn told(alloc: Global, pts: &[Point], mesh: &Mesh) -> Result<(bool, usize, usize), AllocError> {
     let triangles = triangles(alloc, mesh)?;
     let is_sound = is_surface(alloc, pts, &triangles)?;
@@ -135,8 +134,7 @@ fn told(alloc: Global, pts: &[Point], mesh: &Mesh) -> Result<(bool, usize, usize
     Ok((is_sound, triangles.len(), corners))
 }
 
-/// Returns the numbers of triangles and of corners of the surface of a solid set, which must be
-/// one.
+/// Returns the numbers of triangles and of corners of the surface of a solid set, and asserts that it is a surface.
 fn counts_of<R: AllocGlobal + Abort + Threads + Sync>(
     rt: &R,
     pts: &[Point],
@@ -154,7 +152,7 @@ fn corner_tetrahedron(rt: HostRuntime) -> Result<(), Fail> {
     Ok(())
 }
 
-/// Asserts that the surface of a cube, each corner of which is given several times, has its triangles and corners.
+/// Asserts the numbers of triangles and corners of the surface of a cube, each corner of which is given several times.
 fn assert_cube<R: AllocGlobal + Abort + Threads + Sync>(
     rt: &R,
     low: i32,

@@ -1,12 +1,12 @@
-//! The steps of the seven points, where one growth is refused. Each call that is refused leaves the
-//! mesh as it was, and is made again. `scripts/trials/refusals.py` refuses each growth in turn.
+//! The steps of the seven points, where one allocation fails. Each call that fails leaves the mesh unchanged, and is
+//! repeated. `scripts/trials/refusals.py` makes each allocation fail in turn.
 use super::{ROWS, Triangle, first_simplex, has_twins, seen_by, seven, triangle};
 use qh_mesh::{EdgeNo, FacetNo, Mesh};
 use qh_model::{Id, Memory};
 use std::alloc::{AllocError, Global};
 use std::test::Fail;
 
-/// What a place holds: the corners of its facet and the twins of its sides, or nothing.
+/// The content of a place: the corners of its facet and the twins of its sides, or nothing.
 type Place = Option<([u32; 3], [EdgeNo; 3])>;
 
 fn place(mesh: &Mesh, f: FacetNo) -> Place {
@@ -21,7 +21,7 @@ fn place(mesh: &Mesh, f: FacetNo) -> Place {
     ))
 }
 
-/// Returns the number of places, and what the first eight hold.
+/// Returns the number of places, and the contents of the first eight.
 fn places(mesh: &Mesh) -> (usize, [Place; 8]) {
     let mut places = [None; 8];
     for f in 0..8 {
@@ -30,7 +30,7 @@ fn places(mesh: &Mesh) -> (usize, [Place; 8]) {
     (mesh.places(), places)
 }
 
-/// Returns true if the triangles of a list of places are the wanted ones, and each has its twins.
+/// Returns true if the triangles of a list of places are the expected ones, and each has its twins.
 fn are(mesh: &Mesh, list: &[FacetNo], want: &[Triangle]) -> bool {
     list.len() == want.len()
         && want
@@ -39,8 +39,8 @@ fn are(mesh: &Mesh, list: &[FacetNo], want: &[Triangle]) -> bool {
         && list.iter().all(|f| has_twins(mesh, *f))
 }
 
-/// Makes the steps, each call that is refused once more, and answers whether each step gave its row
-/// and each refusal left the mesh as it was.
+/// Makes the steps, repeats each call that fails, and returns true if each step gives its row and each failure leaves
+/// the mesh unchanged.
 fn steps(alloc: Global) -> Result<bool, Fail> {
     let pts = seven();
     let mut mesh = match first_simplex(alloc, &pts) {

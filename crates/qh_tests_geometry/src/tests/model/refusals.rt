@@ -1,12 +1,12 @@
-//! Cuts of which one growth is refused: the cut is right, or memory was wanted and the same call gives
-//! it. `scripts/trials/refusals.py` refuses each growth in turn.
+//! Cuts during which one allocation fails: the cut is right, or the call is out of memory and returns the right cut
+//! when it is repeated. `scripts/trials/refusals.py` makes each allocation fail in turn.
 ghost use Rattle.std.specs.Prelude.{◌<◌, ◌≤◌};
 
 use super::{Answer, assert_cut};
 use qh_model::{Cut, CutError, POINT_LIMIT};
 use std::alloc::Global;
 
-/// Returns the even cut, asked for again if an allocation failed.
+/// Returns the even cut. Repeats the call if an allocation failed.
 fn even_again(alloc: Global, m: u32, size: u32) -> Result<Cut, CutError>
     requires some { 0 < m }
     requires few { m ≤ POINT_LIMIT }
@@ -17,7 +17,7 @@ fn even_again(alloc: Global, m: u32, size: u32) -> Result<Cut, CutError>
     }
 }
 
-/// The number of points and the size of a block, with the even cut's answer.
+/// The number of points and the size of a block, with the result of the even cut.
 const CUTS: [(u32, u32, Answer); 3] = [
     (5, 2, Ok((3, (0, 2), (4, 5)))),
     (8, 3, Ok((3, (0, 3), (6, 8)))),

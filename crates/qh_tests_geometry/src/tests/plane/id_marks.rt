@@ -20,7 +20,7 @@ fn marked_in_turn(alloc: Global, first: &[Id], second: &[Id]) -> Result<Option<V
 /// Four ids near each other, one of them twice.
 const NEAR: [u32; 5] = [7, 2, 9, 2, 0];
 
-/// Three ids far apart, which takes a sort.
+/// Three ids far apart, which have to be sorted.
 const FAR: [u32; 3] = [1_000_000, 9, 70_000];
 
 #[test]

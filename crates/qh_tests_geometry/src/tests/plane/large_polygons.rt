@@ -1,4 +1,4 @@
-//! A large grid in planes across each axis and in a slanted one: its inner points go before the sort.
+//! A large grid in planes across each axis and in a slanted one: its inner points are dropped before the sort.
 use qh_model::{Memory, Point, Polygon};
 use qh_plane::distinct_alone;
 use qh_polygon::{outer_ids, polygon};
@@ -23,20 +23,19 @@ fn grids() -> [Grid; 4] {
     grids
 }
 
-/// Returns the slanted grid, of which one inner point is moved to another place of the plane, outside
-/// a side.
+/// Returns the slanted grid with one inner point moved to another place of the plane, outside a side.
 pub fn grid_with_point_outside() -> Grid {
     let [_, _, _, mut grid] = grids();
     grid[2450] = Point::new(35, -1, 34);
     grid
 }
 
-/// Returns the normal from whose side rows of a grid are seen one above the other.
+/// Returns the normal from whose side the rows of a grid appear one above the other.
 pub fn normal_of(grid: &Grid) -> Normal {
     cross(grid[0], grid[69], grid[4899])
 }
 
-/// Returns how many ids a look leaves.
+/// Returns the number of ids that the interior filter leaves.
 fn left_of(alloc: Global, grid: &Grid, normal: &Normal) -> Result<usize, Memory> {
     let ids = distinct_alone(alloc, grid)?;
     match outer_ids(alloc, grid, normal, &ids)? {
@@ -51,7 +50,7 @@ pub fn polygon_of(alloc: Global, grid: &Grid, normal: &Normal) -> Result<Polygon
     polygon(alloc, grid, &ids, normal)
 }
 
-/// Asserts that a look from a side leaves few ids of a grid.
+/// Asserts that the interior filter, seen from a side, leaves few ids of a grid.
 fn assert_few_left<R: AllocGlobal + Abort>(
     rt: &R,
     grid: &Grid,

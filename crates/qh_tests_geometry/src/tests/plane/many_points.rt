@@ -1,4 +1,4 @@
-//! Lists that are long enough for threads, without repeats and with.
+//! Lists that are long enough for threads, with and without repeated points.
 use qh_model::{Id, Memory, POINT_LIMIT, Point};
 use qh_plane::{distinct, distinct_alone, distinct_in_threads};
 use std::alloc::{AllocError, Global};
@@ -6,10 +6,10 @@ use std::process::Abort;
 use std::test::Fail;
 use std::thread::Threads;
 
-/// How many places there are. They differ in x, and lie neither close together nor in order.
+/// The number of places. They differ in x, and lie neither close together nor in order.
 const PLACES: usize = 100_000;
 
-/// Returns the place with a number.
+/// Returns the place with this number.
 fn place(number: usize) -> Point {
     let x = number % PLACES * 7919 % PLACES;
     let y = number % PLACES * 31_337 % 999_983;
@@ -17,7 +17,7 @@ fn place(number: usize) -> Point {
     Point::new(x as i32, y as i32, z as i32)
 }
 
-/// Returns `count` points. They begin again with the first place after the last.
+/// Returns `count` points, which repeat all places in order.
 fn places(alloc: Global, count: usize) -> Result<Vec<Point>, AllocError> {
     let mut pts = Vec::new(alloc);
     for number in 0..count {
@@ -26,10 +26,10 @@ fn places(alloc: Global, count: usize) -> Result<Vec<Point>, AllocError> {
     Ok(pts)
 }
 
-/// How many places the grid has: 11 along each axis.
+/// The number of places of the grid: 11 along each axis.
 const GRID_PLACES: usize = 1331;
 
-/// Returns `count` points of a grid, its places one after the other, again and again.
+/// Returns `count` points of a grid, which repeat all its places in order.
 fn grid(alloc: Global, count: usize) -> Result<Vec<Point>, AllocError> {
     let mut pts = Vec::new(alloc);
     for number in 0..count {
@@ -39,8 +39,7 @@ fn grid(alloc: Global, count: usize) -> Result<Vec<Point>, AllocError> {
     Ok(pts)
 }
 
-/// Returns the distinct ids by at most `threads` threads, or `None` if there are more than `POINT_LIMIT`
-/// points.
+/// Returns the distinct ids with at most `threads` threads, or `None` if there are more than `POINT_LIMIT` points.
 fn ids_in_threads<R: Threads + Sync>(
     rt: &R,
     alloc: Global,
@@ -53,8 +52,8 @@ fn ids_in_threads<R: Threads + Sync>(
     Ok(Some(distinct_in_threads(rt, alloc, pts, threads)?))
 }
 
-/// Returns the distinct ids by all processors and by the calling thread alone, or `None` if there are more
-/// than `POINT_LIMIT` points.
+/// Returns the distinct ids with all processors and with the calling thread alone, or `None` if there are more than
+/// `POINT_LIMIT` points.
 fn ids_otherwise<R: Threads + Sync>(
     rt: &R,
     alloc: Global,

@@ -1,5 +1,5 @@
-//! Calls of which one growth is refused: what they answer is right, or memory was wanted and the same
-//! call gives it. `scripts/trials/refusals.py` refuses each growth in turn.
+//! Calls during which one allocation fails: the result is right, or the call is out of memory and returns the right
+//! result when it is repeated. `scripts/trials/refusals.py` makes each allocation fail in turn.
 use super::large_polygons::{self, grid_with_point_outside, normal_of};
 use super::{assert_ids, polygon_of};
 use qh_fixtures::points::{cube, square};
@@ -24,8 +24,7 @@ fn side() -> [Point; 7] {
     ]
 }
 
-/// Returns the distinct ids, asked for again if an allocation failed; none of points that are too
-/// many.
+/// Returns the distinct ids, or `None` if there are too many points. Repeats the call if an allocation failed.
 fn distinct_again<R: AllocGlobal + Threads + Sync>(
     rt: &R,
     pts: &[Point],
@@ -39,7 +38,7 @@ fn distinct_again<R: AllocGlobal + Threads + Sync>(
     }
 }
 
-/// Returns the polygon of some of the points, asked for again if an allocation failed.
+/// Returns the polygon of some of the points. Repeats the call if an allocation failed.
 fn polygon_again(
     alloc: Global,
     pts: &[Point],
@@ -52,7 +51,7 @@ fn polygon_again(
     }
 }
 
-/// Asserts which ids are distinct, asked for again if an allocation failed.
+/// Asserts which ids are distinct. Repeats the call if an allocation failed.
 fn assert_distinct<R: AllocGlobal + Abort + Threads + Sync>(
     rt: &R,
     pts: &[Point],
@@ -70,7 +69,7 @@ fn tries_again_for_distinct_ids(rt: HostRuntime) -> Result<(), Fail> {
     assert_distinct(&rt, &side(), &[0, 1, 2, 3, 5, 6])
 }
 
-/// Asserts what the polygon of some of the points is, asked for again if an allocation failed.
+/// Asserts the polygon of some of the points. Repeats the call if an allocation failed.
 fn assert_polygon<R: AllocGlobal + Abort>(
     rt: &R,
     pts: &[Point],

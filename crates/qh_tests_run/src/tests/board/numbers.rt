@@ -1,4 +1,4 @@
-//! What the tests reduce: the rising lists of the numbers of blocks.
+//! The reduction of the tests: the rising lists of the numbers of blocks.
 ghost use Rattle.std.specs.Prelude.{◌≡◌, ◌+◌, ◌*◌, [], ◌∷◌, ◌<◌, ℕ, IfOk};
 ghost use Rattle.qh_model.specs.contract.BoardMachine.{InSpan};
 ghost use Rattle.qh_tests_run.specs.Rising.{IsRisingListOf};
@@ -6,7 +6,7 @@ ghost use Rattle.qh_tests_run.specs.Rising.{IsRisingListOf};
 use qh_board::Spans;
 use std::alloc::{AllocError, Global};
 
-/// The value of blocks is the rising list of their numbers. So many blocks there are.
+/// The value of blocks is the rising list of their numbers. The field is the number of blocks.
 #[derive(Drop)]
 pub struct Numbers {
     pub blocks: u32,
@@ -27,7 +27,7 @@ pub fn alone(alloc: Global, number: u32) -> Result<Vec<u32>, AllocError>
     Ok(list)
 }
 
-/// Returns two lists of the children of a node as one of the node.
+/// Returns the lists of the two children of a node merged into the list of the node.
 pub fn merged(a: Vec<u32>, b: Vec<u32>) -> Result<Vec<u32>, AllocError>
     ensures { IfOk result (λ list. (blocks : ℕ) (i : ℕ) → 0 < i → i < blocks
         → IsRisingListOf (InSpan blocks (2 * i)) a.items

@@ -1,4 +1,4 @@
-//! Passes at work, and what they met.
+//! Runs passes, and records their events.
 ghost use Rattle.std.specs.Prelude.{◌≡◌, ◌+◌, ◌<◌, IfOk, IfSome, All, false, length};
 ghost use Rattle.qh_model.specs.contract.BoardMachine.{InSpan};
 ghost use Rattle.qh_board.specs.contract.Closings.{closed_setup};
@@ -9,7 +9,7 @@ use super::numbers::{Numbers, alone, merged};
 use qh_board::{Board, BoardError, Claim, Closed, Delivered, Left, Pass, Task};
 use std::alloc::{AllocError, Global};
 
-/// What a pass met.
+/// An event of a pass.
 #[derive(Clone, Copy, PartialEq, Eq, Drop)]
 pub enum Met {
     Block(u32),
@@ -28,7 +28,7 @@ pub struct Join {
     pub odd: Vec<u32>,
 }
 
-/// What passes met, and the lists that they joined.
+/// The events of passes, and the lists that they joined.
 #[derive(Drop)]
 pub struct Log {
     pub met: Vec<Met>,
@@ -44,7 +44,7 @@ impl Log {
         }
     }
 
-    /// Notes the lists of both children of a node.
+    /// Records the lists of both children of a node.
     fn note_both(&mut self, node: u32, even: &Vec<u32>, odd: &Vec<u32>) -> Result<(), AllocError> {
         self.met.push(Met::Both(node))?;
         let (even, odd) = (even.clone()?, odd.clone()?);
@@ -53,7 +53,7 @@ impl Log {
     }
 }
 
-/// Delivers a value, and what comes of it, as far up as it goes.
+/// Delivers a value, and then each combined value, as far up as possible.
 fn climb(
     board: &Board<Numbers>,
     task: Task<Numbers>,
@@ -82,7 +82,7 @@ fn climb(
     }
 }
 
-/// Works at a block that was claimed, and goes up the tree.
+/// Processes a claimed block, and climbs the tree.
 fn take_turn(
     alloc: Global,
     board: &Board<Numbers>,
@@ -99,8 +99,8 @@ fn take_turn(
     climb(board, task, alone(alloc, block)?, log)
 }
 
-/// Claims all that is left, and leaves; gives up where it gets one block. Each claim is later than the
-/// one before, so this ends.
+/// Claims all remaining blocks, and leaves; gives up if it gets the excepted block. Each claim is later than the one
+/// before, so this ends.
 pub fn work_but(
     alloc: Global,
     board: &Board<Numbers>,
@@ -132,7 +132,7 @@ pub fn work_but(
     }
 }
 
-/// Works each pass to its end, the last first.
+/// Runs each pass to its end, the last pass first.
 fn work_all(
     alloc: Global,
     board: &Board<Numbers>,
@@ -153,7 +153,7 @@ fn work_all(
     Ok(lefts)
 }
 
-/// Returns a board all of whose passes were worked to their end, the last first, and what they met.
+/// Returns a board all of whose passes were run to their ends, the last first, and their events.
 pub fn run(alloc: Global, blocks: u32, passes: u32) -> Result<(Closed<Numbers>, Log), BoardError>
     ensures { IfOk result (λ r. (closed_setup r.0).passes ≡ passes) }
 {
@@ -175,11 +175,11 @@ pub fn leave_at_once(alloc: Global) -> Result<Closed<Numbers>, BoardError>
     Ok(board.close(lefts))
 }
 
-/// What tokens tell of two passes: the numbers of both, whether the first was told before its claim
-/// that all is claimed, the node of the first's task, and its number by that task and at its end.
+/// The accessors of the tokens of two passes: the numbers of both, true if the first knew before its claim that all
+/// blocks are claimed, the node of the first's task, and its number by that task and at its end.
 type Told = (u32, u32, bool, u32, u32, u32);
 
-/// Claims a block and gives up at it: the node, and the number of the pass by its task.
+/// Claims a block and gives up at it. Returns the node, and the number of the pass by its task.
 fn give_up_at_once(board: &Board<Numbers>, pass: Pass<Numbers>) -> Option<(Left<Numbers>, u32, u32)>
     requires board { IsOf board.now pass }
     requires going { pass.pass.over ≡ false }
@@ -194,8 +194,8 @@ fn give_up_at_once(board: &Board<Numbers>, pass: Pass<Numbers>) -> Option<(Left<
     }
 }
 
-/// Returns a board of two blocks whose first pass gives up at its block before the second works to
-/// its end, what tokens tell, and what the second met; `None` if the first gets no block.
+/// Returns a board of two blocks whose first pass gives up at its block before the second runs to its end, the results
+/// of the tokens' accessors, and the events of the second; `None` if the first gets no block.
 pub fn first_gives_up(alloc: Global) -> Result<Option<(Closed<Numbers>, Told, Log)>, BoardError>
     ensures { IfOk result (λ r. IfSome r (λ s. (closed_setup s.0).passes ≡ 2)) }
 {

@@ -1,5 +1,5 @@
-//! Boards of which one growth is refused: their passes meet what they should, or memory was wanted and
-//! the same calls give it. `scripts/trials/refusals.py` refuses each growth in turn.
+//! Boards during whose calls one allocation fails: their passes have the expected events, or the calls are out of
+//! memory and succeed when they are repeated. `scripts/trials/refusals.py` makes each allocation fail in turn.
 ghost use Rattle.std.specs.Prelude.{◌≡◌, IfOk};
 ghost use Rattle.qh_board.specs.contract.Closings.{closed_setup};
 
@@ -10,8 +10,7 @@ use qh_board::{BoardError, Closed};
 use std::alloc::Global;
 use std::test::Fail;
 
-/// Returns a board all of whose passes were worked to their end, made again where memory was
-/// refused.
+/// Returns a board all of whose passes were run to their ends. Repeats the calls if an allocation failed.
 fn run_again(alloc: Global, blocks: u32, passes: u32) -> Result<(Closed<Numbers>, Log), BoardError>
     ensures { IfOk result (λ r. (closed_setup r.0).passes ≡ passes) }
 {

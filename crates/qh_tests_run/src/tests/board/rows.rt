@@ -1,4 +1,4 @@
-//! The rows of boards: what their passes meet, how many steps they make, and what comes out at the root.
+//! The rows of boards: the events of their passes, the number of steps, and the values of the root.
 
 use super::numbers::Numbers;
 use super::passes::{Join, Met, first_gives_up, leave_at_once, run};
@@ -9,7 +9,7 @@ use std::alloc::{AllocGlobal, Global};
 use std::process::Abort;
 use std::test::Fail;
 
-/// What the passes of a board of two blocks meet, and of one of seven, one after the other.
+/// The events of the passes of a board of two blocks, and of one of seven, one pass after the other.
 const TWO_BLOCKS: [Met; 6] = [
     Met::Block(0),
     Met::Parked,
@@ -47,8 +47,7 @@ const SEVEN_BLOCKS: [Met; 22] = [
 /// A node and the lists of its children.
 type Lists = (u32, &'static [u32], &'static [u32]);
 
-/// The lists that are joined over two blocks, and over seven, in the order in which one pass after the
-/// other joins them.
+/// The lists that are joined over two blocks, and over seven, if one pass runs after the other.
 const TWO_JOINED: [Lists; 1] = [(1, &[0], &[1])];
 
 const SEVEN_JOINED: [Lists; 6] = [
@@ -71,8 +70,8 @@ fn are_joined(joins: &[Join], want: &[Lists]) -> bool {
     joins.len() == want.len()
 }
 
-/// Wants a board to be joined as a row says, and its passes to meet this and to join these lists, one
-/// after the other.
+/// Asserts that a board is joined as in a row, and that its passes have these events and join these lists, one after
+/// the other.
 fn assert_met<R: AllocGlobal + Abort>(
     rt: &R,
     row: Row,
@@ -89,7 +88,7 @@ fn assert_met<R: AllocGlobal + Abort>(
 
 #[test]
 fn passes_join_all_blocks(rt: HostRuntime) -> Result<(), Fail> {
-    // The pass that works first gets the one block, and all passes are told that it is claimed.
+    // The pass that runs first gets the only block, and all passes find that it is claimed.
     let mut many = [Met::Over; 66];
     many[0] = Met::Block(0);
     many[1] = Met::Root;

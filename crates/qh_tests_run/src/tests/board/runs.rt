@@ -1,4 +1,4 @@
-//! Many boards, worked by passes side by side, some of which give up.
+//! Many boards, whose passes run in parallel, some of which give up.
 ghost use Rattle.std.specs.Prelude.{◌≡◌, ◌<◌, ◌++◌, IfOk, All, false, length};
 ghost use Rattle.qh_board.specs.contract.Closings.{closed_setup};
 ghost use Rattle.qh_board.specs.contract.Tokens.{IsOf};
@@ -12,17 +12,17 @@ use std::process::Abort;
 use std::test::Fail;
 use std::thread::{Threads, join};
 
-/// How many boards are run: `scripts/trials/board_runs.sh` runs more of them.
+/// The number of boards that are run; `scripts/trials/board_runs.sh` runs more.
 const RUNS: u32 = 200;
 
-/// Passes that have ended, and what they met.
+/// Passes that have ended, and their events.
 #[derive(Drop)]
 struct Ended {
     lefts: Vec<Left<Numbers>>,
     met: Vec<Met>,
 }
 
-/// Works the last pass of a list, if it has one, to its end.
+/// Runs the last pass of a list, if there is one, to its end.
 fn work_last(
     alloc: Global,
     board: &Board<Numbers>,
@@ -45,7 +45,7 @@ fn work_last(
     Ok(Ended { lefts, met })
 }
 
-/// Returns the passes of both, and what they met.
+/// Returns the passes of both arguments, and their events.
 fn gathered(one: Ended, two: Ended) -> Result<Ended, AllocError>
     ensures { IfOk result (λ e. e.lefts.items ≡ one.lefts.items ++ two.lefts.items) }
 {
@@ -55,7 +55,7 @@ fn gathered(one: Ended, two: Ended) -> Result<Ended, AllocError>
     Ok(all)
 }
 
-/// Works the passes to their ends, the halves of the list side by side, and again the halves of each.
+/// Runs the passes to their ends, the halves of the list in parallel, and recursively the halves of each.
 fn work_side_by_side<R: Threads + Sync>(
     rt: &R,
     alloc: Global,
@@ -90,7 +90,7 @@ fn work_side_by_side<R: Threads + Sync>(
     gathered(one?, two?)
 }
 
-/// Returns a board worked side by side to its end, and what its passes met.
+/// Returns a board whose passes were run to their ends in parallel, and their events.
 pub fn run_side_by_side<R: Threads + Sync>(
     rt: &R,
     alloc: Global,
@@ -117,7 +117,7 @@ fn blocks_got(alloc: Global, met: &[Met]) -> Result<Vec<u32>, AllocError> {
     Ok(blocks)
 }
 
-/// Returns how many roots passes published.
+/// Returns the number of roots that passes published.
 fn roots_of(met: &[Met]) -> usize {
     let mut roots = 0usize;
     for met in met {
@@ -128,9 +128,8 @@ fn roots_of(met: &[Met]) -> usize {
     roots
 }
 
-/// Asserts that no block was got twice and, if all blocks were claimed and every pass left, that all were
-/// got and one root has them all; otherwise that there is no root. The passes got the blocks `got` and
-/// published `roots` roots.
+/// Asserts that no block was got twice. Asserts that, if all blocks were claimed and every pass left, all were got and
+/// one root has them all, and else that there is no root. The passes got the blocks `got` and published `roots` roots.
 fn assert_root<R: Abort>(
     rt: &R,
     closed: Closed<Numbers>,
@@ -154,7 +153,7 @@ fn assert_root<R: Abort>(
     assert_eq!(rt; found, (true, want_roots, want), "{blocks} blocks");
 }
 
-/// Asserts what [`assert_root`] says of a board whose passes run side by side.
+/// Makes the assertions of [`assert_root`] for a board whose passes run in parallel.
 fn assert_run<R: Abort + Threads + Sync>(
     rt: &R,
     alloc: Global,

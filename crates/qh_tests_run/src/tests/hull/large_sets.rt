@@ -1,5 +1,5 @@
-//! A set of more than two blocks: the lattice points of a cube, of which 8 are extreme, and each block has
-//! some that are extreme there and not in the whole.
+//! A set of more than two blocks: the lattice points of a cube, of which 8 are extreme. Each block has ids that are
+//! extreme there but not in the whole set.
 use super::{counts_of, hull_of};
 use qh_model::Point;
 use std::alloc::{AllocError, Global};

@@ -1,4 +1,4 @@
-//! A gate that counts the hulls that it takes.
+//! A gate that counts the hulls that it computes.
 use qh_model::{Body, Id, Memory, Point};
 use qh_run::{Gate, NoGate};
 use std::alloc::Global;
@@ -11,7 +11,7 @@ pub struct Finishes {
 }
 
 impl Finishes {
-    /// Creates a gate that was not called yet.
+    /// Creates a gate that has not been called yet.
     pub fn new() -> Finishes {
         Finishes {
             calls: AtomicU64::new(0),

@@ -1,5 +1,6 @@
-//! Runs of which one growth is refused: the hull is right, or memory was wanted and the same call gives
-//! it. A worker whose growth is refused gives up. `scripts/trials/refusals.py` refuses each growth in turn.
+//! Runs during which one allocation fails: the hull is right, or the call is out of memory and returns the right hull
+//! when it is repeated. A worker whose allocation fails gives up. `scripts/trials/refusals.py` makes each allocation
+//! fail in turn.
 ghost use Rattle.std.specs.Prelude.{◌<◌, ◌≤◌, IfOk, length};
 ghost use Rattle.qh_model.specs.headline.DistinctIds.{AreDistinctIds};
 
@@ -15,7 +16,7 @@ use std::process::Abort;
 use std::test::Fail;
 use std::thread::Threads;
 
-/// What the hulls of the square and of the cube say, as `numbers_of` has it.
+/// The hulls of the square and of the cube, as `numbers_of` returns them.
 const SQUARE_HULL: [usize; 14] = [5, 5, 2, 4, 4, 0, 1, 2, 3, 4, 0, 1, 2, 3];
 
 const CUBE_HULL: [usize; 43] = [
@@ -23,7 +24,7 @@ const CUBE_HULL: [usize; 43] = [
     7, 3, 4, 2, 3, 7, 6, 4, 4, 6, 7, 5,
 ];
 
-/// Returns the hull, asked for again if an allocation failed.
+/// Returns the hull. Repeats the call if an allocation failed.
 fn hull_again<R: AllocGlobal + Threads + Sync>(
     rt: &R,
     points: &[Point],
@@ -36,7 +37,7 @@ fn hull_again<R: AllocGlobal + Threads + Sync>(
     }
 }
 
-/// Returns the numbers of a hull, asked for again if an allocation failed.
+/// Returns the numbers of a hull. Repeats the call if an allocation failed.
 fn numbers_again(alloc: Global, hull: &Hull) -> Result<Vec<usize>, AllocError> {
     match numbers_of(alloc, hull) {
         Err(AllocError) => numbers_of(alloc, hull),
@@ -44,7 +45,7 @@ fn numbers_again(alloc: Global, hull: &Hull) -> Result<Vec<usize>, AllocError> {
     }
 }
 
-/// Returns the even cut, asked for again if an allocation failed.
+/// Returns the even cut. Repeats the call if an allocation failed.
 fn cut_again(alloc: Global, m: u32, size: u32) -> Result<Cut, CutError>
     requires some { 0 < m }
     requires few { m ≤ POINT_LIMIT }
@@ -55,8 +56,8 @@ fn cut_again(alloc: Global, m: u32, size: u32) -> Result<Cut, CutError>
     }
 }
 
-/// Returns true if the hull of a list of points by the even cut of its positions, each asked for again
-/// if an allocation failed, says these numbers.
+/// Returns true if the hull of a list of points by the even cut of its positions has these numbers. Repeats each call
+/// if an allocation failed.
 fn comes_out_right<R: AllocGlobal + Threads + Sync>(
     rt: &R,
     points: &[Point],
@@ -85,18 +86,18 @@ fn tries_again(rt: HostRuntime) -> Result<(), Fail> {
     Ok(())
 }
 
-/// What one pass found of all blocks of a job.
+/// The result of one pass over all blocks of a job.
 #[derive(Clone, Copy, Debug, PartialEq, Eq, Drop)]
 enum Found {
     /// The right list.
     Right,
-    /// Another list, or a list where the pass gave up, or none where it left.
+    /// A wrong list, a list although the pass gave up, or no list although it left.
     Wrong,
     /// The pass gave up, and there is no list.
     GaveUp,
 }
 
-/// Returns what one pass finds of the octahedron in blocks of 3.
+/// Returns the result of one pass over the octahedron in blocks of 3.
 fn found_by_one(alloc: Global, points: &[Point], ids: &[Id], cut: &Cut) -> Result<Found, BoardError>
     requires { AreDistinctIds points.now ids.now }
 {
@@ -138,8 +139,7 @@ fn a_worker_gives_up(rt: HostRuntime) -> Result<(), Fail> {
     Ok(())
 }
 
-/// Returns the points of a cubic lattice with 40 along each side: enough that the interior filter
-/// takes them.
+/// Returns the points of a cubic lattice with 40 along each side, which are enough for the interior filter.
 fn lattice(alloc: Global) -> Result<Vec<Point>, AllocError> {
     let mut points = Vec::with_capacity(alloc, 64000)?;
     for number in 0..64000 {
@@ -148,7 +148,7 @@ fn lattice(alloc: Global) -> Result<Vec<Point>, AllocError> {
     Ok(points)
 }
 
-/// Returns the distinct ids of some points, asked for again if an allocation failed.
+/// Returns the distinct ids of some points. Repeats the call if an allocation failed.
 fn ids_again<R: Threads + Sync>(rt: &R, alloc: Global, points: &[Point]) -> Result<Vec<Id>, Memory>
     requires few { length points.now ≤ POINT_LIMIT }
     ensures { IfOk result (λ ids. AreDistinctIds points.now ids.items) }
@@ -159,8 +159,7 @@ fn ids_again<R: Threads + Sync>(rt: &R, alloc: Global, points: &[Point]) -> Resu
     }
 }
 
-/// Returns how often a run over a cut of some points calls the gate's `finish`, whatever comes of
-/// it.
+/// Returns how often a run over a cut of some points calls the gate's `finish`, whether the run succeeds or not.
 fn finishes_of<R: Threads + Sync>(
     rt: &R,
     alloc: Global,

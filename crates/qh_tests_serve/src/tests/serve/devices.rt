@@ -1,5 +1,4 @@
-//! Devices that fail: of each the call that failed is its last, and what stands on the output is a
-//! beginning of the text.
+//! Devices that fail: no device is called again after a failed call, and the output is a prefix of the text.
 ghost use Rattle.std.specs.Prelude.{◌<◌};
 
 use crate::tests::outcomes::OFF;
@@ -22,10 +21,10 @@ const FREE: SinkPlan = SinkPlan {
     flush_fails: false,
 };
 
-/// What `serve` did: its outcome, what went out, and how often the source and the sink failed.
+/// The result of `serve`: its outcome, the bytes sent, and the numbers of failures of the source and of the sink.
 type Served<'a> = (Result<(), Fault>, &'a [u8], u64, u64);
 
-/// Asserts what `off` of an input does under a plan of the source, to a sink that takes all.
+/// Asserts the result of `off` of an input with a plan of the source, and a sink that never fails.
 fn assert_read<R: AllocGlobal + Abort + Threads + Sync>(
     rt: &R,
     input: &[u8],
@@ -44,7 +43,7 @@ fn assert_read<R: AllocGlobal + Abort + Threads + Sync>(
     Ok(())
 }
 
-/// Asserts what `off` of an input does under a plan of the sink.
+/// Asserts the result of `off` of an input with a plan of the sink.
 fn assert_written<R: AllocGlobal + Abort + Threads + Sync>(
     rt: &R,
     input: &[u8],
@@ -60,12 +59,12 @@ fn assert_written<R: AllocGlobal + Abort + Threads + Sync>(
     Ok(())
 }
 
-/// What `serve` does where the source fails.
+/// The result of `serve` if the source fails.
 const UNREAD: Served<'static> = (Err(Fault::Read(ReadFault::Device)), &[], 1, 0);
 
 #[test]
 fn a_failing_source_sends_nothing(rt: HostRuntime) -> Result<(), Fail> {
-    // One byte a read: each of the 52 bytes and the end.
+    // One byte for each read: each of the 52 bytes and the end.
     for k in 1..54u64 {
         assert_read(&rt, CUBE.as_bytes(), 1, k, UNREAD)?;
     }
@@ -76,7 +75,7 @@ fn a_failing_source_sends_nothing(rt: HostRuntime) -> Result<(), Fail> {
         54,
         (Ok(()), CUBE_OFF.as_bytes(), 0, 0),
     )?;
-    // The first read gives 4 bytes, the second fails.
+    // The first read returns 4 bytes, the second fails.
     assert_read(&rt, TETRAHEDRON.as_bytes(), 4, 2, UNREAD)
 }
 
@@ -98,7 +97,7 @@ fn a_failing_sink_has_a_beginning(rt: HostRuntime) -> Result<(), Fail> {
 
 #[test]
 fn the_worked_failures(rt: HostRuntime) -> Result<(), Fail> {
-    // An input, a plan of the sink, and what goes out before it fails.
+    // An input, a plan of the sink, and the bytes that are sent before it fails.
     let rows = [
         (ONE_POINT, SinkPlan { room: 7, ..FREE }, "OFF\n1 1"),
         (

@@ -13,7 +13,7 @@ const CUBE_OFFT: &str =
 
 const SQUARE_OFFT: &str = "OFF\n4 2 5\n0 0 0\n2 0 0\n2 2 0\n0 2 0\n3 0 1 2\n3 0 2 3\n";
 
-/// Settings, an input and the text that it answers.
+/// Settings, an input and its text.
 const ROWS: [(Asked, &str, &str); 10] = [
     (OFFT, ONE_POINT, "OFF\n1 1 0\n5 5 5\n1 0\n"),
     (
@@ -30,7 +30,7 @@ const ROWS: [(Asked, &str, &str); 10] = [
         "3\n4\n5 0 0\n5 0 2\n5 2 2\n5 2 0\n",
         "OFF\n4 1 4\n5 0 0\n5 0 2\n5 2 2\n5 2 0\n4 0 3 2 1\nOFF\n4 2 5\n5 0 0\n5 0 2\n5 2 2\n5 2 0\n3 0 3 2\n3 0 2 1\n4 4 2\n",
     ),
-    // A hexagon: four triangles, three of whose edges are inside it.
+    // A hexagon: four triangles, three edges of which are inside it.
     (
         OFFT,
         "3\n6\n0 0 0\n2 0 0\n3 1 0\n2 2 0\n0 2 0\n-1 1 0\n",

@@ -1,4 +1,4 @@
-//! Files with faults, and the lines that tell of them.
+//! Files with faults, and the lines that report them.
 use super::assert_faults;
 use crate::tests::outcomes::{OFF, RANK, Told, refusal};
 use qh_read::ReadFault;
@@ -6,7 +6,7 @@ use qh_serve::Fault;
 use std::process::Abort;
 use std::test::Fail;
 
-/// Inputs and the fault line that each gets, with status 1 and nothing on standard output.
+/// Inputs and their fault lines, with status 1 and nothing on standard output.
 const FAULTS: [(&str, &str); 35] = [
     ("3\n4\n0 0 0\n1 0 0\n0 1 0\n0 0\n", "qconvex: 7: Short"),
     (
@@ -56,7 +56,7 @@ const FAULTS: [(&str, &str); 35] = [
         "3\n1\n0 0 340282366920938463463374607431768211459\n",
         "qconvex: 5: Range at line 3",
     ),
-    // Bytes beside the digits.
+    // Bytes next to the digits in ASCII.
     ("3\n1\n0 0 5/\n", "qconvex: 2: BadNumber at line 3"),
     ("3\n1\n0 0 5:\n", "qconvex: 2: BadNumber at line 3"),
     ("3\n1\n0 0 1,5\n", "qconvex: 2: BadNumber at line 3"),

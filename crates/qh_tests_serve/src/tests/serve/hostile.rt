@@ -1,4 +1,4 @@
-//! Inputs that are cut short, words without end, and bytes that are no text.
+//! Inputs that are truncated, words without end, and bytes that are not a text.
 use super::assert_gives;
 use crate::tests::outcomes::{OFF, RANK};
 use qh_fixtures::files::{CUBE, CUBE_OFF};

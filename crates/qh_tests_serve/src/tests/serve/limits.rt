@@ -1,14 +1,14 @@
-//! Inputs of the greatest length that is read, and of one byte more.
+//! Inputs of the greatest length that is accepted, and of one byte more.
 use super::assert_answered;
 use crate::tests::outcomes::RANK;
 use qh_fixtures::files::ONE_POINT;
 use std::alloc::{AllocError, Global};
 use std::test::Fail;
 
-/// One byte more than an input may have.
+/// One byte more than the limit of an input.
 const TOO_MANY: usize = 268435457;
 
-/// Returns a text, then blanks up to one byte more than an input may have.
+/// Returns a text, followed by blanks up to one byte more than the limit of an input.
 fn too_long(alloc: Global, text: &[u8]) -> Result<Vec<u8>, AllocError> {
     let mut bytes = Vec::from_elem(alloc, b' ', TOO_MANY)?;
     for (byte, of_text) in bytes.iter_mut().zip(text) {

@@ -1,6 +1,6 @@
-//! Sets with corners one lattice step over a face, on which floating point loses corners: at coordinates up to 2^20,
-//! and with the same faces at coordinates up to 2^30. Their numbers of corners and facets are those that programs of
-//! exact arithmetic find.
+//! Sets with corners one lattice step above a face, for which floating-point programs lose corners: with coordinates up
+//! to 2^20, and with the same faces and coordinates up to 2^30. Their numbers of corners and facets are those that
+//! programs with exact arithmetic find.
 use super::assert_answered;
 use crate::tests::outcomes::{Asked, SUMMARY, push_point};
 use std::alloc::{AllocError, Global};
@@ -8,8 +8,7 @@ use std::process::Abort;
 use std::test::Fail;
 use std::thread::Threads;
 
-/// Returns the combination i u + j v + k w of three edges of a lattice cell of volume 1 and of sides
-/// about m.
+/// Returns the combination i u + j v + k w of three edges of a lattice cell of volume 1 and of sides about m.
 fn combined(m: i64, i: i64, j: i64, k: i64) -> [i64; 3] {
     let by = |a: i64, b: i64| a.wrapping_mul(b);
     let less = m.wrapping_sub(1);
@@ -52,8 +51,7 @@ fn row_product(row: [i64; 3], p: [i64; 3], factor: i64) -> i64 {
     sum.wrapping_add(c.wrapping_mul(z)).wrapping_mul(factor)
 }
 
-/// Returns the lattice points of a ball of radius 3 under a matrix of determinant 1, times a
-/// factor.
+/// Returns the lattice points of a ball of radius 3, mapped by a matrix of determinant 1 and scaled by a factor.
 fn basis(alloc: Global, factor: i64) -> Result<String, AllocError> {
     let mut text = String::from_str(alloc, "3\n123\n")?;
     for x in -3..=3i64 {

@@ -1,4 +1,4 @@
-//! OFF files as input: what is written comes back, and the rows of comments, faces and faults.
+//! OFF files as input: written files are read back unchanged, and the rows of comments, faces and faults.
 use super::solids::{LATTICE_OFF, LIMIT_CUBE_OFF, WIDE_CUBE_OFF};
 use super::{assert_faults, assert_gives};
 use crate::tests::outcomes::{Asked, FX, OFF, RANK};
@@ -6,7 +6,7 @@ use qh_fixtures::files::{CUBE_OFF, OCTAHEDRON_OFF, SQUARE_OFF, TETRAHEDRON_OFF};
 use qh_model::Form;
 use std::test::Fail;
 
-/// Texts of `off`, which `off` of their own points gives again.
+/// Texts of `off` that `off` reproduces from their own points.
 const ROUND_TRIPS: [&str; 11] = [
     "OFF\n1 1 0\n5 5 5\n1 0\n",
     "OFF\n2 1 1\n0 0 0\n2 2 2\n2 0 1\n",
@@ -29,7 +29,7 @@ const ONE_POINT: [&str; 4] = [
     "OFF 1 0 0 5 5 5 6 6 6",
 ];
 
-/// OFF files and the fault line that each gets, with status 1 and nothing on standard output.
+/// OFF files and their fault lines, with status 1 and nothing on standard output.
 const FAULTS: [(&str, &str); 9] = [
     ("COFF\n1 0 0\n5 5 5\n", "qconvex: 14: NotOff"),
     ("3\n1\n5 5 5\n", "qconvex: 14: NotOff"),

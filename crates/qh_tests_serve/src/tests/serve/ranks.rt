@@ -4,7 +4,7 @@ use crate::tests::outcomes::RANK;
 use qh_fixtures::files::{COMMENTED_TETRAHEDRON, ONE_POINT, SQUARE};
 use std::test::Fail;
 
-/// Inputs and what `rank` answers.
+/// Inputs and their texts of `rank`.
 const RANKS: [(&str, &str); 19] = [
     (ONE_POINT, "1 1 0\n"),
     ("3 2\n0 0 0\n2 2 2\n", "2 2 1\n"),
@@ -14,17 +14,17 @@ const RANKS: [(&str, &str); 19] = [
     ("3\n3\n7 7 7\n7 7 7\n7 7 7\n", "3 1 0\n"),
     ("3\n5\n1 1 1\n0 0 0\n4 4 4\n2 2 2\n3 3 3\n", "5 5 1\n"),
     (SQUARE, "5 5 2\n"),
-    // The volume is 2^64 in size, which wraps to 0 in 64 bits.
+    // The magnitude of the volume is 2^64, which wraps to 0 in 64 bits.
     (
         "3\n4\n-1048576 -1048576 -1048576\n1048576 1048576 -1048576\n1048576 -1048576 1048576\n-1048576 1048576 1048576\n",
         "4 4 3\n",
     ),
-    // The volume is -1, of points far apart.
+    // The volume is -1, with points far apart.
     (
         "3\n4\n0 0 0\n1048576 1048575 0\n1048575 1048574 0\n1048576 1048576 1\n",
         "4 4 3\n",
     ),
-    // The same up to 2^30.
+    // The same with coordinates up to 2^30.
     (
         "3\n4\n-1073741824 -1073741824 -1073741824\n1073741824 1073741824 -1073741824\n1073741824 -1073741824 1073741824\n-1073741824 1073741824 1073741824\n",
         "4 4 3\n",
@@ -39,7 +39,7 @@ const RANKS: [(&str, &str); 19] = [
     ("3\n1\n5 5\r5\n", "1 1 0\n"),
     ("3\n1\n5\x0b5\x0c5\n", "1 1 0\n"),
     ("3\n1\n5\t5\t5\n", "1 1 0\n"),
-    // Comments: byte 0 begins one, and one in the midst hides the rest of its line.
+    // Comments: byte 0 begins a comment, and a comment in the middle hides the rest of its line.
     ("3\n1\n0 0 0 \0 9", "1 1 0\n"),
     ("3\n4\n0 0 0\n1 x 0\n0 1 0\n0 0 1 5 5\n", "4 3 2\n"),
 ];

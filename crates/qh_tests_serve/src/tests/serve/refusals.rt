@@ -1,5 +1,5 @@
-//! Calls of which one growth is refused: the text is right, or memory was wanted and the same call gives
-//! it. `scripts/trials/refusals.py` refuses each growth in turn.
+//! Calls during which one allocation fails: the text is right, or the call is out of memory and returns the right text
+//! when it is repeated. `scripts/trials/refusals.py` makes each allocation fail in turn.
 use crate::tests::outcomes::{Asked, OFF};
 use qh_fixtures::files::{CUBE, CUBE_OFF, OCTAHEDRON, OCTAHEDRON_OFF, SQUARE, SQUARE_OFF};
 use qh_read::{MemSource, ReadFault};
@@ -17,7 +17,7 @@ const ROWS: [(&str, u32, &str); 3] = [
     (OCTAHEDRON, 3, OCTAHEDRON_OFF),
 ];
 
-/// Settings for `off`, asked for again if an allocation failed.
+/// Returns settings for `off`. Repeats the call if an allocation failed.
 fn settings_again(alloc: Global, workers: u32, block: u32) -> Result<Settings, SettingsError> {
     let asked = Asked {
         workers,
@@ -30,7 +30,7 @@ fn settings_again(alloc: Global, workers: u32, block: u32) -> Result<Settings, S
     }
 }
 
-/// Returns true if `answer`, called again if an allocation failed, gives this text.
+/// Returns true if `answer` returns this text. Repeats the call if an allocation failed.
 fn answers<R: Threads + Sync>(
     rt: &R,
     alloc: Global,
@@ -45,10 +45,10 @@ fn answers<R: Threads + Sync>(
     text.is_ok_and(|text| text.as_slice() == want)
 }
 
-/// How `serve` came out between devices in memory.
+/// The result of `serve` with devices in memory.
 #[derive(Clone, Copy, Debug, PartialEq, Eq, Drop)]
 enum Served {
-    /// All of the text was sent.
+    /// The whole text was sent.
     Right,
     /// Nothing was sent: an allocation of the hull or of the sink itself failed.
     Refused,
@@ -119,8 +119,8 @@ fn tries_again_with_seven_workers(rt: HostRuntime) -> Result<(), Fail> {
     Ok(())
 }
 
-/// This is to pass where a growth of the one worker was refused, too, and the calling thread took the
-/// hull in its place; where one of the calling thread's was, it fails.
+/// This test passes even if an allocation of the only worker fails, since the calling thread then takes the hull. It
+/// fails if an allocation of the calling thread fails.
 #[test]
 fn falls_back(rt: HostRuntime) -> Result<(), Fail> {
     let asked = Asked {

@@ -1,4 +1,4 @@
-//! Point files with the texts that they give.
+//! Point files with their texts.
 use super::assert_rows;
 use crate::tests::outcomes::{Asked, OFF, RANK, SUMMARY};
 use qh_fixtures::files::{ONE_POINT, SQUARE, SQUARE_OFF};
@@ -7,7 +7,7 @@ use std::test::Fail;
 
 const FIVE_IN_LINE: &str = "3\n5\n1 1 1\n0 0 0\n4 4 4\n2 2 2\n3 3 3\n";
 
-/// Settings, an input and the text that it answers, for points in one plane.
+/// Settings, an input and its text, for points in one plane.
 const ROWS: [(Asked, &str, &str); 13] = [
     (
         Asked {
@@ -55,7 +55,7 @@ const ROWS: [(Asked, &str, &str); 13] = [
         "3\n4\n5 0 0\n5 0 2\n5 2 2\n5 2 0\n",
         "OFF\n4 1 4\n5 0 0\n5 0 2\n5 2 2\n5 2 0\n4 0 3 2 1\n",
     ),
-    // Repeats: the lowest index of equal points stands, here 1 and 3 among others.
+    // Repeats: the lowest index represents equal points, here 1 and 3 among others.
     (
         Asked {
             outs: &[Out::Rank, Out::Fx],
@@ -64,7 +64,7 @@ const ROWS: [(Asked, &str, &str); 13] = [
         "3\n6\n1 1 0\n0 0 0\n0 0 0\n2 0 0\n2 0 0\n0 2 0\n",
         "6 4 2\n3\n1\n3\n5\n",
     ),
-    // A triangle with points inside its edges and within it.
+    // A triangle with points on its edges and inside it.
     (
         OFF,
         "3\n6\n0 0 7\n4 0 7\n2 0 7\n0 4 7\n2 2 7\n1 1 7\n",

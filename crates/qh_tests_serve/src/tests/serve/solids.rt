@@ -32,33 +32,33 @@ pub(super) const LIMIT_CUBE_OFF: &str =
 const OCTAHEDRON_SUMMARY: &str =
     "Convex hull of 18 points in 3-d:\n  dimension: 3\n  distinct points: 18\n  extreme points: 6\n  facets: 8\n  edges: 12\n";
 
-/// Four points far apart, with coordinates to 2^20, of which the volume is -1.
+/// Four points far apart, with coordinates up to 2^20, whose volume is -1.
 const NEAR_FLAT: &str = "3\n4\n0 0 0\n1048576 1048575 0\n1048575 1048574 0\n1048576 1048576 1\n";
 
 const NEAR_FLAT_OFF: &str =
     "OFF\n4 4 6\n0 0 0\n1048576 1048575 0\n1048575 1048574 0\n1048576 1048576 1\n3 0 1 2\n3 0 2 3\n3 0 3 1\n3 1 3 2\n";
 
-/// Four points far apart, with coordinates to the limit, of which the volume is -1.
+/// Four points far apart, with coordinates up to the limit, whose volume is -1.
 const LIMIT_NEAR_FLAT: &str =
     "3\n4\n0 0 0\n1073741824 1073741823 0\n1073741823 1073741822 0\n1073741824 1073741824 1\n";
 
 const LIMIT_NEAR_FLAT_OFF: &str =
     "OFF\n4 4 6\n0 0 0\n1073741824 1073741823 0\n1073741823 1073741822 0\n1073741824 1073741824 1\n3 0 1 2\n3 0 2 3\n3 0 3 1\n3 1 3 2\n";
 
-/// Four points of which the last is one lattice step over the middle of the others. The volume is 9.
+/// Four points, the last of which is one lattice step above the middle of the others. The volume is 9.
 const SLIVER: &str = "3\n4\n0 0 0\n900000 899997 0\n0 900000 899997\n300001 600001 300000\n";
 
 const SLIVER_OFF: &str =
     "OFF\n4 4 6\n0 0 0\n900000 899997 0\n0 900000 899997\n300001 600001 300000\n3 0 1 3\n3 0 2 1\n3 0 3 2\n3 1 2 3\n";
 
-/// The same with coordinates to the limit.
+/// The same with coordinates up to the limit.
 const LIMIT_SLIVER: &str =
     "3\n4\n0 0 0\n1073741823 1073741820 0\n0 1073741823 1073741820\n357913942 715827883 357913941\n";
 
 const LIMIT_SLIVER_OFF: &str =
     "OFF\n4 4 6\n0 0 0\n1073741823 1073741820 0\n0 1073741823 1073741820\n357913942 715827883 357913941\n3 0 1 3\n3 0 2 1\n3 0 3 2\n3 1 2 3\n";
 
-/// Settings, an input and the text that it answers.
+/// Settings, an input and its text.
 const ROWS: [(Asked, &str, &str); 23] = [
     (OFF, TETRAHEDRON, TETRAHEDRON_OFF),
     (OFF, "4 3\n0 0 0\n1 0 0\n0 1 0\n0 0 1\n", TETRAHEDRON_OFF),
@@ -120,7 +120,7 @@ const ROWS: [(Asked, &str, &str); 23] = [
     (OFF, LIMIT_NEAR_FLAT, LIMIT_NEAR_FLAT_OFF),
     (OFF, SLIVER, SLIVER_OFF),
     (OFF, LIMIT_SLIVER, LIMIT_SLIVER_OFF),
-    // One point three times, and three others: the lowest index of the three stands.
+    // One point three times, and three others: the lowest index represents the equal ones.
     (
         Asked {
             outs: &[Out::Rank, Out::Fx],
@@ -129,7 +129,7 @@ const ROWS: [(Asked, &str, &str); 23] = [
         "3\n6\n1 0 0\n0 0 0\n0 1 0\n0 0 0\n0 0 1\n0 0 0\n",
         "6 4 3\n4\n0\n1\n2\n4\n",
     ),
-    // Each corner is cut into a block of its own.
+    // Each corner is in its own block.
     (
         Asked {
             block: 1,

@@ -1,8 +1,7 @@
-//! Workers that are held back until others have done something, which they see only where they run at
-//! once.
+//! Workers that are blocked until other workers have made a step, which succeeds only if they run in parallel.
 //!
-//! The points are those of an octahedron and the middles of its edges, in blocks of 3. The gates take
-//! the hull of no other list than that of the extreme ids.
+//! The points are those of an octahedron and the middles of its edges, in blocks of 3. The gates accept only the list
+//! of the extreme ids for the hull.
 ghost use Rattle.std.specs.Prelude.{◌≤◌, length};
 ghost use Rattle.qh_model.specs.declared.limits.TheConstants.{POINT_LIMIT};
 
@@ -21,13 +20,13 @@ use std::sync::atomic::{AtomicU64, Ordering};
 use std::test::Fail;
 use std::thread::Threads;
 
-/// How many turns a worker is held back at most.
+/// The greatest number of turns for which a worker is blocked.
 const TURNS: u64 = 1000000000;
 
 /// The extreme ids.
 const EXTREMES: [usize; 6] = [0, 2, 3, 5, 6, 9];
 
-/// Which blocks are held back once they are claimed.
+/// The blocks that are held after they are claimed.
 #[derive(Clone, Copy, Debug, Drop)]
 enum Holds {
     /// Block 0, until block 1 was delivered.
@@ -36,13 +35,13 @@ enum Holds {
     ThreeUntilAll,
 }
 
-/// A gate that holds blocks back.
+/// A gate that holds blocks.
 #[derive(Drop)]
 struct Hold {
     holds: Holds,
-    /// How many of the events came that it waits for.
+    /// The number of awaited events that have happened.
     came: AtomicU64,
-    /// How many workers went on before all came.
+    /// The number of workers that continued before all events had happened.
     late: AtomicU64,
 }
 
@@ -60,7 +59,7 @@ impl Hold {
         self.came.fetch_add(1, Ordering::SeqCst);
     }
 
-    /// Waits until a number of events came, for `TURNS` turns at most.
+    /// Waits until a number of events have happened, for at most `TURNS` turns.
     fn wait(&self, events: u64) {
         for _ in 0..TURNS {
             if self.came.load(Ordering::SeqCst) >= events {
@@ -70,7 +69,7 @@ impl Hold {
         self.late.fetch_add(1, Ordering::SeqCst);
     }
 
-    /// Returns true if the events came, and before any worker went on.
+    /// Returns true if the events happened before any worker continued.
     fn came_in_time(&self) -> bool {
         self.came.load(Ordering::SeqCst) > 0 && self.late.load(Ordering::SeqCst) == 0
     }
@@ -107,7 +106,7 @@ impl Gate for Hold {
     }
 }
 
-/// A gate that takes no hull.
+/// A gate that returns no hull.
 struct NoHull;
 
 impl Gate for NoHull {
@@ -120,7 +119,7 @@ impl Gate for NoHull {
     }
 }
 
-/// The calls that a gate watches.
+/// The calls that a gate observes.
 #[derive(Clone, Copy, Debug, Drop)]
 pub(super) enum Watched {
     RunHull,
@@ -128,10 +127,10 @@ pub(super) enum Watched {
     Serve,
 }
 
-/// Each of them.
+/// All of these calls.
 pub(super) const WATCHED: [Watched; 3] = [Watched::RunHull, Watched::Answer, Watched::Serve];
 
-/// Returns the text of the hull that `run_hull` takes of the points, in blocks of 3.
+/// Returns the text of the hull that `run_hull` computes for the points, in blocks of 3.
 fn text_by<R: Threads + Sync, G: Gate>(
     rt: &R,
     alloc: Global,
@@ -151,7 +150,7 @@ fn text_by<R: Threads + Sync, G: Gate>(
     Ok(text(alloc, &hull, points, settings.outs())?)
 }
 
-/// Returns the outcome of `run_hull`, watched by a gate.
+/// Returns the outcome of `run_hull`, observed by a gate.
 fn hulled_by<R: Threads + Sync, G: Gate>(
     rt: &R,
     alloc: Global,
@@ -165,7 +164,7 @@ fn hulled_by<R: Threads + Sync, G: Gate>(
     }
 }
 
-/// Returns the outcome of a call on the points under settings, watched by a gate.
+/// Returns the outcome of a call on the points with settings, observed by a gate.
 pub(super) fn outcome_by<R: AllocGlobal + Threads + Sync, G: Gate>(
     rt: &R,
     watched: Watched,
@@ -181,10 +180,10 @@ pub(super) fn outcome_by<R: AllocGlobal + Threads + Sync, G: Gate>(
     }
 }
 
-/// The texts of `off` by blocks of 3 points.
+/// The texts of `off` with blocks of 3 points.
 pub(super) const BY_THREES: Asked<'static> = Asked { block: 3, ..OFF };
 
-/// Settings, and what a gate holds back under them.
+/// Settings, and the blocks that a gate holds.
 const HELD: [(Asked, Holds); 2] = [
     (
         Asked {
@@ -202,7 +201,8 @@ const HELD: [(Asked, Holds); 2] = [
     ),
 ];
 
-/// Asserts that the blocks that a gate holds back are waited for by no other worker, and change nothing.
+/// Asserts that no other worker waits for the blocks that a gate holds, and that holding them does not change the
+/// result.
 fn assert_held<R: AllocGlobal + Abort + Threads + Sync>(
     rt: &R,
     watched: Watched,
@@ -226,7 +226,7 @@ fn workers_run_at_once(rt: HostRuntime) -> Result<(), Fail> {
     Ok(())
 }
 
-/// Asserts that a call is out of memory where its gate takes no hull.
+/// Asserts that a call is out of memory if its gate returns no hull.
 fn assert_no_hull<R: AllocGlobal + Abort + Threads + Sync>(
     rt: &R,
     watched: Watched,

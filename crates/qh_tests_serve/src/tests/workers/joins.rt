@@ -1,4 +1,4 @@
-//! Runs in many small blocks: what workers find in two blocks is joined in the tree.
+//! Runs in many small blocks: the tree joins the results of two blocks.
 use super::paraboloid::{asked_in, points};
 use super::stored_points::STORED;
 use crate::tests::outcomes::{Asked, Call};
@@ -9,18 +9,18 @@ use std::sync::atomic::{AtomicU64, Ordering};
 use std::test::Fail;
 use std::thread::Threads;
 
-/// A gate that counts the nodes both of whose children are blocks that were delivered: the pass that came
-/// second took the extreme ids of both together.
+/// A gate that counts the nodes whose children are both delivered blocks: the pass that arrived second took the extreme
+/// ids of both together.
 #[derive(Drop)]
 pub struct Joins {
     blocks: u32,
-    /// For each node above the leaves, the number of its blocks that were delivered.
+    /// The number of delivered blocks of each node above the leaves.
     delivered: Vec<AtomicU64>,
     joins: AtomicU64,
 }
 
 impl Joins {
-    /// Returns a gate for a board of this many blocks.
+    /// Returns a gate for a board with `blocks` blocks.
     pub fn of(alloc: Global, blocks: u32) -> Result<Joins, AllocError> {
         let mut delivered = Vec::with_capacity(alloc, blocks as usize)?;
         for _ in 0..blocks {
@@ -56,7 +56,7 @@ impl Gate for Joins {
     }
 }
 
-/// Returns how many nodes joined the values of two blocks in a run that answers, over a number of blocks.
+/// Returns the number of nodes that joined the values of two blocks, in a run with an answer and this number of blocks.
 fn joins_of<R: AllocGlobal + Threads + Sync>(
     rt: &R,
     asked: Asked,
@@ -74,7 +74,7 @@ fn joins_of<R: AllocGlobal + Threads + Sync>(
 
 #[test]
 fn the_stored_run_joins_all_pairs(rt: HostRuntime) -> Result<(), Fail> {
-    // 264 distinct points in blocks of 3 are 88 blocks, of which each has a sibling.
+    // 264 distinct points in blocks of 3 are 88 blocks, each of which has a sibling.
     let joins = joins_of(&rt, asked_in((7, 3)), STORED.as_bytes(), 88)?;
     assert_eq!(rt; joins, 44);
     Ok(())

@@ -1,5 +1,5 @@
-//! The 20,000 points of a paraboloid, all of them extreme, in four settings, and 60,000 whose hull is taken by
-//! threads.
+//! The 20,000 points of a paraboloid, all of them extreme, with four settings, and 60,000 points whose hull is computed
+//! by several threads.
 use crate::tests::outcomes::{Asked, Call, OFFT, Outcome, SUMMARY, push_point};
 use qh_run::{Gate, NoGate};
 use qh_serve::Threaded;
@@ -9,7 +9,7 @@ use std::process::Abort;
 use std::test::Fail;
 use std::thread::Threads;
 
-/// The most points that are made: their coordinates fit.
+/// The greatest number of points that are created: their coordinates fit.
 const COUNT_LIMIT: u32 = 60000;
 
 const BEGINNING: &str =
@@ -24,7 +24,7 @@ const OUTPUTS: Asked<'static> = Asked {
 /// Numbers of workers and sizes of blocks.
 const WAYS: [(u32, u32); 4] = [(1, 20000), (2, 4096), (7, 4), (64, 4096)];
 
-/// Returns the outputs by a number of workers, in blocks of a size.
+/// Returns the outputs with a number of workers and a block size.
 pub fn asked_in(way: (u32, u32)) -> Asked<'static> {
     let (workers, block) = way;
     Asked {
@@ -44,7 +44,7 @@ pub fn points(alloc: Global, count: u32) -> Result<String, AllocError> {
     Ok(text)
 }
 
-/// Returns the outcome of `answer` for an input under settings, watched by a gate.
+/// Returns the outcome of `answer` for an input with settings, observed by a gate.
 fn outcome_of<R: AllocGlobal + Threads + Sync, G: Gate>(
     rt: &R,
     asked: Asked,
@@ -55,7 +55,7 @@ fn outcome_of<R: AllocGlobal + Threads + Sync, G: Gate>(
     Ok(Call::new(input, &settings, gate).answered(rt, rt.alloc())?)
 }
 
-/// Asserts that the text of an input in a way is another one.
+/// Asserts that the text of an input with these settings equals another text.
 fn assert_same<R: AllocGlobal + Abort + Threads + Sync>(
     rt: &R,
     way: (u32, u32),
@@ -78,7 +78,7 @@ fn has_one_text_in_all_settings(rt: HostRuntime) -> Result<(), Fail> {
     Ok(())
 }
 
-/// How `offt` begins: one vertex for each point, 39,996 triangles, and their edges.
+/// The beginning of `offt`: one vertex for each point, 39,996 triangles, and their edges.
 const TRIANGLES: &str = "OFF\n20000 39996 59994\n";
 
 #[test]
@@ -86,7 +86,7 @@ fn has_its_triangles(rt: HostRuntime) -> Result<(), Fail> {
     let input = points(rt.alloc(), 20000)?;
     let outcome = outcome_of(&rt, OFFT, input.as_bytes(), &NoGate)?;
     assert!(rt; outcome.output.starts_with(TRIANGLES));
-    // Two lines of counts, and one for each vertex; all that follow are triangles.
+    // Two lines of counts and one line for each vertex are skipped; all lines after them are triangles.
     let faces = outcome.output.lines().skip(2 + 20000);
     let count = faces.filter(|line| line.starts_with("3 ")).count();
     assert_eq!(rt; count, 39996);

@@ -1,4 +1,4 @@
-//! A gate that keeps what it was told: which pass claimed and delivered each block.
+//! A gate that records the notifications: the passes that claimed and delivered each block.
 use super::gated::{BY_THREES, WATCHED, Watched, outcome_by};
 use crate::tests::outcomes::Asked;
 use qh_fixtures::files::OCTAHEDRON_OFF;
@@ -10,32 +10,32 @@ use std::sync::atomic::{AtomicU64, Ordering};
 use std::test::Fail;
 use std::thread::Threads;
 
-/// How many blocks of 3 the points have.
+/// The number of blocks of 3 points.
 const BLOCKS: u32 = 6;
 
-/// What is kept of a block before it is claimed.
+/// The state of a block before it is claimed.
 const FREE: u64 = 0;
 
-/// What is kept of a block after it was delivered.
+/// The state of a block after it is delivered.
 const DELIVERED: u64 = 1000;
 
-/// Returns what is kept of a block between: the pass that claimed it, and 1.
+/// Returns the state of a claimed block: the pass that claimed it, plus 1.
 fn claimed_by(pass: u32) -> u64 {
     u64::from(pass).wrapping_add(1)
 }
 
-/// A gate that keeps what it was told of each block.
+/// A gate that records the state of each block.
 #[derive(Drop)]
 struct Keeper {
     passes: u32,
     blocks: Vec<AtomicU64>,
-    /// How often it was told what is wrong: of a pass or a block that there is not, of a block that was
-    /// claimed before, or that another pass had claimed.
+    /// The number of wrong notifications: of a pass or a block that does not exist, of a block that was claimed before,
+    /// or of a block that another pass had claimed.
     wrong: AtomicU64,
 }
 
 impl Keeper {
-    /// Creates a keeper for a run of a number of passes.
+    /// Creates a recording gate for a run of a number of passes.
     fn new(alloc: Global, passes: u32) -> Result<Keeper, AllocError> {
         let mut blocks = Vec::new(alloc);
         for _ in 0..BLOCKS {
@@ -48,7 +48,7 @@ impl Keeper {
         })
     }
 
-    /// Keeps what a pass did with a block, of which it should have kept `before`.
+    /// Records a step of a pass at a block, whose state should be `before`.
     fn keep(&self, pass: u32, block: u32, before: u64, after: u64) {
         let is_right = match self.blocks.get(block as usize) {
             Some(kept) if pass < self.passes => kept.swap(after, Ordering::SeqCst) == before,
@@ -83,10 +83,10 @@ impl Gate for Keeper {
     }
 }
 
-/// Numbers of workers, with how many passes there are: no more than blocks.
+/// The numbers of workers, with the numbers of passes, which do not exceed the number of blocks.
 const PASSES: [(u32, u32); 5] = [(1, 1), (2, 2), (5, 5), (6, 6), (64, 6)];
 
-/// Asserts what a call tells its gate, by a number of workers and of passes.
+/// Asserts the notifications of a call, with a number of workers and of passes.
 fn assert_told<R: AllocGlobal + Abort + Threads + Sync>(
     rt: &R,
     watched: Watched,
@@ -104,7 +104,7 @@ fn assert_told<R: AllocGlobal + Abort + Threads + Sync>(
     Ok(())
 }
 
-/// Asserts what a call tells its gate, by each number of workers and of passes.
+/// Asserts the notifications of a call, with each number of workers and of passes.
 fn assert_each_told<R: AllocGlobal + Abort + Threads + Sync>(
     rt: &R,
     watched: Watched,

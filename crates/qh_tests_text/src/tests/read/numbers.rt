@@ -1,4 +1,4 @@
-//! The borders of what is taken at once: in both forms, with many bytes after it or few.
+//! The limits of numbers that are parsed as a whole: in both forms, with many bytes after them or few.
 
 use super::{Place, Way, assert_fault, assert_points, joined, read_cut};
 use qh_model::Form;
@@ -7,7 +7,7 @@ use std::alloc::{AllocError, Global};
 use std::process::Abort;
 use std::test::Fail;
 
-/// More bytes than a point that is taken at once asks for.
+/// More bytes than the fast path for a point requires.
 const BLANKS: &str = "                                                                ";
 
 /// The heads of files of two points in both forms, of two lines each.
@@ -69,7 +69,7 @@ const REFUSED: [(&str, ReadFault); 15] = [
     ("1 2 3\n4 5\n", ReadFault::Short),
 ];
 
-/// Asserts the points of a head and a body, wherever they are cut in two.
+/// Asserts the points of a head and a body, for each position at which they are cut in two.
 fn assert_read<R: AllocGlobal + Abort>(
     rt: &R,
     form: Form,
@@ -106,7 +106,7 @@ fn reads_points_at_once(rt: HostRuntime) -> Result<(), Fail> {
     Ok(())
 }
 
-/// Asserts the first fault of a head and a body, wherever they are cut in two.
+/// Asserts the first fault of a head and a body, for each position at which they are cut in two.
 fn assert_refused<R: AllocGlobal + Abort>(
     rt: &R,
     form: Form,
@@ -143,8 +143,8 @@ fn finds_faults_after_points_at_once(rt: HostRuntime) -> Result<(), Fail> {
     Ok(())
 }
 
-/// Returns a file of 400 points, in which every second point shares its line with words that are no numbers,
-/// and its points.
+/// Returns a file of 400 points, in which every second point shares its line with words that are not numbers, and its
+/// points.
 fn long_file(alloc: Global) -> Result<(Vec<u8>, Vec<Place>), AllocError> {
     let mut text = Vec::from_slice(alloc, b"3\n400\n")?;
     let mut places = Vec::new(alloc);
@@ -166,7 +166,7 @@ fn tells_long_files_and_their_lines(rt: HostRuntime) -> Result<(), Fail> {
     Ok(())
 }
 
-/// Feeds a point with sixteen million blanks and ends of lines before it.
+/// Feeds a point after sixteen million blanks and line ends.
 fn feed_late_point(reader: &mut Reader) -> Result<(), FeedFault> {
     let (blanks, lines) = ([b' '; 65536], [b'\n'; 65536]);
     reader.feed(b"3 1 ")?;
@@ -177,7 +177,7 @@ fn feed_late_point(reader: &mut Reader) -> Result<(), FeedFault> {
     reader.feed(b"5 5 5")
 }
 
-/// Gone over again for each byte, sixteen million of them would take hours.
+/// If the blanks were scanned again for each byte, sixteen million of them would take hours.
 #[test]
 fn goes_over_blanks_before_a_point_once(rt: HostRuntime) -> Result<(), Fail> {
     let mut reader = Reader::new(rt.alloc());

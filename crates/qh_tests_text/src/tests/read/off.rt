@@ -9,7 +9,7 @@ use std::process::Abort;
 use std::test::Fail;
 use std::thread::Threads;
 
-/// OFF files with their vertices. Source: the rows of texts, comments and faces that say nothing.
+/// OFF files with their vertices. Source: the rows of texts, comments and ignored faces.
 const READ: [(&str, &[Place]); 14] = [
     ("OFF\n1 1 0\n5 5 5\n1 0\n", &[(5, 5, 5)]),
     ("OFF\n2 1 1\n0 0 0\n2 2 2\n2 0 1\n", &[(0, 0, 0), (2, 2, 2)]),
@@ -104,7 +104,7 @@ fn finds_first_faults(rt: HostRuntime) {
     assert_refused(&rt, &REFUSED);
 }
 
-/// Returns the reading of one vertex byte by byte, where the read with this number fails.
+/// Returns the result of reading one vertex byte by byte, where the read with this number fails.
 fn read_failing(alloc: Global, fails_at: u64) -> Result<Vec<Point>, ReadFault> {
     let mut source = FailSource::new(b"OFF\n1 0 0\n5 5 5\n", 1, Some(fails_at));
     read_off_from(alloc, &mut source)

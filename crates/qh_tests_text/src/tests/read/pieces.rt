@@ -32,7 +32,7 @@ fn cuts_change_nothing(rt: HostRuntime) {
     }
 }
 
-/// Returns a million times this digit after a beginning, and an end.
+/// Returns a text with this digit a million times between a beginning and an end.
 fn long_word(alloc: Global, front: &[u8], digit: u8, back: &[u8]) -> Result<Vec<u8>, AllocError> {
     let mut bytes = Vec::from_slice(alloc, front)?;
     let digits = Vec::from_elem(alloc, digit, 1000000)?;
@@ -74,7 +74,7 @@ fn finds_no_header_in_nothing(rt: HostRuntime) -> Result<(), Fail> {
     Ok(())
 }
 
-/// Feeds one point, and blanks up to the most bytes that a reader takes.
+/// Feeds one point, and blanks up to the greatest number of bytes that a reader accepts.
 fn fill(reader: &mut Reader) -> Result<(), FeedFault> {
     let blanks = [b' '; 65536];
     reader.feed(b"3 1 5 5 5 ")?;

@@ -1,4 +1,4 @@
-//! A source over a reader of std: what its failures are, and that none is read on.
+//! A source over a reader of std: its failures, after which no further read follows.
 use qh_model::BYTE_LIMIT;
 use qh_read::{ReadFault, Source, StdSource, read_from};
 use std::alloc::Global;
@@ -6,11 +6,11 @@ use std::io;
 use std::io::{ErrorKind, Read};
 use std::sync::atomic::{AtomicU64, Ordering};
 
-/// Gives one point file byte by byte, but fails at one of the reads.
+/// A reader that returns one point file byte by byte, and fails at one of the reads.
 #[derive(Drop)]
 struct Failing<'a> {
     rest: &'a [u8],
-    /// How many reads there were.
+    /// The number of reads.
     reads: &'a AtomicU64,
     /// The number of the read that fails, from 1.
     fails_at: u64,
@@ -31,7 +31,7 @@ impl Read for Failing<'_> {
     }
 }
 
-/// Gives blanks without end, and counts them.
+/// A reader that returns blanks without end, and counts them.
 #[derive(Drop)]
 struct Endless<'a> {
     given: &'a AtomicU64,
@@ -45,7 +45,7 @@ impl Read for Endless<'_> {
     }
 }
 
-/// Returns the fault of a reading of blanks without end, and how many were read.
+/// Returns the fault of reading blanks without end, and the number of blanks read.
 fn read_without_end(alloc: Global) -> (Option<ReadFault>, u64) {
     let given = AtomicU64::new(0);
     let mut source = StdSource::new(Endless { given: &given });
@@ -63,8 +63,8 @@ fn reads_one_piece_too_many(rt: HostRuntime) {
     );
 }
 
-/// Returns the fault of a reading whose reader fails at a read, how many failures the source counted, and how
-/// many reads there were.
+/// Returns the fault of a reading whose reader fails at one read, the number of failures that the source counted, and
+/// the number of reads.
 fn read_failing(alloc: Global, kind: ErrorKind, fails_at: u64) -> (Option<ReadFault>, u64, u64) {
     let reads = AtomicU64::new(0);
     let rest = b"3\n1\n5 5 5\n".as_slice();
@@ -81,13 +81,13 @@ fn read_failing(alloc: Global, kind: ErrorKind, fails_at: u64) -> (Option<ReadFa
 
 #[test]
 fn reads_no_reader_that_failed(rt: HostRuntime) {
-    // An interrupted read is a failure like others, though the reader would go on.
+    // An interrupted read is a failure like others, although the reader could continue.
     for kind in [
         ErrorKind::Other,
         ErrorKind::Interrupted,
         ErrorKind::WouldBlock,
     ] {
-        // The 10 bytes, and their end.
+        // The 10 bytes, and the end.
         for fails_at in 1..12 {
             let found = read_failing(rt.alloc(), kind, fails_at);
             let want = (Some(ReadFault::Device), 1, fails_at);

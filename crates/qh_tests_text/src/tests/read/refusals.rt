@@ -1,5 +1,5 @@
-//! Readings of which one growth is refused: the points are right, or memory was wanted and the same
-//! call gives them. `scripts/trials/refusals.py` refuses each growth in turn.
+//! Readings during which one allocation fails: the points are right, or the call is out of memory and returns the right
+//! points when it is repeated. `scripts/trials/refusals.py` makes each allocation fail in turn.
 use super::{CUBE_CORNERS, Place, Way, assert_points};
 use qh_fixtures::files::{CUBE, OCTAHEDRON, SQUARE};
 use qh_model::{Form, Point};
@@ -41,7 +41,7 @@ const ROWS: [(&str, &[Place]); 3] = [
     ),
 ];
 
-/// Feeds each byte by itself, a refused one once more.
+/// Feeds each byte separately. Repeats a call that fails.
 fn feed_again(reader: &mut Reader, bytes: &[u8]) -> Result<(), FeedFault> {
     for piece in bytes.chunks(1) {
         if reader.feed(piece) == Err(FeedFault::Memory) {
@@ -51,14 +51,14 @@ fn feed_again(reader: &mut Reader, bytes: &[u8]) -> Result<(), FeedFault> {
     Ok(())
 }
 
-/// Returns the reading of these bytes one by one.
+/// Returns the result of reading these bytes one by one.
 fn fed(alloc: Global, bytes: &[u8]) -> Result<Vec<Point>, ReadFault> {
     let mut reader = Reader::new(alloc);
     feed_again(&mut reader, bytes)?;
     reader.finish()
 }
 
-/// Returns the reading of a whole text, once more where it is refused.
+/// Returns the result of reading a whole text. Repeats the call if it fails.
 fn whole(alloc: Global, bytes: &[u8]) -> Result<Vec<Point>, ReadFault> {
     match read_points(alloc, bytes) {
         Err(ReadFault::Memory) => read_points(alloc, bytes),
@@ -66,7 +66,7 @@ fn whole(alloc: Global, bytes: &[u8]) -> Result<Vec<Point>, ReadFault> {
     }
 }
 
-/// Returns the reading of a source, once more where it is refused.
+/// Returns the result of reading a source. Repeats the call if it fails.
 fn streamed(alloc: Global, bytes: &[u8]) -> Result<Vec<Point>, ReadFault> {
     match read_from(alloc, &mut MemSource::new(bytes)) {
         Err(ReadFault::Memory) => read_from(alloc, &mut MemSource::new(bytes)),
@@ -74,7 +74,7 @@ fn streamed(alloc: Global, bytes: &[u8]) -> Result<Vec<Point>, ReadFault> {
     }
 }
 
-/// Returns the reading of a source in batches of a few bytes, once more where it is refused.
+/// Returns the result of reading a source in batches of a few bytes. Repeats the call if it fails.
 fn threaded<R: Threads + Sync>(
     rt: &R,
     alloc: Global,

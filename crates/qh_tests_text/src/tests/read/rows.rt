@@ -90,12 +90,12 @@ pub const REFUSED: [(&str, ReadFault); 37] = [
     ("3\n1\n0 0 0\0", ReadFault::BadNumber(3)),
 ];
 
-/// Words that are no numbers, though their beginnings are those of numbers.
+/// Words that are not numbers, although they begin as numbers.
 const NO_NUMBERS: [&str; 12] = [
     "7.", ".7", "7e0", "2nd", "+", "-", "--7", "+-7", "0.5", "5/", "5:", "1,5",
 ];
 
-/// Asserts the points of each file: whole, and by threads.
+/// Asserts the points of each file: read as a whole, and with threads.
 fn assert_read<R: AllocGlobal + Abort + Threads + Sync>(rt: &R, rows: &[(&str, &[Place])]) {
     for (text, places) in rows {
         let bytes = text.as_bytes();
@@ -138,7 +138,7 @@ fn refuses_words_that_are_no_numbers(rt: HostRuntime) -> Result<(), Fail> {
     Ok(())
 }
 
-/// Returns how many points the beginning of the cube with this length gives, or its fault.
+/// Returns the number of points in the first `length` bytes of the cube file, or the fault.
 fn count_in_beginning(alloc: Global, length: usize) -> Result<usize, ReadFault>
     requires { length ≤ 52 }
 {

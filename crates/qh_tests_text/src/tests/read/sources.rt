@@ -1,4 +1,4 @@
-//! Bytes that come from a source.
+//! Bytes from a source.
 use super::{TETRAHEDRON, Way, assert_fault, assert_points};
 use qh_fixtures::files::{COMMENTED_TETRAHEDRON, CUBE};
 use qh_read::fakes::{FailSource, Spaces};
@@ -16,8 +16,8 @@ fn reads_to_the_end(rt: HostRuntime) {
     assert_eq!(rt; source.failures(), 0);
 }
 
-/// Returns how many points the cube gives byte by byte where the read with this number fails, or the fault, and
-/// how many failures the source counted.
+/// Returns the number of points of the cube file, read byte by byte where the read with this number fails, or the
+/// fault, and the number of failures that the source counted.
 fn read_failing(alloc: Global, fails_at: u64) -> (Result<usize, ReadFault>, u64) {
     let mut source = FailSource::new(CUBE.as_bytes(), 1, Some(fails_at));
     let outcome = read_from(alloc, &mut source);
@@ -31,7 +31,7 @@ fn read_failing(alloc: Global, fails_at: u64) -> (Result<usize, ReadFault>, u64)
 #[test]
 fn tells_a_failing_read(rt: HostRuntime) {
     for fails_at in 1..55 {
-        // The 52 bytes and their end are 53 reads.
+        // The 52 bytes and the end are 53 reads.
         let want = match fails_at {
             54 => (Ok(8), 0),
             _ => (Err(ReadFault::Device), 1),

@@ -1,7 +1,7 @@
 //! Texts read by several threads, in batches and segments of a few bytes.
 //!
-//! A segment tells points only after the end of its first line, and of numbers that eleven bytes follow, so the texts
-//! are longer than those of the other rows.
+//! A segment contains points only after the end of its first line, and only from numbers that are followed by eleven
+//! bytes, so these texts are longer than those of the other rows.
 use super::{Place, Way, assert_fault, assert_points, joined, off, rows};
 use qh_model::{Form, Point};
 use qh_read::fakes::{FailSource, Spaces};
@@ -11,7 +11,7 @@ use std::process::Abort;
 use std::test::Fail;
 use std::thread::Threads;
 
-/// A line for each point, of every layout.
+/// A line for each point, in every layout.
 const LINES: [&str; 24] = [
     "0 -1 0\n",
     "-8\t-7  8\n",
@@ -39,7 +39,7 @@ const LINES: [&str; 24] = [
     "00000038334 835296 -279680\n",
 ];
 
-/// Their points.
+/// The points of these lines.
 const PLACES: [Place; 24] = [
     (0, -1, 0),
     (-8, -7, 8),
@@ -67,7 +67,7 @@ const PLACES: [Place; 24] = [
     (38334, 835296, -279680),
 ];
 
-/// What may stand before them, with the number of its lines.
+/// Headers for these lines, with their number. Each header has two lines.
 const HEADERS: [(Form, &str); 2] = [
     (Form::Qhull, "3 lines\n24\n"),
     (Form::Off, "OFF # lines\n24 1 1\n"),
@@ -115,7 +115,7 @@ const SMALL: [Sizes; 6] = [
     },
 ];
 
-/// Returns the reading of these bytes in these sizes.
+/// Returns the result of reading these bytes in these sizes.
 fn read_sizes<R: Threads + Sync>(
     rt: &R,
     alloc: Global,
@@ -126,7 +126,7 @@ fn read_sizes<R: Threads + Sync>(
     read_form_sizes(rt, alloc, form, &mut MemSource::new(bytes), sizes)
 }
 
-/// Returns the lines after a header, the line of this number exchanged for another.
+/// Returns the lines after a header, with the line of this number replaced by another.
 fn with_line(alloc: Global, header: &str, place: usize, line: &str) -> Result<Vec<u8>, AllocError> {
     let mut bytes = joined(alloc, &[header])?;
     for (i, other) in LINES.iter().enumerate() {
@@ -202,7 +202,7 @@ fn reads_lines_cut_anywhere(rt: HostRuntime) -> Result<(), Fail> {
 fn tells_the_line_of_each_fault(rt: HostRuntime) -> Result<(), Fail> {
     for (form, header) in HEADERS {
         for place in 0..24 {
-            // Two lines stand before the points.
+            // There are two lines before the points.
             let line = 3 + place as u32;
             let bad = with_line(rt.alloc(), header, place, "7 7.5 7\n")?;
             let far = with_line(rt.alloc(), header, place, "7 1073741825 7\n")?;
@@ -250,8 +250,8 @@ fn reads_no_comment_and_no_face(rt: HostRuntime) -> Result<(), Fail> {
     Ok(())
 }
 
-/// Returns the reading of one point byte by byte in batches of four, where the read with this number fails, and
-/// how many failures the source counted.
+/// Returns the result of reading one point byte by byte in batches of four, where the read with this number fails, and
+/// the number of failures that the source counted.
 fn read_failing<R: Threads + Sync>(
     rt: &R,
     alloc: Global,
@@ -269,7 +269,7 @@ fn read_failing<R: Threads + Sync>(
 
 #[test]
 fn tells_failing_reads(rt: HostRuntime) {
-    // The 10 bytes, and their end.
+    // The 10 bytes, and the end.
     for fails_at in 1..12 {
         let (outcome, failures) = read_failing(&rt, rt.alloc(), fails_at);
         let way = Way::FailingRead(fails_at);

@@ -1,4 +1,4 @@
-//! The text of a hull with few vertices among many points, whose numbers are searched.
+//! The text of a hull with few vertices among many points, whose numbers are found by search.
 ghost use Rattle.std.specs.Prelude.{◌≡◌, ◌<◌, [], ◌∷◌, IfOk, length};
 
 use qh_model::{Body, Hull, Id, Memory, Point, Polygon};
@@ -6,7 +6,7 @@ use qh_write::{Out, text};
 use std::alloc::{AllocError, Global};
 use std::test::Fail;
 
-/// How many points there are.
+/// The number of points.
 const COUNT: usize = 600;
 
 /// Returns the ids of the corners.
@@ -16,7 +16,7 @@ fn corners() -> [Id; 4]
     [Id::new(5), Id::new(130), Id::new(131), Id::new(599)]
 }
 
-/// Returns points of which those with these ids are the tetrahedron with three corners on the axes.
+/// Returns points among which those with these ids are the tetrahedron with three corners on the axes.
 fn points(alloc: Global) -> Result<Vec<Point>, AllocError>
     ensures { IfOk result (λ v. length v.items ≡ 600) }
 {

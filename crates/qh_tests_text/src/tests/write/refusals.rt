@@ -1,5 +1,5 @@
-//! Calls of which one growth is refused: what they give is right, or memory was wanted and the same
-//! call gives it. `scripts/trials/refusals.py` refuses each growth in turn.
+//! Calls during which one allocation fails: the result is right, or the call is out of memory and returns the right
+//! result when it is repeated. `scripts/trials/refusals.py` makes each allocation fail in turn.
 ghost use Rattle.std.specs.Prelude.{◌≡◌, [], ◌∷◌, IfOk};
 
 use qh_model::{Body, Hull, Id, Memory, Point, Polygon};
@@ -40,7 +40,7 @@ const OUTS: [Out; 5] = [
 const SQUARE_TEXT: &str =
     "5 5 2\nConvex hull of 5 points in 3-d:\n  dimension: 2\n  distinct points: 5\n  extreme points: 4\n  facets: 1\n  edges: 4\n4\n0\n1\n2\n3\nOFF\n4 1 4\n0 0 0\n2 0 0\n2 2 0\n0 2 0\n4 0 1 2 3\nOFF\n4 2 5\n0 0 0\n2 0 0\n2 2 0\n0 2 0\n3 0 1 2\n3 0 2 3\n";
 
-/// Returns the same, asked for again if an allocation failed.
+/// Returns the same hull. Repeats the call if an allocation failed.
 fn square_again(alloc: Global) -> Result<Hull, Memory>
     ensures { IfOk result (λ h. h.body.extremes ≡ 0 ∷ 1 ∷ 2 ∷ 3 ∷ []) }
 {
@@ -50,7 +50,7 @@ fn square_again(alloc: Global) -> Result<Hull, Memory>
     }
 }
 
-/// Returns all texts of that hull, asked for again if an allocation failed.
+/// Returns all texts of that hull. Repeats the call if an allocation failed.
 fn texts_again(alloc: Global) -> Result<Vec<u8>, Memory> {
     let pts = [
         Point::new(0, 0, 0),
@@ -73,8 +73,8 @@ fn tries_again_for_texts(rt: HostRuntime) -> Result<(), Fail> {
     Ok(())
 }
 
-/// Returns true if memory takes all bytes that are sent, once more if an allocation failed. That is to be counted
-/// once, and nothing kept of it.
+/// Returns true if a memory sink receives all bytes that are sent. If an allocation fails, the failure is counted once,
+/// no byte is kept, and the call is repeated.
 fn sends_again(alloc: Global, bytes: &[u8]) -> bool {
     let mut sink = MemSink::new(alloc);
     if send(&mut sink, bytes).is_err() {

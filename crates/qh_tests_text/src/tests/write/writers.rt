@@ -1,28 +1,28 @@
-//! A sink over a writer of std: what the writer is called for, and what its failures are.
+//! A sink over a writer of std: the calls of the writer, and its failures.
 use qh_write::{SendFault, Sink, StdSink, send};
 use std::io;
 use std::io::{ErrorKind, Write};
 use std::process::Abort;
 use std::sync::atomic::{AtomicU64, Ordering};
 
-/// What a writer does.
+/// The behaviour of a writer.
 #[derive(Clone, Copy, Debug, Drop)]
 struct Manner {
-    /// The most bytes that a write takes.
+    /// The greatest number of bytes that a write accepts.
     greatest_piece: usize,
-    /// Why each write fails, if it does.
+    /// The error of each write, if it fails.
     write_error: Option<ErrorKind>,
-    /// Why the flush fails, if it does.
+    /// The error of the flush, if it fails.
     flush_error: Option<ErrorKind>,
 }
 
-/// What a writer was called for.
+/// The calls that a writer received.
 #[derive(Drop)]
 struct Calls {
     writes: AtomicU64,
     bytes: AtomicU64,
     flushes: AtomicU64,
-    /// How many bytes had come when the last flush was asked for.
+    /// The number of bytes received before the last flush.
     bytes_at_flush: AtomicU64,
 }
 
@@ -36,8 +36,7 @@ impl Calls {
         }
     }
 
-    /// Returns the writes, the bytes taken, the flushes, and the bytes that were there at the last
-    /// of them.
+    /// Returns the number of writes, of accepted bytes and of flushes, and the number of bytes at the last flush.
     fn counts(&self) -> [u64; 4] {
         [
             self.writes.load(Ordering::SeqCst),
@@ -99,8 +98,8 @@ fn fails_to_flush(kind: ErrorKind) -> Manner {
     }
 }
 
-/// Returns what sending bytes to a writer answers, how often the sink failed, and what the writer was
-/// called for.
+/// Returns the result of sending bytes to a writer, the number of failures of the sink, and the calls that the writer
+/// received.
 fn calls_of(manner: Manner, bytes: &[u8]) -> (Result<(), SendFault>, u64, [u64; 4]) {
     let calls = Calls::none();
     let mut sink = StdSink::new(Counting {
@@ -111,7 +110,7 @@ fn calls_of(manner: Manner, bytes: &[u8]) -> (Result<(), SendFault>, u64, [u64; 
     (answer, sink.failures(), calls.counts())
 }
 
-/// Asserts what sending bytes to a writer answers, and what the writer was called for.
+/// Asserts the result of sending bytes to a writer, and the calls that the writer received.
 fn assert_calls<R: Abort>(
     rt: &R,
     manner: Manner,
@@ -129,7 +128,7 @@ fn assert_calls<R: Abort>(
 
 #[test]
 fn flushes_once_and_calls_no_writer_that_failed(rt: HostRuntime) {
-    // A writer, what sending 10 bytes gives, and what the writer was called for.
+    // A writer, the result of sending 10 bytes, and the calls that the writer received.
     let rows = [
         (takes(100), Ok(()), [1, 10, 1, 10]),
         (takes(10), Ok(()), [1, 10, 1, 10]),

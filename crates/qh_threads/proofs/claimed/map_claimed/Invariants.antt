@@ -1,4 +1,4 @@
--- What stands in the slots is right, and so are the answers that are left.
+-- The values in the slots are right, and so are the answers that remain.
 use Rattle.std.proofs.Common.{◌≡◌, length, All}
 use Rattle.std.specs.Vec.Iter.{into_iter_items}
 use Rattle.qh_threads.specs.steps.Answers.{AreAnswers, ArePlaced}

@@ -1,4 +1,4 @@
--- The values so far were returned by the calls, and what stands in the slots is right.
+-- The values so far were returned by the calls, and the values in the slots are right.
 use Rattle.std.proofs.Common.{◌≡◌, length}
 use Rattle.std.specs.Fork.{GivesEach}
 use Rattle.qh_threads.specs.steps.Answers.{ArePlaced}

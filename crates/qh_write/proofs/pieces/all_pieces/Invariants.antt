@@ -1,4 +1,4 @@
--- What is left, and then the pieces from the last one back, are the parts.
+-- The remaining parts, followed by the pieces from the last one back, are all parts.
 use Rattle.std.proofs.Common.{◌≡◌, ◌++◌, Ok, map, vec_len}
 use Rattle.std.specs.Prelude.{reverse}
 use Rattle.qh_write.proofs.pieces.all_pieces.Given as goal

@@ -1,4 +1,4 @@
--- Where a sink fails, a beginning of the pieces went out.
+-- If a sink fails, a prefix of the pieces was sent.
 use Rattle.qh_write.proofs.sending.send_pieces.Goals as goal
 use Rattle.std.proofs.Common.{◌≡◌, ◌∙◌, ◌<◌, ◌≤◌, ◌++◌, [], suc, List, length, take, drop, get_or, Vec, Global, Result, Ok, Err, ap, ap₂, sym, subst}
 use Rattle.std.proofs.{Common.append-nil, Common.take_all, KnownBytes.Appends-trans, lemmas.Result.err_from_is_err_and}
@@ -6,7 +6,7 @@ use Rattle.std.specs.{Io.KnownBytes.Appends, Prelude.ℕ, Prelude.OnErr}
 use Rattle.qh_write.specs.contract.Pieces.{bytes_of}
 use Rattle.qh_write.proofs.SendingLemmas.{beginning_after, beginning_kept, piece_among}
 
--- in one of the pieces
+-- the sink fails in one of the pieces
 pub returns-in_err-send_all-clause-beginning : goal.returns-in_err-send_all-clause-beginning
 returns-in_err-send_all-clause-beginning g c =
     let done = c.args.text.now.done.items in let last = c.args.text.now.last.items in
@@ -20,7 +20,7 @@ returns-in_err-send_all-clause-beginning g c =
     (piece_among done last i piece within
     ∙ ap (λ (bs : List ℕ). bytes_of (take i done) ++ (bs ++ (bytes_of (drop (suc i) done) ++ last))) (sym here)))
 
--- in the last one
+-- the sink fails in the last piece
 pub returns-in_err-send_all-2-clause-beginning : goal.returns-in_err-send_all-2-clause-beginning
 returns-in_err-send_all-2-clause-beginning g c =
     let done = c.args.text.now.done.items in let i = c.loop-piece.piece-index in
@@ -29,7 +29,7 @@ returns-in_err-send_all-2-clause-beginning g c =
     (beginning_after _ _ _ _ _ [] _ c.loop-piece.invariant.0 c.in_err-send_all-2.ensures.beginning
     (ap₂ (λ (a b : List ℕ). a ++ b) (ap bytes_of (sym (take_all i done over))) (sym c.deref-2.ensures.value ∙ sym (append-nil c.deref-2.result.now))))
 
--- after all
+-- the sink fails after all pieces
 pub returns-clause-beginning : goal.returns-clause-beginning
 returns-clause-beginning g c =
     let done = c.args.text.now.done.items in let i = c.loop-piece.piece-index in

@@ -1,4 +1,4 @@
--- The pieces so far went out.
+-- The pieces so far were sent.
 use Rattle.std.proofs.Common.{◌≡◌, take}
 use Rattle.std.specs.Io.KnownBytes.{Appends}
 use Rattle.qh_write.specs.contract.Pieces.{bytes_of}

@@ -1,4 +1,4 @@
--- A word is taken before those behind it.
+-- A word is processed before those after it.
 use Rattle.std.proofs.Common.{◌∙◌, ap, sym}
 use Rattle.std.specs.Option.{option_and_then}
 use Rattle.hullcheck.specs.contract.CommandLine.{Asked, asked_in, with_words}

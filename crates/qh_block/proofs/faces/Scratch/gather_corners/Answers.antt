@@ -1,4 +1,4 @@
--- The corners of the facets, sorted, and each left once.
+-- The corners of the facets, sorted and without duplicates.
 use Rattle.std.proofs.Common.{eqb}
 use Rattle.std.proofs.lemmas.List.Filters.{dedup_is}
 use Rattle.std.proofs.lemmas.Map.Keys.{IsStrictlyIncreasing-dedup}

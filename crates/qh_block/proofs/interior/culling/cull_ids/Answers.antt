@@ -1,4 +1,4 @@
--- What the first round leaves is a part of the set, and what the second leaves is a part of that.
+-- The first round keeps a part of the set, and the second keeps a part of that part.
 use Rattle.std.proofs.Common.{sym, subst}
 use Rattle.qh_model.specs.contract.IdSets.{AreIndices}
 use Rattle.qh_model.proofs.hulls.ExtremeParts.{part_indices}

@@ -1,4 +1,4 @@
--- What the rounds leave of a part is a part of the set.
+-- The rounds keep a part of the set.
 use Rattle.std.proofs.Common.{sym, subst}
 use Rattle.qh_model.specs.contract.IdSets.{AreIndices}
 use Rattle.qh_model.proofs.hulls.ExtremeParts.{part_indices}

@@ -9,7 +9,7 @@ use Rattle.qh_block.specs.contract.Cells.{HoldsPoint}
 use Rattle.qh_block.proofs.InnerPoints.{kept_part}
 use Rattle.qh_block.proofs.interior.culling.ids_after_round.Goals as goal
 
--- ids at multiples of a number are of the list
+-- ids at multiples of a number are ids of the list
 part : (ids sample : List ℕ) (n : ℕ) → ((k : ℕ) → k < length sample → k * n < length ids)
     → ((k : ℕ) → k < length sample → slice_index sample k ≡ slice_index ids (k * n)) → (i : ℕ) → In i sample → In i ids
 part ids sample n inside each i m =

@@ -1,4 +1,4 @@
--- What the corner box holds is not extreme in the set.
+-- Points that the corner box holds are not extreme in the set.
 use Rattle.qh_block.specs.contract.CornerBoxes.{IsHeldBy}
 use Rattle.qh_block.proofs.CornerBoxes.{box_has_no_extreme}
 use Rattle.qh_block.proofs.InnerPoints.{kept_part}

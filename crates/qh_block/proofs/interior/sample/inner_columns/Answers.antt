@@ -1,4 +1,4 @@
--- Below the planes of a sample's hull there is no extreme id.
+-- No extreme id is below the planes of a sample's hull.
 use Rattle.std.proofs.Common.{subst, sym}
 use Rattle.qh_model.proofs.Members.{rising_once}
 use Rattle.qh_surface.proofs.runs.FirstSimplexes.{simplex_is}

@@ -1,4 +1,4 @@
--- The numbers so far, of which there is one for each turn.
+-- The numbers so far, one for each step of the loop.
 use Rattle.std.proofs.Common.{◌≡◌, ◌≤◌, vec_len, vec_capacity}
 use Rattle.std.specs.List.{range_with_len}
 use Rattle.qh_block.proofs.regions.cells.numbers_below.Given as goal

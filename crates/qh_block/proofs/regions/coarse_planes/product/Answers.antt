@@ -1,4 +1,4 @@
--- A product of two coordinates has 64 bits.
+-- A product of two coordinates fits 64 bits.
 use Rattle.std.proofs.Common.{lit<}
 use Rattle.qh_model.specs.declared.limits.TheConstants.{COORDINATE_LIMIT}
 use Rattle.qh_block.proofs.Numbers.{product_fits, product_is, product_size}

@@ -1,4 +1,4 @@
--- What is left without the steps.
+-- The rest of a component after the steps.
 use Rattle.std.proofs.Common.{◌≡◌, arith}
 use Rattle.std.proofs.lemmas.Int.{ints}
 use Rattle.std.specs.Prelude.{◌+ℤ◌}

@@ -1,4 +1,4 @@
--- What the steps leave of the three components.
+-- The rests of the three components after the steps.
 use Rattle.std.proofs.Common.{◌≡◌, ◌^◌, lit<, refl}
 use Rattle.std.proofs.lemmas.Int.{to_z-of_z}
 use Rattle.std.specs.Prelude.{◌+ℤ◌, pos}

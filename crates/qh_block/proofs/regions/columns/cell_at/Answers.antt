@@ -1,4 +1,4 @@
--- No cell, or a part.
+-- The empty cell, or a part.
 use Rattle.qh_block.proofs.regions.columns.cell_at.Goals as goal
 
 pub returns-then-is_empty : goal.returns-then-is_empty

@@ -1,4 +1,4 @@
--- No cell, or a part between heights.
+-- The empty cell, or a part between heights.
 use Rattle.qh_block.proofs.regions.columns.cell_over.Goals as goal
 
 pub returns-then-is_empty : goal.returns-then-is_empty

@@ -1,4 +1,4 @@
--- Each part has cells between the planes, so all together are.
+-- Each part has cells between the planes, so the joined list has cells between the planes.
 use Rattle.std.proofs.lemmas.Result.{IfOk-weaker}
 use Rattle.qh_block.proofs.regions.sieves.cells_in_threads.Goals as goal
 

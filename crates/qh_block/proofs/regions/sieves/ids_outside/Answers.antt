@@ -1,4 +1,4 @@
--- An id whose point the region has goes.
+-- An id whose point is in the region is removed.
 use Rattle.std.proofs.Common.{◌≡◌, ◌∷◌, ◌++◌, ◌+◌, drop, ap, sym, subst, ◌∙◌}
 use Rattle.std.proofs.lemmas.List.{drop_more, append_assoc, append-nil, drop_all}
 use Rattle.qh_model.specs.headline.Sets.{Members}

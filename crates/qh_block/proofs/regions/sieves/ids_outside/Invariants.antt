@@ -1,4 +1,4 @@
--- The ids kept so far and those to come have all extreme ids.
+-- The ids kept so far and the remaining ids include all extreme ids.
 use Rattle.std.proofs.Common.{◌++◌, drop}
 use Rattle.qh_block.specs.contract.KeptIds.{KeepsExtremes}
 use Rattle.qh_block.proofs.regions.sieves.ids_outside.Given as goal

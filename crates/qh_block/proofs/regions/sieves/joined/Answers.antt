@@ -1,4 +1,4 @@
--- What is kept of one more part is added.
+-- The kept ids of one more part are added.
 use Rattle.std.proofs.Common.{◌≡◌, ◌≤◌, ◌++◌, ◌*◌, ◌+◌, ◌∙◌, ℕ, List, [], arith, ap, sym, subst, take, drop, length}
 use Rattle.std.proofs.Math.Nat.{mul-le-mul_right}
 use Rattle.std.proofs.Math.Seq.{take-add}

@@ -1,4 +1,4 @@
--- What is kept of the parts so far is kept of all their ids.
+-- The kept ids of the parts so far are kept of all their ids.
 use Rattle.std.proofs.Common.{◌*◌, take}
 use Rattle.qh_block.specs.contract.Cells.{HoldsPoint}
 use Rattle.qh_block.specs.contract.KeptIds.{KeepsExtremes}

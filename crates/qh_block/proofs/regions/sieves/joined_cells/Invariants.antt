@@ -1,4 +1,4 @@
--- The cells so far are cells between planes if those of all parts are, and so are those of the parts that are left.
+-- The cells so far, and those of the remaining parts, are cells between planes if those of all parts are.
 use Rattle.std.proofs.Common.{List, All}
 use Rattle.std.specs.Prelude.{IfOk}
 use Rattle.std.specs.Vec.Iter.{into_iter_items}

@@ -1,4 +1,4 @@
--- Marked corners are ids, and ids that are not marked are hidden.
+-- Marked corners are ids, and ids without a mark are hidden.
 use Rattle.std.proofs.Common.{Bool, List, ℕ, subst, sym, ◌⊎◌}
 use Rattle.qh_model.specs.{headline.Sets.In, laws.ClosedSurfaceLaws.IsCornerOf}
 use Rattle.qh_model.proofs.lists.Filters.{of_filter}

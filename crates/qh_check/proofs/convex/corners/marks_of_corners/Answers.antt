@@ -1,4 +1,4 @@
--- The corners of the triangle at hand are marked too.
+-- The corners of the current triangle are marked too.
 use Rattle.std.proofs.Common.{◌∙◌}
 use Rattle.std.proofs.lemmas.List.{length-set}
 use Rattle.qh_check.proofs.Marks.{marked_corners}

@@ -1,4 +1,4 @@
--- What is marked is a corner of one of the triangles so far.
+-- Each mark is that of a corner of one of the triangles so far.
 use Rattle.std.proofs.Common.{ℕ, ◌≡◌, length, take}
 use Rattle.qh_model.specs.laws.ClosedSurfaceLaws.{IsCornerOf}
 use Rattle.qh_check.specs.steps.CornerMarks.{IsMarked}

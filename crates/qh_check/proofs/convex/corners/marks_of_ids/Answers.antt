@@ -1,4 +1,4 @@
--- The id at hand is marked too.
+-- The current id is marked too.
 use Rattle.std.proofs.Common.{◌≡◌, ◌∙◌, ◌⊎◌, ℕ, ◌+◌, get_or, inl, inr, subst, sym, take}
 use Rattle.std.proofs.lemmas.List.{length-set}
 use Rattle.qh_model.specs.headline.Sets.{In}

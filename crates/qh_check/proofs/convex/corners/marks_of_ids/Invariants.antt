@@ -1,4 +1,4 @@
--- What is marked is one of the ids so far.
+-- Each mark is that of one of the ids so far.
 use Rattle.std.proofs.Common.{ℕ, ◌≡◌, length, take}
 use Rattle.qh_model.specs.headline.Sets.{In}
 use Rattle.qh_check.specs.steps.CornerMarks.{IsMarked}

@@ -1,4 +1,4 @@
--- The ids so far that are not marked.
+-- Those of the ids so far that are not marked.
 use Rattle.std.proofs.Common.{◌≡◌, filter, take}
 use Rattle.qh_check.specs.steps.CornerMarks.{is_unmarked}
 use Rattle.qh_check.proofs.convex.corners.unmarked.Given as goal

@@ -1,4 +1,4 @@
--- The triangle the other way round sees the point where this one has it below.
+-- The reversed triangle sees the point exactly if the point is strictly below this triangle.
 use Rattle.std.proofs.Common.{◌∙◌}
 use Rattle.qh_model.proofs.algebra.{Signs.negated_positive, Signs.opposite_negative, VectorIdentities.vol-flip}
 use Rattle.qh_check.proofs.convex.pairs.is_below.Goals as goal

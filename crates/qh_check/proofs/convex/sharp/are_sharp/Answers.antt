@@ -1,4 +1,4 @@
--- What each look has found.
+-- The result of each test.
 use Rattle.std.proofs.Common.{◌<◌, length, subst}
 use Rattle.qh_model.proofs.Members.{All-In, All-of}
 use Rattle.qh_check.specs.steps.{CornerMarks.AreHidden, StepKeys.EdgesRise}

@@ -1,4 +1,4 @@
--- The triangles are the polygons, and what was found makes them all faces.
+-- The triangles are the polygons, and the results show that they are all faces.
 use Rattle.std.proofs.lemmas.Result.{IfOk-weaker}
 use Rattle.qh_model.specs.headline.Predicates.{place}
 use Rattle.qh_check.specs.steps.Triangles.{AreTriangles}

@@ -1,4 +1,4 @@
--- The id at the position lies at the place.
+-- The point of the id at the position is at the place.
 use Rattle.std.proofs.Common.{◌≡◌, ◌∙◌, ap, get_or, sym}
 use Rattle.std.proofs.lemmas.List.{get_or_default}
 use Rattle.qh_model.specs.headline.Predicates.{place}

@@ -1,4 +1,4 @@
--- The id at hand lies at the place, or none does.
+-- The point of the current id is at the place, or that of no id is.
 use Rattle.std.proofs.Common.{◌≡◌, ◌∙◌, arith, ap, get_or, subst, sym}
 use Rattle.std.proofs.lemmas.List.{get_or_default}
 use Rattle.qh_model.specs.headline.Predicates.{place}

@@ -1,4 +1,4 @@
--- None of the ids so far lies at the place.
+-- The point of none of the ids so far is at the place.
 use Rattle.std.proofs.Common.{ℕ, ◌<◌, ◌≢◌, get_or}
 use Rattle.qh_model.specs.headline.Predicates.{place}
 use Rattle.qh_check.proofs.naming.Named.looked_for.Given as goal

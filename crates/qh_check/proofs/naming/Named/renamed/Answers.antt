@@ -1,4 +1,4 @@
--- The number at hand stands for none.
+-- The current number represents no id.
 use Rattle.std.proofs.Common.{◌≡◌, ◌∙◌, get_or, subst, sym}
 use Rattle.std.proofs.lemmas.List.{get_or_default}
 use Rattle.qh_model.specs.headline.Sets.{In}

@@ -1,4 +1,4 @@
--- The numbers so far stand for the ids.
+-- The numbers so far represent the ids.
 use Rattle.std.proofs.Common.{ℕ, ◌≡◌, ◌<◌, get_or, length}
 use Rattle.qh_check.specs.contract.Naming.{IsNamed}
 use Rattle.qh_check.proofs.naming.Named.renamed.Given as goal

@@ -1,4 +1,4 @@
--- What lies across a side of a live facet is its twin.
+-- The edge across a side of a live facet is its twin.
 use Rattle.qh_mesh.proofs.mesh.Mesh.across.Goals as goal
 use Rattle.std.proofs.Common.{◌≡◌, ◌∙◌, ap, sym}
 use Rattle.qh_mesh.specs.{contract.Edges.edge_of, contract.Edges.nth_side, contract.Edges.twin_of, steps.Kept.outer_of, steps.Twins.HasTwin}

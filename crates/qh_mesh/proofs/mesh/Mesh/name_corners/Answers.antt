@@ -1,4 +1,4 @@
--- A mesh stays one where its corners get names.
+-- A mesh remains one if its corners are renamed.
 use Rattle.qh_mesh.proofs.mesh.Mesh.name_corners.Goals as goal
 use Rattle.std.proofs.{Common.◌≡◌, Common.◌∙◌, Common.ap, Common.sym, Common.length, Common.map, lemmas.List.with_items_is, lemmas.List.length-map}
 use Rattle.qh_model.specs.contract.StoredSurface.{named_facet}

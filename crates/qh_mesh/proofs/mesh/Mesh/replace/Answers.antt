@@ -1,4 +1,4 @@
--- A rebuilt mesh is what the laws say of a step.
+-- A rebuilt mesh is the result of a step according to the laws.
 use Rattle.qh_model.specs.headline.Predicates.{place}
 use Rattle.qh_mesh.proofs.mesh.Mesh.replace.Goals as goal
 

@@ -1,4 +1,4 @@
--- A simplex that is not turned about is a sound mesh.
+-- A simplex that is not reversed is a sound mesh.
 use Rattle.std.proofs.{Common.rules, lemmas.Result.IfOk-weaker}
 use Rattle.qh_model.specs.headline.Predicates.{place}
 use Rattle.qh_mesh.proofs.SoundMeshes.{simplex_is_sound}

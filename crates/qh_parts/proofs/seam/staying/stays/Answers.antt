@@ -1,4 +1,4 @@
--- The part is asked for each other part in its turn.
+-- The part is tested against each other part in order.
 use Rattle.std.proofs.Common.{◌≡◌, ◌<◌, ◌⊎◌, inl, inr, length, get_or, sym, subst, arith}
 use Rattle.std.proofs.lemmas.Bool.{cases_lt}
 use Rattle.qh_model.specs.headline.{Predicates.place, Sets.In}

@@ -1,4 +1,4 @@
--- The other parts so far were asked.
+-- The part was tested against the other parts so far.
 use Rattle.std.proofs.Common.{◌≡◌, ℕ, ◌<◌, ◌⊎◌, get_or}
 use Rattle.qh_surface.specs.contract.Walks.{mark_at}
 use Rattle.qh_parts_join.specs.declared.parts.Part.{Part}

@@ -1,4 +1,4 @@
--- The points of a run are answered.
+-- The points of a run have witnesses.
 use Rattle.std.proofs.Common.{arith}
 use Rattle.qh_parts_join.proofs.Runs.{left_at_start, left_behind, all_done}
 use Rattle.qh_parts.proofs.seam.witnesses.are_answered.Goals as goal

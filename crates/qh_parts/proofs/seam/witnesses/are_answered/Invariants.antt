@@ -1,4 +1,4 @@
--- The points that are not left are answered.
+-- The points that do not remain have witnesses.
 use Rattle.qh_model.specs.headline.{Predicates.place}
 use Rattle.qh_model.specs.contract.StoredSurface.{surface_of}
 use Rattle.qh_surface.specs.contract.{NamedMeshes.named, Walks.mark_at}

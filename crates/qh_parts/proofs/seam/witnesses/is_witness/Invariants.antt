@@ -1,4 +1,4 @@
--- The facet answers for the points so far.
+-- The facet is a witness for the points so far.
 use Rattle.std.proofs.Common.{ℕ, ◌<◌, get_or}
 use Rattle.qh_model.specs.headline.{Vector.Vector, Predicates.place}
 use Rattle.qh_model.specs.contract.StoredSurface.{surface_of}

@@ -1,4 +1,4 @@
--- The answers so far are yes.
+-- The answers so far are true.
 use Rattle.std.proofs.Common.{◌≡◌, true, take}
 use Rattle.std.specs.Prelude.{Ok}
 use Rattle.std.specs.List.{All}

@@ -1,4 +1,4 @@
--- Where the polygons of each part are faces, all are.
+-- If the polygons of each piece are faces, all polygons are.
 use Rattle.std.proofs.Common.{◌<◌, length, refl, subst, arith, true}
 use Rattle.std.proofs.lemmas.Result.{IfOk-weaker}
 use Rattle.std.specs.Prelude.{Ok, IfOk, IsTrue}

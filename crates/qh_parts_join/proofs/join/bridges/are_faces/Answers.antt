@@ -1,4 +1,4 @@
--- One more group is of faces.
+-- One more group consists of faces.
 use Rattle.std.proofs.Common.{arith}
 use Rattle.qh_model.proofs.Members.{All-In, All-of}
 use Rattle.qh_parts_join.specs.steps.Bridges.{IsBridge}

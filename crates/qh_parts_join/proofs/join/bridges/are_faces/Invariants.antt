@@ -1,4 +1,4 @@
--- The polygons that are not left are faces.
+-- The polygons that do not remain are faces.
 use Rattle.std.proofs.Common.{length}
 use Rattle.qh_parts_join.specs.steps.Bridges.{IsBridge}
 use Rattle.qh_parts_join.proofs.Runs.{AreLeft}

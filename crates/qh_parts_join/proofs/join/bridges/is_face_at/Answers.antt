@@ -1,4 +1,4 @@
--- The plane of the three has nothing above it, and the polygon of what is in it is the claimed one.
+-- No kept id is above the plane of the three, and the polygon of the ids in the plane is the claimed one.
 use Rattle.std.proofs.Common.{◌≡◌, ◌∙◌, false, subst, sym}
 use Rattle.std.proofs.lemmas.Bool.{both_ways}
 use Rattle.std.specs.Cmp.Lexicographic.{same_text}

@@ -1,4 +1,4 @@
--- The ids in the plane are those that the places hold and the shared ones.
+-- The ids in the plane are ids that the places hold, or shared ids.
 use Rattle.std.proofs.Common.{[]}
 use Rattle.std.specs.List.{flat_map}
 use Rattle.qh_parts_join.specs.contract.Kept.{held_in}

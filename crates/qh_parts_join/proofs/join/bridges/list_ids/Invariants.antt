@@ -1,4 +1,4 @@
--- What of the ids so far is in the plane is listed.
+-- Those of the ids so far that are in the plane are listed.
 use Rattle.std.proofs.Common.{ℕ, List, ◌++◌, take}
 use Rattle.qh_places.specs.contract.Places.{AreLevel}
 use Rattle.qh_parts_join.proofs.join.bridges.list_ids.Given as goal

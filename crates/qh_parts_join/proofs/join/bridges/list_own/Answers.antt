@@ -1,4 +1,4 @@
--- What one more part has in the plane is listed.
+-- The ids of one more part in the plane are listed.
 use Rattle.std.proofs.Common.{◌<◌, ◌++◌, length, map, sym, subst, arith}
 use Rattle.std.proofs.lemmas.List.{append-nil, take_all}
 use Rattle.std.specs.List.{flat_map}

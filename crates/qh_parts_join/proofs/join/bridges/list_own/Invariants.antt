@@ -1,4 +1,4 @@
--- What the parts so far have in the plane is listed.
+-- The ids of the parts so far in the plane are listed.
 use Rattle.std.proofs.Common.{ℕ, List, ◌++◌, map, take}
 use Rattle.std.specs.List.{All, flat_map}
 use Rattle.qh_model.specs.headline.Vector.{Vector}

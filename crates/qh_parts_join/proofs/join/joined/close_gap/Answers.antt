@@ -1,4 +1,4 @@
--- The border is told first, or by a worker of its own.
+-- The border is checked first, or by a worker of its own.
 use Rattle.std.proofs.lemmas.Result.{IfOk-weaker}
 use Rattle.qh_parts_join.proofs.join.joined.close_gap.Goals as goal
 

@@ -1,4 +1,4 @@
--- Each polygon is contributed by a part or is a face of what is kept, and they close up as the faces of the parts do.
+-- Each polygon is contributed by a part or is a face of the kept ids, and they close up as the faces of the parts do.
 use Rattle.std.proofs.Common.{inl, inr}
 use Rattle.std.proofs.lemmas.{List.Sorted.IsPermutation-sym, Option.IfSome_then, Result.IfOk-weaker}
 use Rattle.qh_model.specs.headline.{Predicates.place, Sets.Members}

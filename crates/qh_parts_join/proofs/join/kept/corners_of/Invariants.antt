@@ -1,4 +1,4 @@
--- The places of the parts that are left, and then those that are listed, the last one first.
+-- The places of the parts that remain, and then those that are listed, in reversed order.
 use Rattle.std.proofs.Common.{◌≡◌, ◌++◌, length, map, reverse}
 use Rattle.qh_parts_join.specs.contract.Kept.{places_of}
 use Rattle.qh_parts_join.proofs.join.kept.corners_of.Given as goal

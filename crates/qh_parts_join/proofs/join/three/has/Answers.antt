@@ -1,4 +1,4 @@
--- The test of members tells.
+-- The test decides membership.
 use Rattle.std.proofs.Common.{◌∙◌, sym}
 use Rattle.qh_places.proofs.ListMembers.{any_in}
 use Rattle.qh_parts_join.proofs.join.three.has.Goals as goal

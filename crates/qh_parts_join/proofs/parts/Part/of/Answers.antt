@@ -33,7 +33,7 @@ surface_along-requires-clause-first c =
     let inside = rw c.deref.ensures.value at (c.are_in.ensures c.if-not-are_in.false) in
     c.in-Some.ensures c.in_ok-order.order.items (λ l i. (same l).1 (inside l i))
 
--- the corners of a finished mesh are indices where its ids are
+-- the corners of a finished mesh are indices if its ids are
 corner_index : (pts : List Vector) (ids : List ℕ) (m : Surface) → IsFinished (place pts) ids m → AreIndices pts ids
     → (l : ℕ) → IsLiveCorner m l → l < length pts
 corner_index pts ids m z ok l (f, live, k) = All-In (λ i. i < length pts) ids l ok (z.corners f live l k)

@@ -1,4 +1,4 @@
--- The point is within the bounds, and what was within them stays so.
+-- The point is within the bounds, and the points within them stay so.
 use Rattle.qh_places.proofs.PointBoxes.{le_trans}
 use Rattle.qh_places.proofs.boxes.PointBox.with.Goals as goal
 

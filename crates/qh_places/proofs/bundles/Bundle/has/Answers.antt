@@ -1,4 +1,4 @@
--- The plane, taken a number of times, is within the spans and deep enough.
+-- A multiple of the plane is within the spans and deep enough.
 use Rattle.std.proofs.Common.{rules, sym, ◌∙◌}
 use Rattle.qh_places.proofs.BundleSlabs.{of_bundle}
 use Rattle.qh_places.proofs.bundles.Bundle.has.Goals.{then-has, else-has, then-has-2, else-has-2}

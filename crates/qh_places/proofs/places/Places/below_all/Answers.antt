@@ -1,4 +1,4 @@
--- A block of one of the levels tells, or one of the lowest.
+-- A block of one of the levels decides, or one of the lowest level.
 use Rattle.qh_places.proofs.places.Places.below_all.Goals as goal
 
 pub returns-then-below-gt0 : goal.returns-then-below-gt0

@@ -1,4 +1,4 @@
--- The ids are those that were given.
+-- The ids are those of the argument.
 use Rattle.std.proofs.Common.{◌∙◌, ap, length, map, sym, subst}
 use Rattle.std.proofs.lemmas.List.{length-map}
 use Rattle.qh_model.specs.headline.{Predicates.place, Sets.In}

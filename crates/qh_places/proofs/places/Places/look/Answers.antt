@@ -1,4 +1,4 @@
--- A point in the plane is found, one below it passed over.
+-- A point in the plane is found, one below it is skipped.
 use Rattle.std.proofs.Common.{◌<◌, length, arith}
 use Rattle.qh_places.proofs.FoundIds.{look_start, look_on, look_under, look_above}
 use Rattle.qh_places.proofs.places.Places.look.Goals.{then-is_on+in_ok-push, else-is_on}

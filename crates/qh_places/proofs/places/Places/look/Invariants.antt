@@ -1,4 +1,4 @@
--- What is found up to a position.
+-- The ids found up to a position.
 use Rattle.qh_places.specs.steps.Levels.{HasLooked}
 use Rattle.qh_places.proofs.places.Places.look.Given as goal
 

@@ -1,1 +1,1 @@
--- Beyond the end and below the plane is nothing to see.
+-- Past the end and below the plane, no id is found.

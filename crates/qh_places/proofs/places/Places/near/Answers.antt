@@ -1,4 +1,4 @@
--- A block below all planes is passed over, or its first positions are near.
+-- A block below all planes is skipped, or its first positions are near.
 use Rattle.std.proofs.Common.{arith, ◌≤◌, ◌+◌}
 use Rattle.qh_places.specs.declared.places.TheConstants.{LEAF}
 use Rattle.qh_places.proofs.NearPositions.{near_start, near_skip, near_add}

@@ -1,4 +1,4 @@
--- The starts so far are near up to a position.
+-- The starts so far cover the near positions up to a position.
 use Rattle.std.proofs.Common.{◌-◌, length}
 use Rattle.qh_places.specs.contract.Near.{IsNearUpTo}
 use Rattle.qh_places.proofs.places.Places.near.Given as goal

@@ -1,4 +1,4 @@
--- What is found at all starts is all, where the plane is one of the bundle.
+-- The ids found at all starts are all ids in the plane, if the plane is in the bundle.
 use Rattle.std.proofs.Common.{arith, length, ◌≡◌, ◌<◌, ◌≤◌}
 use Rattle.std.proofs.lemmas.Result.{IfOk-weaker}
 use Rattle.qh_places.proofs.NearPositions.{seen_start, seen_goes, seen_all}

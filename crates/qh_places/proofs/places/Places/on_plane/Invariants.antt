@@ -1,4 +1,4 @@
--- What is seen at the starts so far.
+-- The results at the starts so far.
 use Rattle.qh_places.specs.steps.Levels.{HasSeen}
 use Rattle.qh_places.proofs.places.Places.on_plane.Given as goal
 

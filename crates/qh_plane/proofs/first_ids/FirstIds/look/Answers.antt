@@ -1,4 +1,4 @@
--- A point with an equal point in its slot, and one whose slot was free.
+-- A point with an equal point in its slot, and a point whose slot was empty.
 use Rattle.std.proofs.Common.{rules, ◌≡◌, ◌∙◌, ◌<◌, ◌+◌, ◌++◌, [], ◌∷◌, length, set, arith, ap, sym, subst}
 use Rattle.std.proofs.lemmas.List.{get_or_read}
 use Rattle.qh_model.specs.headline.Predicates.{place}

@@ -1,4 +1,4 @@
--- One first point more, and the points behind it that stand before.
+-- One more first point, and the repeats after it.
 use Rattle.std.proofs.Common.{◌≡◌, ◌∙◌, ◌+◌, ◌-◌, slice_index_or, sym, subst}
 use Rattle.std.proofs.lemmas.List.{get_or_read}
 use Rattle.qh_plane.specs.steps.FirstIds.{AreSeen}

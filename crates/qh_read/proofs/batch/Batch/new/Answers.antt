@@ -3,7 +3,7 @@ use Rattle.std.proofs.Math.Seq.{drop-nil, take-nil}
 use Rattle.qh_read.specs.steps.Segments.{IsSegment, segment_size, segment_text}
 use Rattle.qh_read.proofs.batch.Batch.new.Goals as goal
 
--- no bytes have segments of none
+-- the segments of no bytes have no bytes
 no_text : (size i : ℕ) → [] ≡ segment_text size [] i
 no_text size i = sym (ap (take size) (drop-nil (i * size)) ∙ take-nil size)
 

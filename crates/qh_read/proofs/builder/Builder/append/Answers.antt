@@ -5,7 +5,7 @@ use Rattle.qh_model.specs.headline.PointFile.{coordinates}
 use Rattle.qh_read.specs.{declared.builder.Pending.Pending, steps.Stages.stage_shown, steps.Stages.pending_list}
 use Rattle.qh_read.proofs.NumberLaws.{coordinates-append}
 
--- no coordinate of a point more stood between
+-- no coordinate of another point came in between
 pub returns-clause-shown : goal.returns-clause-shown
 returns-clause-shown c =
     let was = c.args.self.now in

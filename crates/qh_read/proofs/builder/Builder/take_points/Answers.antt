@@ -7,7 +7,7 @@ use Rattle.qh_read.specs.{contract.Progress.wants, declared.builder.Pending.Pend
 use Rattle.qh_read.specs.steps.{Building.taken, Cursors.held_from, Stages.stage_shown, Stages.pending_list}
 use Rattle.qh_read.proofs.CursorLaws.{shown-pushed}
 
--- no coordinate of a point more stood between, and none does
+-- no coordinate of another point came in between, before or after
 pub returns-clause-held : goal.returns-clause-held
 returns-clause-held c form base =
     let was = c.args.self.now in

@@ -4,7 +4,7 @@ use Rattle.qh_model.specs.declared.form.Form.{Form}
 use Rattle.qh_read.specs.{contract.Holding.held_by, contract.Progress.Progress, declared.token.Token.TheVariants.Empty}
 use Rattle.qh_read.specs.steps.{Cursors.held_from, Numbers.quiet}
 
--- the bytes so far part words, and a line ends at one of them for each line more
+-- the bytes so far are separators, and a line ends at one of them for each further line
 abbrev pub invariant-loop-i : goal.invariant-loop-i
 invariant-loop-i l = record {
   parted : (form : Form) (p : Progress) (base : ℕ)

@@ -5,7 +5,7 @@ use Rattle.qh_read.specs.{contract.Holding.held_by, contract.Progress.after, ste
 use Rattle.qh_read.specs.declared.token.Token.TheVariants.{Empty, Digits}
 use Rattle.qh_read.proofs.CursorLaws.{step}
 
--- a sign and a digit, more digits, and the byte after them, in turn
+-- a sign and a digit, further digits, and the byte after them, in turn
 pub returns : goal.returns
 returns c =
     let bytes : List ℕ = c.args.self.bytes.now in

@@ -13,7 +13,7 @@ loop-cursor-init c = record {
   kept = omega arith;
 }
 
--- one point more
+-- one more point
 pub loop-cursor-preserved : goal.loop-cursor-preserved
 loop-cursor-preserved c =
     let from = c.args.self in

@@ -1,4 +1,4 @@
--- What is left after the line stays the same.
+-- The words after the line stay the same.
 use Rattle.std.proofs.Common.{◌≡◌, length}
 use Rattle.qh_read.specs.contract.FaceWords.{after_line}
 use Rattle.qh_read.proofs.faces.corners.skip_line.Given as goal

@@ -1,4 +1,4 @@
--- One corner more was taken, and the fault of what is to come is that of the rest.
+-- One more corner was taken, and the fault of the remaining words is that of the rest.
 use Rattle.qh_read.proofs.faces.corners.take_corners.Goals as goal
 use Rattle.std.proofs.Common.{ℕ, ◌≡◌, ◌∙◌, ◌++◌, ◌+◌, ◌-◌, [], ◌∷◌, List, arith, ap, inr, rules, subst, sym}
 use Rattle.std.proofs.lemmas.Grind.{common_steps}

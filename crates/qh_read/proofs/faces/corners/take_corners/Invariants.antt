@@ -1,4 +1,4 @@
--- The corners so far were taken, and the others of the count are to come.
+-- The corners so far were taken, and the others of the count are expected.
 use Rattle.qh_read.proofs.faces.corners.take_corners.Given as goal
 use Rattle.std.proofs.Common.{ℕ, ◌≡◌, ◌-◌, List, length}
 use Rattle.std.specs.Prelude.{Option}

@@ -1,4 +1,4 @@
--- Whatever corners are to come, the first ones are those so far.
+-- For any further corners, the first ones are those so far.
 use Rattle.std.proofs.Common.{ℕ, ◌≡◌, ◌++◌, List, length}
 use Rattle.std.specs.Prelude.{Option}
 use Rattle.qh_model.specs.declared.read_fault.ReadFault.{ReadFault}

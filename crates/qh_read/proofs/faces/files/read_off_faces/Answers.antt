@@ -1,4 +1,4 @@
--- The list of faces stands behind the vertices.
+-- The list of faces follows the vertices.
 use Rattle.qh_read.specs.declared.faces.reading.Layout.TheVariants as layouts
 use Rattle.qh_read.proofs.faces.files.read_off_faces.Goals as goal
 use Rattle.std.proofs.Common.{ℕ, ◌≡◌, ◌∙◌, ◌+◌, ◌*◌, List, arith, ap, inl, inr, rules, subst, sym, drop}

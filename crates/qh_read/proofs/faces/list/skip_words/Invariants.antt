@@ -1,4 +1,4 @@
--- So many words were passed over.
+-- The number of words skipped so far.
 use Rattle.std.proofs.Common.{◌≡◌, drop}
 use Rattle.qh_read.proofs.faces.list.skip_words.Given as goal
 

@@ -1,4 +1,4 @@
--- One face more was taken, and the fault of what is to come is that of the rest.
+-- One more face was taken, and the fault of the remaining words is that of the rest.
 use Rattle.qh_model.specs.declared.read_fault.ReadFault.TheVariants as faults
 use Rattle.qh_read.proofs.faces.list.take_faces.Goals as goal
 use Rattle.std.proofs.Common.{ℕ, ◌≡◌, ◌⊎◌, ◌∙◌, ◌++◌, ◌+◌, ◌-◌, [], ◌∷◌, List, arith, ap, inl, inr, rules, subst, sym, append_assoc}

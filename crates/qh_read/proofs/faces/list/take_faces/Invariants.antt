@@ -1,4 +1,4 @@
--- Whatever faces are to come, the first ones are those so far; the others of the count are to come.
+-- For any further faces, the first ones are those so far; the others of the count are expected.
 use Rattle.qh_read.proofs.faces.list.take_faces.Given as goal
 use Rattle.std.proofs.Common.{ℕ, ◌≡◌, ◌-◌, ◌++◌, List, length}
 use Rattle.qh_read.specs.contract.{FaceFaults.faces_fault, FaceWords.AreFaces}

@@ -6,7 +6,7 @@ use Rattle.qh_read.specs.contract.{Holding.Held, Holding.Reading, Holding.Fed, H
 use Rattle.qh_read.specs.steps.Building.{shown, lack, filled_in}
 use Rattle.qh_read.proofs.{FaultLaws.found, FormLaws.reads, HoldingLaws.progress-words, Lexing.words_in, ProgressLaws.judged}
 
--- the builder shows what the words of the bytes fed make of the file
+-- the state of the builder is determined by the words of the bytes fed
 told : (c : goal.After-finish) (form : Form) (bytes : List ℕ) → Fed form c.args.self bytes
     → shown c.end_word.new.self.builder ≡ judged (started form) (words_in form bytes)
 told c form bytes fed =

@@ -3,7 +3,7 @@ use Rattle.std.proofs.Common.{◌≡◌, ◌≤◌, false, drop}
 use Rattle.qh_read.specs.{contract.Holding.held_by, declared.token.TheConstants.MAGNITUDE_CAP, declared.token.Token.TheVariants.Digits}
 use Rattle.qh_read.specs.steps.Scanning.{held, under_way}
 
--- the digits so far, and then what is left, are all bytes
+-- the digits so far, followed by the remaining bytes, are all bytes
 abbrev pub invariant-loop-i : goal.invariant-loop-i
 invariant-loop-i l = record {
   told : held_by (held l.self (Digits l.minus l.magnitude)) (drop l.i l.bytes) ≡ held_by (held l.fn.self l.fn.token) l.fn.bytes;

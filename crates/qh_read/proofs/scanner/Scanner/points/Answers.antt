@@ -4,7 +4,7 @@ use Rattle.qh_read.specs.contract.{Holding.held_by, Progress.Progress}
 use Rattle.qh_read.specs.declared.{cursor.Cursor.Cursor, token.Token.Token, token.Token.TheVariants.Empty}
 use Rattle.qh_read.specs.steps.{Building.shown, Cursors.ahead, Numbers.quiet}
 
--- the builder's points, where neither a comment nor a word is under way
+-- the builder's points, if there is no unfinished comment or word
 pub returns-clause-held : goal.returns-clause-held
 returns-clause-held c =
     let was = c.args.self.now in

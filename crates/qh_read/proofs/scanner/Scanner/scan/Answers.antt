@@ -3,7 +3,7 @@ use Rattle.std.proofs.Common.{arith, length, ◌+◌, ◌≡◌, ◌∷◌, ◌�
 use Rattle.std.proofs.lemmas.Grind.{common_steps}
 use Rattle.qh_read.specs.{contract.Holding.Held, contract.Holding.held_by, steps.Scanning.held, steps.Scanning.HasRoom}
 
--- the first byte takes one from the room, and its digits take none
+-- the first byte uses room for one byte, and its digits use none
 pub points-rest-requires-clause-room : goal.points-rest-requires-clause-room
 points-rest-requires-clause-room c =
     let cut : c.loop-byte.rest.now ≡ c.in-Some.byte.now ∷ c.in-Some.after.now = grind (arith, common_steps) in

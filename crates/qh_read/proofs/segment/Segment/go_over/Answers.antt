@@ -4,7 +4,7 @@ use Rattle.qh_model.specs.headline.Vector.{Vector}
 use Rattle.qh_read.specs.steps.Numbers.{ArePoints}
 use Rattle.qh_read.proofs.segment.Segment.go_over.Goals as goal
 
--- the points of what comes after the first line
+-- the points after the first line
 pub returns : goal.returns
 returns c =
     let text : List ℕ = c.args.text.now in

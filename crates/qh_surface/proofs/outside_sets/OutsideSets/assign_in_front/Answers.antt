@@ -1,4 +1,4 @@
--- The first orphan goes in front of a set.
+-- The first orphan moves to the front of a set.
 use Rattle.std.proofs.Common.{length-drop, length-set, arith}
 use Rattle.qh_surface.proofs.Steps.{kept_some, answered, put_front}
 use Rattle.qh_surface.proofs.outside_sets.OutsideSets.assign_in_front.Goals as goal

@@ -1,4 +1,4 @@
--- The first orphan goes.
+-- The first orphan is removed.
 use Rattle.std.proofs.Common.{arith, ap, refl, length-drop}
 use Rattle.qh_surface.specs.contract.OutsideSets.{listed}
 use Rattle.qh_surface.proofs.Steps.{value_after, kept_some, dropped}

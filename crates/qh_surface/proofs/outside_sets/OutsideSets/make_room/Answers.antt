@@ -25,7 +25,7 @@ returns-in_ok-resize c =
       memory = search rules;
     }
 
--- no more places, no more sets
+-- without more places there are no more sets
 pub returns-else-len-places-clause-sets : goal.returns-else-len-places-clause-sets
 returns-else-len-places-clause-sets c =
     let none : 0 ≡ c.args.places - length c.args.self.now.sets =

@@ -1,4 +1,4 @@
--- The first orphan goes behind the first of a set.
+-- The first orphan moves behind the first of a set.
 use Rattle.std.proofs.Common.{◌∙◌, ap, length, length-drop, drop-cons, length-set, arith, get_or, false}
 use Rattle.qh_surface.specs.contract.OutsideSets.{set_of, joined}
 use Rattle.qh_surface.proofs.Steps.{kept_some, answered, put_second}

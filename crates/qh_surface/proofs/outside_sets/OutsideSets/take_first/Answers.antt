@@ -1,4 +1,4 @@
--- The first position of a set goes.
+-- The first position of a set is removed.
 use Rattle.std.proofs.Common.{length, drop, arith, rules, ap, refl, []}
 use Rattle.std.proofs.lemmas.List.Sums.{sum_by-set}
 use Rattle.qh_surface.specs.contract.OutsideSets.{set_of, listed}

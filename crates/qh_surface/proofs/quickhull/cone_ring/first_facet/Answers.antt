@@ -1,4 +1,4 @@
--- Each facet on the way round the cone is one that was made.
+-- Each facet on the way round the cone is a new one.
 use Rattle.std.proofs.Common.{◌<◌, length}
 use Rattle.qh_model.proofs.Members.{All-In}
 use Rattle.qh_mesh.specs.contract.Replacement.{IsLive}

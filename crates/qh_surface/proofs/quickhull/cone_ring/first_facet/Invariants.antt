@@ -1,4 +1,4 @@
--- The last facet looked at is one that was made.
+-- The last facet tested is a new one.
 use Rattle.qh_model.specs.headline.Sets.{In}
 use Rattle.qh_surface.proofs.quickhull.cone_ring.first_facet.Given as goal
 

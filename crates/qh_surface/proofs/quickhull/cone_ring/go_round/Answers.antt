@@ -1,4 +1,4 @@
--- One wedge of the ring more.
+-- One more wedge of the ring.
 use Rattle.std.proofs.Common.{sym, subst, ◌<◌, length}
 use Rattle.std.proofs.lemmas.List.Elements.{All-weaker}
 use Rattle.qh_model.proofs.Members.{All-In}

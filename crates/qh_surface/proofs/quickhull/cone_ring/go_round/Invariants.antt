@@ -1,4 +1,4 @@
--- The wedges so far are a ring, and the next facet was made.
+-- The wedges so far are a ring, and the next facet is a new one.
 use Rattle.qh_model.specs.headline.Sets.{In}
 use Rattle.qh_surface.specs.steps.Cones.{AreWedges, apex_of}
 use Rattle.qh_surface.proofs.quickhull.cone_ring.go_round.Given as goal

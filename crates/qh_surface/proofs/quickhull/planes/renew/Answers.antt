@@ -1,4 +1,4 @@
--- One plane more is written.
+-- One more plane is written.
 use Rattle.std.proofs.Common.{slice_index, ◌≡◌, arith, refl, ◌∙◌, length-set}
 use Rattle.std.proofs.lemmas.List.{get_or_read}
 use Rattle.qh_surface.proofs.LiveFacets.{live_below}

@@ -1,4 +1,4 @@
--- One facet more that the point is not above.
+-- The point is not above one more facet.
 use Rattle.std.proofs.Common.{take_all, pos, ◌≤ℤ◌}
 use Rattle.std.proofs.lemmas.List.{get_or_read, Elements.All-more}
 use Rattle.qh_model.proofs.{Members.In-get_or, algebra.Signs.at_most_zero}

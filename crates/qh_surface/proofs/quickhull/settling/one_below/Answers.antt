@@ -1,4 +1,4 @@
--- What the first facets, the ring and a look at all facets tell of a point.
+-- The results of the first facets, the ring and a test of all facets for a point.
 use Rattle.std.proofs.Common.{◌<◌, length, take}
 use Rattle.qh_model.{specs.headline.Sets.In, proofs.Members.All-In, proofs.Members.All-of}
 use Rattle.std.proofs.lemmas.List.Elements.{All-take}

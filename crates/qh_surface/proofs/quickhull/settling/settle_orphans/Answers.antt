@@ -1,4 +1,4 @@
--- One orphan more is settled.
+-- One more orphan is settled.
 use Rattle.std.proofs.Common.{◌∙◌, arith}
 use Rattle.qh_surface.proofs.runs.SettledOrphans.{one_settled}
 use Rattle.qh_surface.proofs.quickhull.settling.settle_orphans.Goals as goal

@@ -1,4 +1,4 @@
--- What is settled stays so, and each turn has one orphan fewer.
+-- Settled points stay settled, and each step leaves one orphan fewer.
 use Rattle.std.proofs.Common.{ℕ, All, ◌≡◌, ◌≤◌, List, length}
 use Rattle.qh_model.specs.headline.Predicates.{place}
 use Rattle.qh_model.specs.contract.StoredSurface.{StoredFacet}

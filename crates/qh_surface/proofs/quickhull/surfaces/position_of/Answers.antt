@@ -1,4 +1,4 @@
--- An id of a list stands at a position.
+-- An id of a list has a position.
 use Rattle.std.proofs.Common.{◌≡◌, ◌≢◌, rules, arith}
 use Rattle.std.proofs.lemmas.Iterator.{IsFirst-from_position, YieldsList-from_slice}
 use Rattle.qh_model.proofs.Members.{in_at}

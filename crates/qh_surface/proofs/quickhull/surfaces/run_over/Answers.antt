@@ -1,4 +1,4 @@
--- A run that is done has a finished surface over the points of the ids.
+-- A finished run has a finished surface over the points of the ids.
 use Rattle.std.proofs.Common.{◌∙◌}
 use Rattle.std.proofs.lemmas.List.{length-map}
 use Rattle.qh_surface.proofs.runs.{FinishedRuns.finished, OrderedIds.simplex_in}

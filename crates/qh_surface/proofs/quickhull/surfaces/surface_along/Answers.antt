@@ -1,4 +1,4 @@
--- The corners of a finished surface over positions get their ids.
+-- The corners of a finished surface over positions are mapped to their ids.
 use Rattle.qh_model.proofs.surfaces.Named.{finished_by_position}
 use Rattle.qh_mesh.specs.contract.Names.{name_in}
 use Rattle.qh_surface.proofs.runs.OrderedIds.{name_is, named_corners, positions_within}

@@ -1,4 +1,4 @@
--- What holds of the ids in the order of their points holds of them as they came.
+-- Facts about the ids in Morton order hold for the ids in their given order.
 use Rattle.std.proofs.lemmas.Result.{IfOk-weaker}
 use Rattle.qh_surface.proofs.runs.OrderedIds.{finished_reordered, indices_reordered, once_reordered, simplex_reordered}
 use Rattle.qh_surface.proofs.quickhull.surfaces.surface_from.Goals as goal

@@ -1,4 +1,4 @@
--- A facet that was made is queued if it has an outside set.
+-- A new facet is queued if it has an outside set.
 use Rattle.std.proofs.Common.{arith, inl, inr, take_all}
 use Rattle.std.proofs.lemmas.List.{get_or_read, take_more}
 use Rattle.qh_surface.proofs.runs.WaitingFacets.{more_queued, more_idle}

@@ -1,4 +1,4 @@
--- A facet without an outside set is passed over, and the first point of a set is the apex.
+-- A facet without an outside set is skipped, and the first point of a set is the apex.
 use Rattle.std.proofs.Common.{◌<◌, ◌≡◌, ◌∙◌, ◌∷◌, sym, subst, length, refl, arith, IsPermutation}
 use Rattle.std.proofs.lemmas.List.{nil_from_length}
 use Rattle.std.proofs.lemmas.List.Elements.{All-head, All-tail}
@@ -8,7 +8,7 @@ use Rattle.qh_surface.specs.steps.{Runs.with_waiting, Runs.IsUnderWay, Runs.IsPi
 use Rattle.qh_surface.proofs.runs.PickedApexes.{taken_is, none_taken, passed_over, picked, all_done}
 use Rattle.qh_surface.proofs.quickhull.waiting_facets.next_apex.Goals as goal
 
--- the facet taken out and the others are those that waited
+-- the removed facet and the others are those that waited
 taken_out : (c : goal.After-take_first-arg-1)
     → IsPermutation c.loop-pending.pending.items (c.swap_remove-facet.result ∷ c.swap_remove-facet.new.self.items)
 taken_out c =

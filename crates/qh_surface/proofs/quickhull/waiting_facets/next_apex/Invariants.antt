@@ -1,4 +1,4 @@
--- The facets passed over had no outside set.
+-- The skipped facets had no outside set.
 use Rattle.std.proofs.Common.{All, ◌<◌, ◌≡◌, length}
 use Rattle.qh_surface.specs.steps.Runs.{RunState, with_waiting, IsUnderWay}
 use Rattle.qh_surface.proofs.quickhull.waiting_facets.next_apex.Given as goal

@@ -1,4 +1,4 @@
--- At first each facet with a mark is to come.
+-- At the start each facet with a mark remains.
 use Rattle.std.proofs.Common.{arith, refl, sym}
 use Rattle.qh_model.proofs.Members.{in_at}
 use Rattle.qh_surface.proofs.quickhull.walk.unmark.Goals as goal

@@ -1,4 +1,4 @@
--- The marks that are left are those of facets that come later.
+-- The remaining marks are those of facets that come later.
 use Rattle.std.proofs.Common.{slice_index, ◌≡◌, ◌≤◌, ◌<◌, ℕ, length, true}
 use Rattle.qh_surface.specs.contract.Walks.{mark_at}
 use Rattle.qh_surface.proofs.quickhull.walk.unmark.Given as goal

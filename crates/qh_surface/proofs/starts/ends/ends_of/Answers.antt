@@ -1,4 +1,4 @@
--- Each end so far is one of the ids: that before, or the id at hand.
+-- Each end so far is one of the ids: the previous end, or the current id.
 use Rattle.std.proofs.{Common.◌<◌, Common.ℕ, Common.[], Common.◌∷◌, Common.length, lemmas.List.Elements.All-from_recursion}
 use Rattle.qh_model.{specs.headline.Sets.Members, proofs.Members.All-In, proofs.Members.In-get_or}
 use Rattle.qh_surface.proofs.starts.ends.ends_of.Goals as goal

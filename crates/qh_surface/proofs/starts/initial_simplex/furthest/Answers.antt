@@ -1,4 +1,4 @@
--- What is found is one of the ids.
+-- The id found is one of the ids.
 use Rattle.std.proofs.Common.{◌<◌, ◌*◌, ◌/◌, ◌+◌, ℕ, length, arith, div-mul-le_self, mul-le-mul_right}
 use Rattle.qh_model.proofs.Members.{All-In, In-get_or}
 use Rattle.qh_surface.proofs.starts.initial_simplex.furthest.Goals.{then-distance-most, else-distance-most}

@@ -2,6 +2,6 @@
 use Rattle.qh_model.specs.headline.Sets.{Members}
 use Rattle.qh_surface.proofs.starts.initial_simplex.furthest.Given as goal
 
--- what was found is one of the ids
+-- the id found is one of the ids
 abbrev pub invariant-loop-part : goal.invariant-loop-part
 invariant-loop-part l = Members l.ids l.found

@@ -1,4 +1,4 @@
--- The four are ids, and not in one plane.
+-- The four corners are ids, and not in one plane.
 use Rattle.std.proofs.Common.{arith, rules}
 use Rattle.qh_surface.proofs.starts.initial_simplex.wide_simplex.Goals as goal
 

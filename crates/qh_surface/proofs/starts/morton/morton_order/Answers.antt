@@ -1,4 +1,4 @@
--- Ids of keys that are sorted are the same ids.
+-- The ids of sorted keys are the same ids.
 use Rattle.std.proofs.Common.{ℕ, List, map, sym, subst, IsPermutation}
 use Rattle.std.proofs.lemmas.List.Sorted.{IsPermutation-map}
 use Rattle.qh_model.specs.contract.Halves.{low_of}

@@ -1,4 +1,4 @@
--- One facet more is live, and none of those before it.
+-- One more facet is live, and differs from those before it.
 use Rattle.std.proofs.Common.{◌≡◌, ◌+◌, ◌<◌, arith, rules, slice_index, take}
 use Rattle.std.proofs.lemmas.List.{get_or_read, take_more}
 use Rattle.std.proofs.lemmas.List.Elements.{All-push, All-weaker}

@@ -1,4 +1,4 @@
--- The pairs of the triangles that are left complete those of the fan.
+-- The pairs of the remaining triangles complete those of the fan.
 use Rattle.qh_model.specs.contract.FaceTriangles.{face_triangles}
 use Rattle.qh_write.specs.steps.EdgeKeys.{Completes, pairs_of}
 use Rattle.qh_write.proofs.texts.edges.push_fan.Given as goal

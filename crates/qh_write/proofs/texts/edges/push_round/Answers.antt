@@ -1,4 +1,4 @@
--- All sides are left at first.
+-- At first all sides remain.
 use Rattle.std.proofs.Common.{◌∙◌, ap, subst}
 use Rattle.qh_write.specs.steps.EdgeKeys.{AddsPairs}
 use Rattle.qh_write.proofs.EdgeKeyLemmas.{pairs_along_sides, pairs_of_sides}

@@ -1,4 +1,4 @@
--- The pairs of the sides that are left complete those of the face.
+-- The pairs of the remaining sides complete those of the face.
 use Rattle.qh_model.specs.headline.Fan.{pairs_round}
 use Rattle.qh_write.specs.steps.EdgeKeys.{Completes}
 use Rattle.qh_write.proofs.EdgeKeyLemmas.{pairs_along_sides}

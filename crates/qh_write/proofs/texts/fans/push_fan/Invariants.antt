@@ -1,4 +1,4 @@
--- What is written so far, and the triangles that are left.
+-- The text so far, and the remaining triangles.
 use Rattle.std.proofs.Common.{◌≡◌, ◌++◌, All}
 use Rattle.std.specs.List.{flat_map}
 use Rattle.qh_model.specs.contract.FaceTriangles.{face_triangles}

@@ -1,4 +1,4 @@
--- The parts of the faces in a row are all faces.
+-- The concatenated parts of the faces are all faces.
 use Rattle.qh_write.proofs.texts.scribes.push_faces_in_threads.Goals as goal
 use Rattle.std.proofs.Common.{rules, ◌≡◌, ◌<◌, ◌≤◌, ◌*◌, ◌/◌, ◌+◌, ◌∙◌, ℕ, List, length, take, drop, get_or, Result, Vec, Global, arith, ap}
 use Rattle.std.proofs.lemmas.{Grind.flat_map-append, Result.on_ok_weaker}

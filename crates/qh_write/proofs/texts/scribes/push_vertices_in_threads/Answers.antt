@@ -1,4 +1,4 @@
--- The parts of the vertices in a row are all vertices.
+-- The concatenated parts of the vertices are all vertices.
 use Rattle.qh_write.proofs.texts.scribes.push_vertices_in_threads.Goals as goal
 use Rattle.std.proofs.Common.{rules, ◌≡◌, ◌<◌, ◌≤◌, ◌*◌, ◌/◌, ◌+◌, ℕ, List, length, take, drop, get_or, Result, Vec, Global, arith, refl, ap}
 use Rattle.std.proofs.lemmas.{Grind.flat_map-append, Result.on_ok_weaker}

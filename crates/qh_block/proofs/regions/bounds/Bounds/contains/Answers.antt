@@ -1,4 +1,4 @@
--- The three tests together.
+-- The conjunction of the three tests.
 use Rattle.std.proofs.Common.{◌≡◌, Bool, IsTrue}
 use Rattle.std.specs.Prelude.{ℤ, ◌↔◌}
 use Rattle.qh_pred.specs.contract.Ranges.{IsBetween}

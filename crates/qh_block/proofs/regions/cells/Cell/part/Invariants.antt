@@ -1,4 +1,4 @@
--- Each plane is above all of the part, listed, or still to come.
+-- Each plane is above all of the part, listed, or among the remaining ones.
 use Rattle.std.proofs.Common.{drop}
 use Rattle.qh_block.proofs.CellParts.{AreSifted}
 use Rattle.qh_block.proofs.regions.cells.Cell.part.Given as goal

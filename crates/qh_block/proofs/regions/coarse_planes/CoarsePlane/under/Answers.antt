@@ -1,4 +1,4 @@
--- A plane of whole steps, or one that no point is below.
+-- A plane of whole steps, or a plane with no point below it.
 use Rattle.std.proofs.Common.{◌≡◌, arith}
 use Rattle.std.proofs.lemmas.Int.{ints}
 use Rattle.std.specs.Prelude.{ℤ, pos, ◌<ℤ◌}

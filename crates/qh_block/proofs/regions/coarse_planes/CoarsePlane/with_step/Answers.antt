@@ -1,4 +1,4 @@
--- The plane of the whole steps, with room for what they leave.
+-- The plane of the whole steps, with room for the rests.
 use Rattle.std.proofs.Common.{◌≡◌, ◌^◌, arith, lit<, subst, sym}
 use Rattle.std.proofs.lemmas.Int.{ints, to_z-of_z}
 use Rattle.qh_pred.proofs.Bounds.{fits_wide}

@@ -1,4 +1,4 @@
--- The cell that is asked is one of the cells.
+-- The tested cell is one of the cells.
 use Rattle.std.proofs.Common.{arith, subst, sym}
 use Rattle.qh_model.specs.headline.Sets.{In}
 use Rattle.qh_model.proofs.Members.{In-get_or}

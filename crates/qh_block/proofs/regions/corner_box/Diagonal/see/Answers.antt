@@ -1,4 +1,4 @@
--- Each end is as before or the new point.
+-- Each end is the previous end or the new point.
 use Rattle.qh_block.proofs.regions.corner_box.Diagonal.see.Goals.{then-reach-self, else-reach-self}
 use Rattle.qh_block.proofs.regions.corner_box.Diagonal.see.Goals as goal
 

@@ -1,4 +1,4 @@
--- Each side of the box is no further out than the four ends that lie that way.
+-- Each side of the box is no further out than the four ends in its direction.
 use Rattle.std.proofs.Common.{◌∙◌, ap}
 use Rattle.qh_model.specs.headline.Vector.{Vector}
 use Rattle.qh_block.proofs.CornerBoxes.{box_is_outward, four_under, under_four}

@@ -1,4 +1,4 @@
--- Numbers of 32 bits joined bit by bit have no more.
+-- The bitwise or of numbers of 32 bits has 32 bits.
 use Rattle.std.proofs.Common.{ℕ, ◌^◌, ◌<◌, Fits, w64, arith}
 use Rattle.std.proofs.lemmas.Nat.{or_of_32}
 use Rattle.qh_block.proofs.regions.grid.Grid.number.Goals as goal

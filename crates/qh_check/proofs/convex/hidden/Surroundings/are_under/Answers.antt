@@ -1,4 +1,4 @@
--- The point of the key at hand lies under a triangle.
+-- The point of the current key lies under a triangle.
 use Rattle.std.proofs.Common.{◌∙◌, ap, get_or, refl, subst}
 use Rattle.qh_model.specs.headline.{Vector.Vector, Predicates.place}
 use Rattle.qh_check.specs.steps.Hidden.{id_in, IsUnderOne}

@@ -1,4 +1,4 @@
--- The triangle at hand is met, or missed.
+-- The current triangle is met, or missed.
 use Rattle.std.proofs.Common.{◌≡◌, ◌∙◌, ◌+◌, ap, inl, inr, subst, sym, true, false, ◌⊎◌}
 use Rattle.std.proofs.lemmas.List.Sums.{count_by_more_yes, count_by_more_no}
 use Rattle.qh_model.specs.headline.Predicates.{place}

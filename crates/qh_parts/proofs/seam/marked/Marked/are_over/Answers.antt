@@ -1,4 +1,4 @@
--- A group of facets is over the ids, as their planes are.
+-- A group of facets is above the ids, since their planes are.
 use Rattle.std.proofs.Common.{subst, arith}
 use Rattle.std.specs.Prelude.{pos, ◌<ℤ◌}
 use Rattle.qh_model.specs.headline.Predicates.{place}

@@ -1,4 +1,4 @@
--- The facets that are not left are over the ids.
+-- The facets that do not remain are above the ids.
 use Rattle.std.proofs.Common.{ℕ, List, length}
 use Rattle.qh_model.specs.headline.Predicates.{place}
 use Rattle.qh_model.specs.contract.StoredSurface.{surface_of}

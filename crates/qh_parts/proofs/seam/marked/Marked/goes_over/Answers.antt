@@ -1,4 +1,4 @@
--- The neighbour is that over the side.
+-- The neighbour is the one across the side.
 use Rattle.std.proofs.Common.{◌≡◌, ◌∙◌, ap, sym, false, Bool, refl}
 use Rattle.std.proofs.lemmas.Bool.{not-true}
 use Rattle.std.specs.Prelude.{IsTrue, not}

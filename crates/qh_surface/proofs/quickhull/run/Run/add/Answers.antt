@@ -1,4 +1,4 @@
--- A round: the walk, the replacement, and what is then left to settle.
+-- A round: the walk, the replacement, and the orphans to settle.
 use Rattle.std.proofs.Common.{sym, subst}
 use Rattle.qh_model.specs.headline.Predicates.{place}
 use Rattle.qh_surface.specs.steps.Cones.{IsFan}

@@ -1,4 +1,4 @@
--- The next apex is picked from the run as it stands, and none is left where nothing waits.
+-- The next apex is picked from the run, and there is none if no facet waits.
 use Rattle.qh_surface.specs.steps.RunStates.{state_of}
 use Rattle.qh_surface.proofs.quickhull.run.Run.finish.Goals as goal
 

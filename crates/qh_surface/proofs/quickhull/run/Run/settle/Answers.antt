@@ -1,4 +1,4 @@
--- What is settled is ready for the next round.
+-- The settled run is ready for the next round.
 use Rattle.std.proofs.Common.{◌<◌, ◌∙◌, ◌-◌, ap, sym, subst, List, [], length, replicate, get_or, arith, ℕ, length-append}
 use Rattle.qh_model.specs.headline.{Predicates.place, Vector.Vector}
 use Rattle.qh_surface.specs.steps.{Cones.HasNoCornerAbove, Planes.ArePlanes}

@@ -1,4 +1,4 @@
--- All that the apex sees is found.
+-- All facets that the apex sees are found.
 use Rattle.std.proofs.Common.{◌≡◌, ◌∙◌, ℕ, List, Bool, false, sym, subst, pos, ◌<ℤ◌}
 use Rattle.qh_model.specs.headline.Vector.{Vector}
 use Rattle.qh_pred.specs.contract.Planes.{height}

@@ -1,4 +1,4 @@
--- One live facet more is listed.
+-- One more live facet is listed.
 use Rattle.std.proofs.Common.{◌∙◌}
 use Rattle.qh_surface.proofs.LiveFacets.{all_live, next_live, rest_live}
 use Rattle.qh_tests_geometry.proofs.tests.block.surfaces.triangles.Goals as goal

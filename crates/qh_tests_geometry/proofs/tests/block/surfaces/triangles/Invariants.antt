@@ -1,4 +1,4 @@
--- The facets to come are live.
+-- The remaining facets are live.
 use Rattle.std.proofs.Common.{All}
 use Rattle.qh_mesh.specs.contract.Replacement.{IsLive}
 use Rattle.qh_tests_geometry.proofs.tests.block.surfaces.triangles.Given as goal
