@@ -70,8 +70,9 @@ class Imports:
             return
         for name in names.split(","):
             source, _, target = name.strip().partition(" as ")
-            if source:
-                self.names[target or source] = (path, source)
+            folder, _, own = source.rpartition(".")
+            if own:
+                self.names[target or own] = (f"{path}.{folder}" if folder else path, own)
 
 
 class Project:

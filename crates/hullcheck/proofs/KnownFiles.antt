@@ -1,14 +1,12 @@
 -- The bytes that a source read from a file whose bytes are known.
 use Rattle.std.proofs.Common.{◌≡◌, ◌∙◌, ℕ, ◌+◌, ◌<◌, List, ◌++◌, Option, Some, None, length, IfSome, arith, ap}
-use Rattle.std.specs.Io.KnownBytes.{Consumes}
 use Rattle.std.proofs.lemmas.List.{append-nil, length-append}
+use Rattle.std.specs.Io.KnownBytes.{Consumes}
 use Rattle.qh_model.specs.declared.limits.TheConstants.{BYTE_LIMIT}
 use Rattle.qh_read.specs.headline.SourceBytes.{Gives, GivesAll}
+use Rattle.hullcheck.specs.contract.{Checking.IsCheckFault, Checking.IsJudgeFault, CommandLine.Asked, CommandLine.asked_by, Judging.IsWhole}
 use Rattle.hullcheck.specs.declared.fault.Fault.{Fault}
 use Rattle.hullcheck.specs.declared.fault.Fault.TheVariants.{Usage, Memory, Device, Output, Points, Faces}
-use Rattle.hullcheck.specs.contract.Checking.{IsCheckFault, IsJudgeFault}
-use Rattle.hullcheck.specs.contract.CommandLine.{Asked, asked_by}
-use Rattle.hullcheck.specs.contract.Judging.{IsWhole}
 
 -- all bytes that a source read to its end are those of the file
 pub all_of : {P : List ℕ → Type 0} (content remaining new : Option (List ℕ)) → IfSome content (λ known. remaining ≡ Some known)

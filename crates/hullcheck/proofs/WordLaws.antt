@@ -1,10 +1,8 @@
 -- The settings that the words of a command line specify, word by word.
 use Rattle.std.proofs.Common.{◌≡◌, ℕ, ◌≤◌, Bool, true, false, List, [], ◌∷◌, Option, Some, None, length, arith, ap, sym, refl, codes}
-use Rattle.std.specs.Str.{all_ascii_digits, bytes_eq}
-use Rattle.std.specs.Str.Parse.{IsNumeral, digits_value, without_leading_plus}
-use Rattle.std.specs.Option.{option_and_then}
 use Rattle.std.proofs.lemmas.Bool.{and_from, and_parts, le-leb, leb-true, lt-ltb, ltb-true}
 use Rattle.std.proofs.lemmas.Str.Parse.{IsNumeralModel, numerals_by_value, tells_all_ascii_digits}
+use Rattle.std.specs.{Str.all_ascii_digits, Str.bytes_eq, Option.option_and_then, Str.Parse.IsNumeral, Str.Parse.digits_value, Str.Parse.without_leading_plus}
 use Rattle.qh_model.specs.declared.limits.TheConstants.{WORKER_LIMIT}
 use Rattle.hullcheck.specs.contract.CommandLine.{Asked, is_number_of_workers, with_word, with_words, workers_in}
 use Rattle.hullcheck.specs.steps.Words.{with_number}

@@ -3,8 +3,7 @@ ghost use Rattle.std.specs.Prelude.{◌≤◌, ◌<◌, ◌-◌, ◌^◌, IfErr,
 ghost use Rattle.qh_model.specs.declared.limits.TheConstants.{POINT_LIMIT};
 ghost use Rattle.qh_read.specs.headline.SourceBytes.{GivesAll};
 ghost use Rattle.qh_check.specs.contract.Judging.{IsJudgement};
-ghost use Rattle.hullcheck.specs.contract.Checking.{IsCheckFault};
-ghost use Rattle.hullcheck.specs.contract.Judging.{IsTold, named_points};
+ghost use Rattle.hullcheck.specs.contract.{Checking.IsCheckFault, Judging.IsTold, Judging.named_points};
 
 use crate::fault::Fault;
 use qh_check::{Judgement, judge_faces};

@@ -1,12 +1,10 @@
 //! The program, given the words of a command line, files, and devices for lines of text.
-ghost use Rattle.std.specs.Prelude.{◌≡◌, ◌≢◌, ◌⊎◌, ◌^◌, ◌-◌, ◌<◌, IfErr, IfOk, IfSome, Some, false, true, map, string_bytes};
-ghost use Rattle.std.specs.Option.{option_map};
-ghost use Rattle.std.specs.declared.io.ErrorKind.TheVariants.{OutOfMemory};
+ghost use Rattle.std.specs.Prelude.{◌≡◌, ◌≢◌, ◌⊎◌, ◌^◌, ◌-◌, ◌<◌, IfErr, IfOk, IfSome, Some, false, true, map};
+ghost use Rattle.std.specs.{Prelude.string_bytes, Option.option_map, declared.io.ErrorKind.TheVariants.OutOfMemory};
 ghost use Rattle.qh_write.specs.contract.LineDevices.{LineDevice};
-ghost use Rattle.hullcheck.specs.declared.fault.Fault.TheVariants.{Device, Memory, Usage};
-ghost use Rattle.hullcheck.specs.contract.Checking.{IsJudgeFault};
-ghost use Rattle.hullcheck.specs.contract.Judging.{IsToldBy, IsWhole};
+ghost use Rattle.hullcheck.specs.contract.{Checking.IsJudgeFault, Judging.IsToldBy, Judging.IsWhole};
 ghost use Rattle.hullcheck.specs.contract.Runs.{IsEnd, IsJudged, IsRefusal, IsRun};
+ghost use Rattle.hullcheck.specs.declared.fault.Fault.TheVariants.{Device, Memory, Usage};
 ghost use Rattle.hullcheck.specs.steps.Files.{IsUnread};
 
 use crate::command_line::settings_of;

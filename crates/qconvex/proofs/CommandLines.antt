@@ -1,21 +1,15 @@
 -- The reasons why a command line has no settings.
 use Rattle.std.proofs.Common.{◌≡◌, ◌∙◌, ◌<◌, ap, sym, subst, refl, arith, ℕ, zero, suc, Bool, true, false, inl, inr, List, [], ◌∷◌, length, map, Option, codes}
-use Rattle.std.specs.Prelude.{slice_index_or}
-use Rattle.std.specs.Borrow.{Bor}
-use Rattle.std.specs.Option.{option_map}
-use Rattle.clap.specs.Words.{App, Text, IsAmong, HasKind, all_of, fault_of, kind_of, matched_of, matches_of}
-use Rattle.clap.specs.Words.{one_of, raw_values, rows_of, takes}
-use Rattle.clap.specs.declared.error.Error.{Error}
-use Rattle.clap.specs.declared.error.kind.ErrorKind.{ErrorKind}
-use Rattle.clap.specs.declared.error.kind.ErrorKind.TheVariants.{DisplayHelp, OutOfMemory}
+use Rattle.std.specs.{Prelude.slice_index_or, Borrow.Bor, Option.option_map}
+use Rattle.clap.specs.Words.{App, Text, IsAmong, HasKind, all_of, fault_of, kind_of, matched_of, matches_of, one_of, raw_values, rows_of, takes}
+use Rattle.clap.specs.declared.error.{Error.Error, kind.ErrorKind.ErrorKind, kind.ErrorKind.TheVariants.DisplayHelp, kind.ErrorKind.TheVariants.OutOfMemory}
 use Rattle.clap.specs.declared.parser.matches.Found.{Found}
 use Rattle.clap.proofs.WalkLemmas.{one_text-rows, raw_values-rows}
 use Rattle.qh_model.specs.declared.out.Out.{Out}
-use Rattle.qconvex.specs.declared.command_line.ArgFault.{ArgFault}
-use Rattle.qconvex.specs.declared.command_line.ArgFault.TheVariants.{Help, Usage, Memory}
-use Rattle.qh_serve.specs.headline.SettingsValue.{SettingsValue}
 use Rattle.qconvex.specs.contract.CommandLine.{AreOutsOf, AreSettingsIn, IsArgFaultOf, IsFormOf, IsProgram, NumberOf, word_of}
+use Rattle.qconvex.specs.declared.command_line.ArgFault.{ArgFault, TheVariants.Help, TheVariants.Usage, TheVariants.Memory}
 use Rattle.qconvex.specs.steps.Matches.{AreSettingsFound, IsFindingFault, IsOutsFault, IsRefusalOf}
+use Rattle.qh_serve.specs.headline.SettingsValue.{SettingsValue}
 
 -- each of the words of outputs is the word of an output
 pub word_at : (outs : List Out) (names : List (Bor Text)) (k : ℕ) (d : Bor Text)

@@ -1,18 +1,16 @@
 -- A verdict is `RIGHT` exactly if the faces are the surface of the hull.
 use Rattle.std.proofs.Common.{◌≡◌, ◌↔◌, ◌∙◌, ℕ, ◌<◌, List, [], length, get_or, arith, refl, ap, sym, subst}
 use Rattle.std.proofs.lemmas.List.{ext_get_or}
-use Rattle.qh_model.specs.contract.IdSets.{HasDistinctPoints}
-use Rattle.qh_model.specs.headline.{DistinctIds.AreDistinctIds, Predicates.place, Sets.Members, Vector.Vector}
-use Rattle.qh_model.proofs.{DistinctIds.distinct_apart, Members.in_at}
-use Rattle.qh_model.proofs.hulls.Unique.{distinct_ids_are_unique}
-use Rattle.qh_check.specs.contract.Surfaces.{IsHullSurface}
-use Rattle.qh_check.specs.declared.flaw.SurfaceVerdict.TheVariants.{Right, OtherPolygons, NoPiece, Open, Twice}
+use Rattle.qh_model.specs.{contract.IdSets.HasDistinctPoints, headline.DistinctIds.AreDistinctIds, headline.Predicates.place, headline.Sets.Members}
+use Rattle.qh_model.specs.headline.Vector.{Vector}
+use Rattle.qh_model.proofs.{DistinctIds.distinct_apart, Members.in_at, hulls.Unique.distinct_ids_are_unique}
+use Rattle.qh_check.specs.contract.{Surfaces.IsHullSurface, Judging.IsJudgement, Judging.IsTold, Judging.IsStrangeFace}
+use Rattle.qh_check.specs.contract.Naming.{AreNamed, AreNamedFaces, IsNamed}
 use Rattle.qh_check.specs.declared.fault.FaceFault.TheVariants.{NoPlane, Above, OtherFace}
-use Rattle.qh_check.specs.contract.{Judging.IsJudgement, Judging.IsTold, Judging.IsStrangeFace, Naming.AreNamed, Naming.AreNamedFaces, Naming.IsNamed}
-use Rattle.qh_check.specs.declared.judgement.Judgement.{Judgement}
-use Rattle.qh_check.specs.declared.judgement.Judgement.TheVariants.{Told, Stranger}
-use Rattle.qconvex_c.specs.contract.{Checked.AreFacesIn, Checked.AreHullFaces, Checked.IsVerdictOn, Checked.verdict_of, Codes.QCONVEX_RIGHT}
-use Rattle.qconvex_c.specs.declared.verdict.Verdict.{Verdict}
+use Rattle.qh_check.specs.declared.flaw.SurfaceVerdict.TheVariants.{Right, OtherPolygons, NoPiece, Open, Twice}
+use Rattle.qh_check.specs.declared.judgement.Judgement.{Judgement, TheVariants.Told, TheVariants.Stranger}
+use Rattle.qconvex_c.specs.contract.Checked.{AreFacesIn, AreHullFaces, IsVerdictOn, verdict_of}
+use Rattle.qconvex_c.specs.{contract.Codes.QCONVEX_RIGHT, declared.verdict.Verdict.Verdict}
 
 -- the faces in a list of corners are unique
 one_cut : (offsets corners : List ℕ) (fs gs : List (List ℕ)) → AreFacesIn offsets corners fs → AreFacesIn offsets corners gs → fs ≡ gs

@@ -1,14 +1,12 @@
 -- The hulls of sets, written one after the other.
-use Rattle.std.proofs.Common.{◌≡◌, ℕ, ◌+◌, ◌*◌, ◌-◌, ◌≤◌, ◌<◌, ◌≢◌, zero, suc, List, length, take, drop}
-use Rattle.std.proofs.Common.{slice_index, slice_index_or, slice_set, get_or-set_same, get_or-set_other, below_more}
-use Rattle.std.proofs.Common.{arith, ap, sym, subst, ◌∙◌}
+use Rattle.std.proofs.Common.{◌≡◌, ℕ, ◌+◌, ◌*◌, ◌-◌, ◌≤◌, ◌<◌, ◌≢◌, zero, suc, List, length, take, drop, slice_index, slice_index_or, slice_set}
+use Rattle.std.proofs.Common.{get_or-set_same, get_or-set_other, below_more, arith, ap, sym, subst, ◌∙◌}
 use Rattle.std.proofs.lemmas.List.{drop-set-lt}
 use Rattle.std.specs.List.{slice_range}
 use Rattle.qh_model.specs.headline.Vector.{Vector}
 use Rattle.qconvex_c.proofs.SetParts.{same_part, same_end, kept_longer}
-use Rattle.qconvex_c.specs.contract.Sets.{AreStarts, HaveRoom, IsSetHull, HasSetHull, AreKeptBetween}
-use Rattle.qconvex_c.specs.{contract.Sets.sets_in, contract.Sets.offsets_start, contract.Sets.corners_start, declared.set_answer.SetAnswer.SetAnswer}
-use Rattle.qconvex_c.specs.declared.sets.Set.{Set}
+use Rattle.qconvex_c.specs.contract.Sets.{AreStarts, HaveRoom, IsSetHull, HasSetHull, AreKeptBetween, sets_in, offsets_start, corners_start}
+use Rattle.qconvex_c.specs.declared.{set_answer.SetAnswer.SetAnswer, sets.Set.Set}
 
 -- equal positions have equal starts
 ap_le : (starts : List ℕ) {i j : ℕ} → i ≡ j → slice_index starts i ≤ slice_index starts j

@@ -1,8 +1,7 @@
 -- Sums of volumes over triangles in one list, three corners at a time.
-use Rattle.std.proofs.Common.{◌≡◌, ℕ, ◌+◌, ◌*◌, ◌/◌, ◌<◌, ℤ, pos, ◌+ℤ◌, suc, List, [], ◌∷◌, length, drop, get_or}
-use Rattle.std.proofs.Common.{refl, ap, sym, subst, ◌∙◌, arith, rules}
-use lib.IntN.{+ℤ_assoc}
+use Rattle.std.proofs.Common.{◌≡◌, ℕ, ◌+◌, ◌*◌, ◌/◌, ◌<◌, ℤ, pos, ◌+ℤ◌, suc, List, [], ◌∷◌, length, drop, get_or, refl, ap, sym, subst, ◌∙◌, arith, rules}
 use Rattle.std.proofs.{Math.Seq.drop-cons, lemmas.List.length-drop}
+use lib.IntN.{+ℤ_assoc}
 use Rattle.std.specs.{Int.w128, Prelude.FitsSigned}
 use Rattle.qh_model.specs.headline.{Predicates.vol, Vector.Vector}
 use Rattle.qconvex_c.specs.contract.Volumes.{six_volumes, PartialSumsFit}

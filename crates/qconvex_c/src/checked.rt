@@ -1,11 +1,10 @@
 //! The C function that checks faces.
 ghost use Rattle.std.specs.Prelude.{◌≡◌, ◌≢◌, ◌≤◌, ◌<◌, ◌↔◌, length};
 ghost use Rattle.std.specs.List.{All};
-ghost use Rattle.qh_model.specs.contract.Places.{IsPlace};
-ghost use Rattle.qh_model.specs.declared.limits.TheConstants.{POINT_LIMIT};
+ghost use Rattle.qh_model.specs.{contract.Places.IsPlace, declared.limits.TheConstants.POINT_LIMIT};
 ghost use Rattle.qconvex_c.specs.contract.Checked.{AreHullFaces, IsVerdictOn};
-ghost use Rattle.qconvex_c.specs.contract.Codes.{QCONVEX_DONE, QCONVEX_NO_POINT, QCONVEX_TOO_MANY, QCONVEX_RANGE, QCONVEX_ROOM};
-ghost use Rattle.qconvex_c.specs.contract.Codes.{QCONVEX_STARTS, QCONVEX_RIGHT};
+ghost use Rattle.qconvex_c.specs.contract.Codes.{QCONVEX_DONE, QCONVEX_NO_POINT, QCONVEX_TOO_MANY, QCONVEX_RANGE};
+ghost use Rattle.qconvex_c.specs.contract.Codes.{QCONVEX_ROOM, QCONVEX_STARTS, QCONVEX_RIGHT};
 ghost use Rattle.qconvex_c.specs.contract.Sets.{AreStarts};
 
 use crate::code::{DONE, MEMORY, STARTS};

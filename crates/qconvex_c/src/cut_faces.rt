@@ -1,7 +1,6 @@
 //! The faces of a caller, cut from one list of corners.
 ghost use Rattle.std.specs.Prelude.{◌≡◌, IfOk, length};
-ghost use Rattle.qconvex_c.specs.contract.Checked.{AreFacesIn};
-ghost use Rattle.qconvex_c.specs.contract.Sets.{AreStarts};
+ghost use Rattle.qconvex_c.specs.contract.{Checked.AreFacesIn, Sets.AreStarts};
 
 use crate::sets::set_at;
 use qh_model::{Id, Polygon};

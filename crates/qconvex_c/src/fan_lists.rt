@@ -1,9 +1,8 @@
 //! The fans of the hull of points, written to buffers.
-ghost use Rattle.std.specs.Prelude.{◌≡◌, ◌≢◌, ◌*◌, ◌≤◌, ◌<◌, ◌↔◌, ◌⊎◌, length, take, drop, true, false, IfOk, IfErr, IsErrOf, OnOk, OnErr};
-ghost use Rattle.std.specs.List.{All};
-ghost use Rattle.qh_model.specs.contract.Places.{IsPlace};
+ghost use Rattle.std.specs.Prelude.{◌≡◌, ◌≢◌, ◌*◌, ◌≤◌, ◌<◌, ◌↔◌, ◌⊎◌, length, take, drop, true, false, IfOk, IfErr};
+ghost use Rattle.std.specs.{Prelude.IsErrOf, Prelude.OnOk, Prelude.OnErr, List.All};
+ghost use Rattle.qh_model.specs.{contract.Places.IsPlace, declared.limits.TheConstants.POINT_LIMIT};
 ghost use Rattle.qh_model.specs.headline.Hull.{IsHull};
-ghost use Rattle.qh_model.specs.declared.limits.TheConstants.{POINT_LIMIT};
 ghost use Rattle.qconvex_c.specs.contract.Triangles.{AreFans, NeedsFanRoom};
 
 use crate::buffers::{put_components, put_numbers};

@@ -1,8 +1,7 @@
 //! The faces of a hull as fans of triangles, in flat lists.
 ghost use Rattle.std.specs.Prelude.{◌≡◌, ◌++◌, ◌∷◌, [], ◌<◌, All, IfOk, OnOk};
 ghost use Rattle.std.specs.List.{flat_map};
-ghost use Rattle.qh_model.specs.contract.IdSets.{AreIndices};
-ghost use Rattle.qh_model.specs.headline.Predicates.{place};
+ghost use Rattle.qh_model.specs.{contract.IdSets.AreIndices, headline.Predicates.place};
 ghost use Rattle.qconvex_c.specs.steps.FaceFans.{face_corners, face_normals};
 
 use qh_model::{Body, Id, Point, Polygon};

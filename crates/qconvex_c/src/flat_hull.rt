@@ -1,7 +1,6 @@
 //! A hull as lists of numbers, in the layout of the caller's buffers.
 ghost use Rattle.std.specs.Prelude.{◌≡◌, ◌++◌, IfOk, OnOk, List};
-ghost use Rattle.qh_model.specs.headline.Hull.{IsHull};
-ghost use Rattle.qh_model.specs.headline.Vector.{Vector};
+ghost use Rattle.qh_model.specs.headline.{Hull.IsHull, Vector.Vector};
 ghost use Rattle.qconvex_c.specs.contract.Flat.{IsFlatHull, corners_of, offsets_of};
 
 use crate::sizes::Sizes;

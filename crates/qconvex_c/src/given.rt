@@ -1,9 +1,7 @@
 //! Points as C passes them.
 ghost use Rattle.std.specs.Prelude.{◌≡◌, ◌<◌, ◌↔◌, length, IsTrue, IfOk};
 ghost use Rattle.std.specs.List.{All};
-ghost use Rattle.qh_model.specs.headline.Limits.{IsCoordinate};
-ghost use Rattle.qh_model.specs.contract.Places.{IsPlace};
-ghost use Rattle.qh_model.specs.headline.Predicates.{place};
+ghost use Rattle.qh_model.specs.{contract.Places.IsPlace, headline.Limits.IsCoordinate, headline.Predicates.place};
 
 use qh_model::{COORDINATE_LIMIT, Memory, Point};
 use std::alloc::Global;
@@ -21,8 +19,7 @@ pub struct Given {
 }
 
 impl Model for Given {
-    ghost use Rattle.qh_model.specs.headline.Vector.{Vector};
-    ghost use Rattle.qh_model.specs.contract.Places.{vector_code};
+    ghost use Rattle.qh_model.specs.{contract.Places.vector_code, headline.Vector.Vector};
 
     ghost Value = { Vector };
 

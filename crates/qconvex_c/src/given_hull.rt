@@ -1,8 +1,7 @@
 //! The hull of the points of a caller, in flat lists.
 ghost use Rattle.std.specs.Prelude.{◌≡◌, ◌≤◌, ◌<◌, ◌↔◌, length, IfOk, IsErrOf};
 ghost use Rattle.std.specs.List.{All};
-ghost use Rattle.qh_model.specs.contract.Places.{IsPlace};
-ghost use Rattle.qh_model.specs.declared.limits.TheConstants.{POINT_LIMIT};
+ghost use Rattle.qh_model.specs.{contract.Places.IsPlace, declared.limits.TheConstants.POINT_LIMIT};
 ghost use Rattle.qconvex_c.specs.contract.Flat.{IsFlatHull};
 
 use crate::fault::Fault;

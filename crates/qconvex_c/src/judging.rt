@@ -1,8 +1,7 @@
 //! Validation of the caller's points, before any hull is computed.
 ghost use Rattle.std.specs.Prelude.{◌≡◌, ◌≤◌, ◌<◌, ◌↔◌, length, IsErrOf, OnOk};
 ghost use Rattle.std.specs.List.{All};
-ghost use Rattle.qh_model.specs.contract.Places.{IsPlace};
-ghost use Rattle.qh_model.specs.declared.limits.TheConstants.{POINT_LIMIT};
+ghost use Rattle.qh_model.specs.{contract.Places.IsPlace, declared.limits.TheConstants.POINT_LIMIT};
 
 use crate::fault::Fault;
 use crate::given::{Given, are_places};

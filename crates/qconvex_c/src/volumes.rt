@@ -1,10 +1,7 @@
 //! Six times the volume inside triangles.
 ghost use Rattle.std.specs.Prelude.{◌≡◌, ◌≢◌, ◌⊎◌, ◌<◌, ◌↔◌, ◌+◌, ◌*◌, ◌^◌, pos, length, IsTrue, IfSome, IfNone};
-ghost use Rattle.std.specs.Int.{w128, cast_unsigned};
-ghost use Rattle.std.specs.List.{All};
-ghost use Rattle.qh_model.specs.contract.IdSets.{AreIndices};
-ghost use Rattle.qh_model.specs.contract.Places.{IsPlace};
-ghost use Rattle.qh_model.specs.headline.Predicates.{place};
+ghost use Rattle.std.specs.{Int.w128, Int.cast_unsigned, List.All};
+ghost use Rattle.qh_model.specs.{contract.IdSets.AreIndices, contract.Places.IsPlace, headline.Predicates.place};
 ghost use Rattle.qconvex_c.specs.contract.Volumes.{six_volumes, PartialSumsFit};
 ghost use Rattle.qconvex_c.specs.contract.Codes.{QCONVEX_DONE, QCONVEX_NO_POINT, QCONVEX_RANGE, QCONVEX_ROOM};
 

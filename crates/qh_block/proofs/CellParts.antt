@@ -1,14 +1,11 @@
 -- Cells between planes: their parts, and the points that they hold.
 use Rattle.std.proofs.Common.{◌≡◌, ◌⊎◌, ◌<◌, ⊎_elim, inl, inr, ℕ, List, [], ◌∷◌, ◌++◌, arith, length, subst, suc, sym}
-use Rattle.std.specs.List.{range_with_len}
-use Rattle.std.specs.Prelude.{pos, ◌<ℤ◌}
+use Rattle.std.specs.{List.range_with_len, Prelude.pos, Prelude.◌<ℤ◌}
 use Rattle.qh_model.specs.headline.{Vector.Vector, Sets.In}
-use Rattle.qh_model.proofs.Members.{All-In}
-use Rattle.qh_model.proofs.lists.{Joined.in_append, Ranges.range_has}
+use Rattle.qh_model.proofs.{Members.All-In, lists.Joined.in_append, lists.Ranges.range_has}
 use Rattle.qh_pred.specs.contract.Planes.{PlaneValue, height}
-use Rattle.qh_block.specs.declared.regions.bounds.Bounds.{Bounds}
-use Rattle.qh_block.specs.declared.regions.cells.Cell.{Cell}
 use Rattle.qh_block.specs.contract.Cells.{numbered, IsBelow, IsCellOf, IsHeld, IsWithin, AreNear}
+use Rattle.qh_block.specs.declared.regions.{bounds.Bounds.Bounds, cells.Cell.Cell}
 
 -- all planes are near a box if all numbers are listed
 pub all_near : (b : Bounds) (count : ℕ) (near : List ℕ) → near ≡ range_with_len 0 count → (planes : List PlaneValue) → length planes ≡ count

@@ -2,14 +2,11 @@
 use Rattle.std.proofs.Common.{◌≡◌, arith, ◌∙◌, ap}
 use Rattle.std.proofs.lemmas.Int.{ints}
 use Rattle.std.specs.Prelude.{ℤ, pos, ◌+ℤ◌, ◌-ℤ◌, ◌*ℤ◌, ◌≤ℤ◌, ◌<ℤ◌}
-use Rattle.qh_model.specs.declared.limits.TheConstants.{COORDINATE_LIMIT}
-use Rattle.qh_model.specs.headline.Vector.{Vector, dot}
-use Rattle.qh_model.specs.headline.Limits.{IsCoordinate}
+use Rattle.qh_model.specs.{declared.limits.TheConstants.COORDINATE_LIMIT, headline.Vector.Vector, headline.Vector.dot, headline.Limits.IsCoordinate}
 use Rattle.qh_model.proofs.algebra.Order.{mul-le}
 use Rattle.qh_model.proofs.algebra.Integers.{add_mul, mul_add, mul_assoc, mul_comm, mul_one, mul_swap}
 use Rattle.qh_pred.specs.contract.Planes.{PlaneValue}
-use Rattle.qh_block.specs.steps.CoarsePlanes.{IsLowered, IsRest, IsRoomFor}
-use Rattle.qh_block.specs.contract.CoarsePlanes.{IsUnder}
+use Rattle.qh_block.specs.{contract.CoarsePlanes.IsUnder, steps.CoarsePlanes.IsLowered, steps.CoarsePlanes.IsRest, steps.CoarsePlanes.IsRoomFor}
 
 -- the greatest coordinate
 abbrev limit : ℤ

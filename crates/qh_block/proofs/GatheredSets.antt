@@ -1,15 +1,12 @@
 -- A set by the positions of its ids in a list of their points: its extreme ids are those at the extreme positions.
 use Rattle.std.proofs.Common.{◌≡◌, ℕ, ◌<◌, List, length, map, arith, sym, subst, ◌∙◌}
-use Rattle.std.proofs.lemmas.List.{length-map, get_or-map, get_or_default}
-use Rattle.std.proofs.lemmas.List.FromFn.{get_or-range_with_len, length-range_with_len}
+use Rattle.std.proofs.lemmas.List.{length-map, get_or-map, get_or_default, FromFn.get_or-range_with_len, FromFn.length-range_with_len}
 use Rattle.std.specs.List.{range_with_len}
-use Rattle.qh_model.specs.headline.{Vector.Vector, Vector.origin, Predicates.place, Sets.In, Sets.Members, Text.vertex_number}
-use Rattle.qh_model.specs.headline.Hull.{AreExtremes}
-use Rattle.qh_model.specs.contract.IdSets.{AreIndices, IsIdSet}
-use Rattle.qh_model.proofs.{Members.In-get_or, Members.rising_once}
-use Rattle.qh_model.proofs.lists.{Ranges.range_below, Ranges.range_has, Rising.range_rises, Rising.rising_between}
-use Rattle.qh_model.proofs.renamed.{Lists.rising_map, Polygons.members_renamed, Positions.at_number, Positions.number_at}
-use Rattle.qh_model.proofs.renamed.Renaming.{IsRenaming, renaming_apart, extremes_renamed}
+use Rattle.qh_model.specs.{contract.IdSets.AreIndices, contract.IdSets.IsIdSet, headline.Vector.Vector, headline.Vector.origin, headline.Predicates.place}
+use Rattle.qh_model.specs.headline.{Sets.In, Sets.Members, Text.vertex_number, Hull.AreExtremes}
+use Rattle.qh_model.proofs.{Members.In-get_or, Members.rising_once, lists.Ranges.range_below, lists.Ranges.range_has}
+use Rattle.qh_model.proofs.{lists.Rising.range_rises, lists.Rising.rising_between, renamed.Lists.rising_map, renamed.Polygons.members_renamed}
+use Rattle.qh_model.proofs.renamed.{Positions.at_number, Positions.number_at, Renaming.IsRenaming, Renaming.renaming_apart, Renaming.extremes_renamed}
 use Rattle.qh_mesh.specs.contract.Names.{name_in}
 
 module _ (pts : List Vector) (ids : List ℕ) where

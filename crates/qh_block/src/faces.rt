@@ -5,23 +5,17 @@
 //! So each plane is walked once.
 ghost use Rattle.std.specs.Prelude.{All, ◌≡◌, ◌≤◌, ◌<◌, ◌↔◌, ◌++◌, ℕ, List, IfOk, OnOk, length, true, false};
 ghost use Rattle.std.specs.List.Sorted.{IsStrictlyIncreasing};
-ghost use Rattle.qh_model.specs.contract.IdSets.{IsIdSet};
-ghost use Rattle.qh_model.specs.headline.Extreme.{Extreme};
-ghost use Rattle.qh_model.specs.contract.ClosedPolygons.{AreClosed};
-ghost use Rattle.qh_model.specs.contract.FinishedSurface.{IsFinished};
-ghost use Rattle.qh_model.specs.headline.Polygon.{IsPolygon};
-ghost use Rattle.qh_model.specs.headline.Polygons.{IsFacePolygon};
-ghost use Rattle.qh_model.specs.headline.Predicates.{cross, place};
-ghost use Rattle.qh_model.specs.headline.Sets.{In, Members};
-ghost use Rattle.qh_model.specs.contract.StoredSurface.{facet_at, surface_of};
+ghost use Rattle.qh_model.specs.contract.{IdSets.IsIdSet, IdSets.AreIndices, ClosedPolygons.AreClosed};
+ghost use Rattle.qh_model.specs.contract.{FinishedSurface.IsFinished, StoredSurface.facet_at, StoredSurface.surface_of};
+ghost use Rattle.qh_model.specs.headline.{Extreme.Extreme, Polygon.IsPolygon, Polygons.IsFacePolygon};
+ghost use Rattle.qh_model.specs.headline.{Predicates.cross, Predicates.place, Sets.In, Sets.Members};
 ghost use Rattle.qh_mesh.specs.contract.Replacement.{IsLive};
-ghost use Rattle.qh_model.specs.contract.IdSets.{AreIndices};
 ghost use Rattle.qh_polygon.specs.contract.PlanarSets.{IsPlanarSet};
-ghost use Rattle.qh_surface.specs.contract.NamedMeshes.{named, IsNamedMesh};
-ghost use Rattle.qh_surface.specs.contract.Corners.{AreCornersBelow};
+ghost use Rattle.qh_surface.specs.contract.{NamedMeshes.named, NamedMeshes.IsNamedMesh, Corners.AreCornersBelow};
 ghost use Rattle.qh_surface.specs.contract.Walks.{mark_at};
 ghost use Rattle.qh_block.specs.contract.MarkedFaces.{AreFacesOfMarked};
-ghost use Rattle.qh_block.specs.steps.Faces.{corners_of, from_least, IsListedCorner, IsNewPlane, IsNewFace, AreFacetFaces};
+ghost use Rattle.qh_block.specs.steps.Faces.{corners_of, from_least, IsListedCorner, IsNewPlane, IsNewFace};
+ghost use Rattle.qh_block.specs.steps.Faces.{AreFacetFaces};
 
 use crate::plane_walk::IsLevel;
 use qh_bodies::UnsortedFaces;

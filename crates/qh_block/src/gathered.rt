@@ -2,8 +2,7 @@
 //!
 //! The points of a part of a long list lie far apart in memory. Gathered points are read faster, and a mark for each
 //! position takes little memory.
-ghost use Rattle.std.specs.Prelude.{◌≡◌, IfOk, map};
-ghost use Rattle.std.specs.List.{range_with_len};
+ghost use Rattle.std.specs.{Prelude.◌≡◌, Prelude.IfOk, Prelude.map, List.range_with_len};
 ghost use Rattle.qh_mesh.specs.contract.Names.{name_in};
 
 use qh_model::{Id, Memory};

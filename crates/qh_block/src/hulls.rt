@@ -1,10 +1,7 @@
 //! The extreme ids and the hull of a set, in every dimension.
 ghost use Rattle.std.specs.Prelude.{◌<◌, IfOk, length};
-ghost use Rattle.qh_model.specs.contract.IdSets.{IsIdSet};
-ghost use Rattle.qh_model.specs.headline.Hull.{AreExtremes, IsBody};
-ghost use Rattle.qh_model.specs.headline.Predicates.{place};
-ghost use Rattle.qh_model.specs.headline.Sets.{Members};
-ghost use Rattle.qh_model.specs.contract.IdSets.{AreIndices};
+ghost use Rattle.qh_model.specs.contract.IdSets.{IsIdSet, AreIndices};
+ghost use Rattle.qh_model.specs.headline.{Hull.AreExtremes, Hull.IsBody, Predicates.place, Sets.Members};
 ghost use Rattle.qh_block.specs.steps.IdSets.{AreExtremesOf, IsHullOf};
 
 use crate::bodies::{flat_body, polygon_of};

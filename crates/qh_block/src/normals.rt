@@ -1,7 +1,6 @@
 //! The side from which the polygon of a set in one plane is seen.
 ghost use Rattle.std.specs.Prelude.{◌≡◌, ◌≢◌, ◌⊎◌, ◌↔◌, IsTrue};
-ghost use Rattle.qh_model.specs.headline.Polygons.{PointsForward};
-ghost use Rattle.qh_model.specs.headline.Vector.{origin, minus};
+ghost use Rattle.qh_model.specs.headline.{Polygons.PointsForward, Vector.origin, Vector.minus};
 
 use qh_pred::Normal;
 

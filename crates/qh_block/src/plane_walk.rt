@@ -1,13 +1,9 @@
 //! A walk over the facets of a mesh that lie in the plane of one of them.
 ghost use Rattle.std.specs.Prelude.{◌≡◌, ◌↔◌, IsTrue, length};
-ghost use Rattle.qh_model.specs.headline.Vector.{Vector};
+ghost use Rattle.qh_model.specs.{contract.Surface.rest, contract.StoredSurface.surface_of, headline.Vector.Vector};
 ghost use Rattle.qh_model.specs.headline.Predicates.{place};
 ghost use Rattle.qh_model.specs.laws.FacetPlanes.{IsLevelWith, IsLevelFacet};
-ghost use Rattle.qh_model.specs.contract.Surface.{rest};
-ghost use Rattle.qh_model.specs.contract.StoredSurface.{surface_of};
-ghost use Rattle.qh_mesh.specs.contract.Edges.{facet_of, side_of_edge};
-ghost use Rattle.qh_mesh.specs.contract.Replacement.{IsLive};
-ghost use Rattle.qh_mesh.specs.contract.SoundMesh.{facet_vol};
+ghost use Rattle.qh_mesh.specs.contract.{Edges.facet_of, Edges.side_of_edge, Replacement.IsLive, SoundMesh.facet_vol};
 ghost use Rattle.qh_pred.specs.contract.Planes.{height};
 ghost use Rattle.qh_surface.specs.contract.Corners.{AreCornersBelow};
 

@@ -1,11 +1,7 @@
 //! The finished mesh of a solid set, and the hull from it.
 ghost use Rattle.std.specs.Prelude.{ℕ, List, IfOk};
-ghost use Rattle.qh_model.specs.contract.IdSets.{IsIdSet};
-ghost use Rattle.qh_model.specs.contract.FinishedSurface.{IsFinished};
-ghost use Rattle.qh_model.specs.headline.Hull.{AreExtremes, IsBody};
-ghost use Rattle.qh_model.specs.headline.Predicates.{place};
-ghost use Rattle.qh_model.specs.headline.Sets.{Once, Members};
-ghost use Rattle.qh_model.specs.contract.StoredSurface.{surface_of};
+ghost use Rattle.qh_model.specs.contract.{IdSets.IsIdSet, FinishedSurface.IsFinished, StoredSurface.surface_of};
+ghost use Rattle.qh_model.specs.headline.{Hull.AreExtremes, Hull.IsBody, Predicates.place, Sets.Once, Sets.Members};
 ghost use Rattle.qh_polygon.specs.contract.Shapes.{IsInLine, IsInPlane, IsFirstNot, AreFirstTwo};
 ghost use Rattle.qh_surface.specs.contract.NamedMeshes.{named, IsNamedMesh};
 

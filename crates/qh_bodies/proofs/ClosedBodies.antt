@@ -1,13 +1,10 @@
 -- Faces that close up determine the hull of a solid set.
 use Rattle.std.proofs.Common.{inl, ℕ, List, refl}
-use Rattle.std.specs.Prelude.{◌↔◌}
-use Rattle.std.specs.List.Sorted.{IsStrictlyIncreasing}
-use Rattle.qh_model.specs.headline.{Vector.Vector, Sets.In, Sets.Members, Extreme.Extreme}
-use Rattle.qh_model.specs.headline.{Dimension.IsDimension, Hull.IsBody, Polygons.RiseStrictly}
-use Rattle.qh_model.specs.contract.{ClosedPolygons.AreClosedFaces, IdSets.HasDistinctPoints}
+use Rattle.std.specs.{Prelude.◌↔◌, List.Sorted.IsStrictlyIncreasing}
+use Rattle.qh_model.specs.{contract.ClosedPolygons.AreClosedFaces, contract.IdSets.HasDistinctPoints, headline.Vector.Vector}
+use Rattle.qh_model.specs.headline.{Sets.In, Sets.Members, Extreme.Extreme, Dimension.IsDimension, Hull.IsBody, Polygons.RiseStrictly}
 use Rattle.qh_model.proofs.lists.{Joined.in_flat_map, Joined.of_flat_map, Lexicographic.rising-ordered}
-use Rattle.qh_model.proofs.polygons.ClosedFaces.{closed_faces_are_all, closed_faces_have_extremes}
-use Rattle.qh_model.proofs.polygons.Steps.{ordered_once}
+use Rattle.qh_model.proofs.polygons.{ClosedFaces.closed_faces_are_all, ClosedFaces.closed_faces_have_extremes, Steps.ordered_once}
 use Rattle.qh_bodies.specs.contract.{SolidEdges.all_edges_up, Tallies.all_members}
 use Rattle.qh_bodies.proofs.EdgeCounts.{edges_of_faces}
 

@@ -1,14 +1,11 @@
 -- The number of edges of a solid: exactly one face has the step from the lower id of an edge to the higher one.
 use Rattle.std.proofs.Common.{◌≡◌, inl, inr, ℕ, ◌<◌, List, [], ◌∷◌, sym, subst, refl, arith}
 use Rattle.std.proofs.lemmas.Bool.Decides.{nat_tests}
-use Rattle.std.specs.List.{flat_map}
-use Rattle.std.specs.Prelude.{◌↔◌}
-use Rattle.qh_model.specs.headline.{Vector.Vector, Sets.In, Sets.Once, Sets.Members, Dimension.IsDimension}
-use Rattle.qh_model.specs.contract.IdSets.{HasDistinctPoints}
-use Rattle.qh_model.specs.headline.{Polygon.FollowsAlong, Polygon.Follows, Polygons.AreFaces, Polygons.IsEdge, Polygons.IsEdgeCount}
-use Rattle.qh_model.proofs.polygons.{Edges.one_face_a_step, Neighbours.along_members}
-use Rattle.qh_model.proofs.polygons.OtherFace.{other_face}
-use Rattle.qh_model.proofs.lists.Joined.{once_append, in_flat_map, of_flat_map}
+use Rattle.std.specs.{List.flat_map, Prelude.◌↔◌}
+use Rattle.qh_model.specs.{contract.IdSets.HasDistinctPoints, headline.Vector.Vector, headline.Sets.In, headline.Sets.Once, headline.Sets.Members}
+use Rattle.qh_model.specs.headline.{Dimension.IsDimension, Polygon.FollowsAlong, Polygon.Follows, Polygons.AreFaces, Polygons.IsEdge, Polygons.IsEdgeCount}
+use Rattle.qh_model.proofs.{lists.Joined.once_append, lists.Joined.in_flat_map, lists.Joined.of_flat_map, polygons.Edges.one_face_a_step}
+use Rattle.qh_model.proofs.polygons.{Neighbours.along_members, OtherFace.other_face}
 use Rattle.qh_bodies.specs.contract.SolidEdges.{ups_along, ups, all_edges_up}
 
 abbrev Pair : Type 0

@@ -2,8 +2,7 @@
 ghost use Rattle.std.specs.Prelude.{◌≡◌, ◌↔◌, IfOk, IsTrue, map};
 ghost use Rattle.std.specs.List.Sorted.{IsNonDecreasing};
 ghost use Rattle.qh_model.specs.contract.Halves.{halves};
-ghost use Rattle.qh_bodies.specs.contract.Borders.{HaveOneBorder};
-ghost use Rattle.qh_bodies.specs.steps.StepKeys.{back, AreStepsAndBack};
+ghost use Rattle.qh_bodies.specs.{contract.Borders.HaveOneBorder, steps.StepKeys.back, steps.StepKeys.AreStepsAndBack};
 
 use crate::closed::{other_key, step_keys};
 use qh_model::keys::Packed;

@@ -1,14 +1,9 @@
 //! The corners of polygons, the number of their edges, and the hull with these faces.
 ghost use Rattle.std.specs.Prelude.{◌≡◌, ◌<◌, ◌↔◌, ℕ, List, IfOk, length};
-ghost use Rattle.std.specs.List.{All};
-ghost use Rattle.std.specs.List.Sorted.{IsStrictlyIncreasing};
-ghost use Rattle.qh_model.specs.contract.ClosedPolygons.{AreClosedFaces};
-ghost use Rattle.qh_model.specs.contract.IdSets.{HasDistinctPoints};
-ghost use Rattle.qh_model.specs.headline.Dimension.{IsDimension};
-ghost use Rattle.qh_model.specs.headline.Hull.{IsBody};
-ghost use Rattle.qh_model.specs.headline.Polygons.{RiseStrictly};
-ghost use Rattle.qh_model.specs.headline.Sets.{In, Members};
-ghost use Rattle.qh_model.specs.headline.Vector.{Vector};
+ghost use Rattle.std.specs.List.{All, Sorted.IsStrictlyIncreasing};
+ghost use Rattle.qh_model.specs.contract.{ClosedPolygons.AreClosedFaces, IdSets.HasDistinctPoints};
+ghost use Rattle.qh_model.specs.headline.{Dimension.IsDimension, Hull.IsBody, Polygons.RiseStrictly};
+ghost use Rattle.qh_model.specs.headline.{Sets.In, Sets.Members, Vector.Vector};
 ghost use Rattle.qh_polygon.specs.contract.Marks.{marked};
 ghost use Rattle.qh_bodies.specs.contract.Tallies.{all_members, IsTally};
 

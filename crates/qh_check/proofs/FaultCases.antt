@@ -1,13 +1,9 @@
 -- The faults of a polygon that the plane of its first three corners shows.
 use Rattle.std.proofs.Common.{ℕ, ◌≡◌, sym, subst, ◌∙◌, List, ◌∷◌}
 use Rattle.std.specs.Prelude.{Option, Some, None, MatchOption}
-use Rattle.qh_model.specs.headline.Vector.{Vector}
-use Rattle.qh_model.specs.headline.Predicates.{place, AreInLine}
-use Rattle.qh_model.specs.headline.Sets.{In, Members}
-use Rattle.qh_check.specs.declared.faces.Three.{Three}
-use Rattle.qh_check.specs.declared.fault.FaceFault.{FaceFault}
+use Rattle.qh_model.specs.headline.{Vector.Vector, Predicates.place, Predicates.AreInLine, Sets.In, Sets.Members}
+use Rattle.qh_check.specs.{contract.Pieces.BeginsWith, declared.faces.Three.Three, declared.fault.FaceFault.FaceFault}
 use Rattle.qh_check.specs.declared.fault.FaceFault.TheVariants.{NoPlane, Above, OtherFace}
-use Rattle.qh_check.specs.contract.Pieces.{BeginsWith}
 use Rattle.qh_check.specs.steps.Faces.{BeginsWithThree, IsFaceAt, IsFaultAt, IsFaceOf, IsFaultOf}
 
 module _ (pts : List Vector) (ids : List ℕ) (q : List ℕ) (t : Three) (b : BeginsWithThree pts q t) where

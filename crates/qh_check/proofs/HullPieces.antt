@@ -2,33 +2,20 @@
 use Rattle.std.proofs.Common.{ℕ, ◌≡◌, ◌≢◌, ap, inl, inr, refl, sym, subst, ◌∙◌, List, [], get_or, All}
 use Rattle.std.specs.Prelude.{pos, ◌<ℤ◌, ◌≤ℤ◌, Option, Some, None, MatchOption}
 use Rattle.std.specs.Ordering.{is_gt}
-use Rattle.qh_model.specs.headline.Hull.{BodyValue, IsBody}
-use Rattle.qh_model.specs.headline.Dimension.{IsDimension}
-use Rattle.qh_model.specs.headline.Vector.{Vector, origin, dot}
+use Rattle.qh_model.specs.contract.{ClosedPolygons.IsFace, IdSets.HasDistinctPoints, IdSets.IsIdSet}
+use Rattle.qh_model.specs.headline.{Hull.BodyValue, Hull.IsBody, Dimension.IsDimension, Vector.Vector, Vector.origin, Vector.dot}
 use Rattle.qh_model.specs.headline.Predicates.{cross, left, place, vol}
-use Rattle.qh_model.specs.headline.Sets.{In, Members}
-use Rattle.qh_model.specs.headline.SupportingPlane.{IsSupportingTriple}
-use Rattle.qh_model.specs.headline.Polygons.{AreFaces, ArePolygons, IsFacePolygon}
-use Rattle.qh_model.specs.contract.ClosedPolygons.{IsFace}
-use Rattle.qh_model.specs.contract.IdSets.{HasDistinctPoints, IsIdSet}
+use Rattle.qh_model.specs.headline.{Sets.In, Sets.Members, SupportingPlane.IsSupportingTriple, Polygons.AreFaces, Polygons.ArePolygons, Polygons.IsFacePolygon}
 use Rattle.qh_model.proofs.Members.{All-In, All-of, In-get_or}
-use Rattle.qh_model.proofs.algebra.Order.{cancel-nonpos, mul-nonneg_nonpos, positive_le}
-use Rattle.qh_model.proofs.algebra.Signs.{less_differ}
-use Rattle.qh_model.proofs.algebra.VectorIdentities.{in_line-left}
-use Rattle.qh_model.proofs.extremes.Directions.{from_plane, square-positive}
-use Rattle.qh_model.proofs.polygons.Edges.{seen_from}
+use Rattle.qh_model.proofs.algebra.{Order.cancel-nonpos, Order.mul-nonneg_nonpos, Order.positive_le, Signs.less_differ, VectorIdentities.in_line-left}
+use Rattle.qh_model.proofs.{extremes.Directions.from_plane, extremes.Directions.square-positive, polygons.Edges.seen_from}
 use Rattle.qh_model.proofs.polygons.PlaneTurns.{level_along, level_volume}
 use Rattle.qh_pred.specs.contract.Turns.{IsAcross}
 use Rattle.qh_pred.proofs.Turns.{turn_sign}
 use Rattle.qh_polygon.proofs.polygons.Chain.{is_left-yes}
-use Rattle.qh_check.specs.contract.Pieces.{IsMetRound, IsPiece}
-use Rattle.qh_check.specs.steps.HullFaces.{IsPieceAmong, TurnsAlike}
-use Rattle.qh_check.specs.declared.findings.Finding.{Finding}
-use Rattle.qh_check.specs.steps.Faces.{IsFaceOf}
-use Rattle.qh_check.specs.steps.Findings.{IsFound, IsSeen}
-use Rattle.qh_check.proofs.FirstCorners.{HasFace, corners_at}
-use Rattle.qh_check.proofs.MetBehind.{round_has}
-use Rattle.qh_check.proofs.Verdicts.{faces_of}
+use Rattle.qh_check.specs.{contract.Pieces.IsMetRound, contract.Pieces.IsPiece, declared.findings.Finding.Finding}
+use Rattle.qh_check.specs.steps.{HullFaces.IsPieceAmong, HullFaces.TurnsAlike, Faces.IsFaceOf, Findings.IsFound, Findings.IsSeen}
+use Rattle.qh_check.proofs.{FirstCorners.HasFace, FirstCorners.corners_at, MetBehind.round_has, Verdicts.faces_of}
 
 module _ (pts : List Vector) (ids : List ℕ) (d : HasDistinctPoints (place pts) (Members ids)) (face q : List ℕ)
     (own : IsFace (place pts) (Members ids) face) (met : IsMetRound q face) (t : TurnsAlike pts face q) where

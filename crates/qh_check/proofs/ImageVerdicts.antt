@@ -1,19 +1,17 @@
 -- The verdict on polygons of images is that on polygons of the points.
 use Rattle.std.proofs.Common.{ℕ, ◌≡◌, arith, List, [], ◌∷◌, get_or, inl, inr, refl, sym, subst, ◌∙◌}
 use Rattle.std.proofs.lemmas.List.{get_or_default}
-use Rattle.qh_model.specs.headline.{Dimension.IsDimension, Predicates.place, Sets.In, Sets.Members, Vector.Vector}
-use Rattle.qh_model.specs.contract.IdSets.{AreIndices, IsIdSet}
+use Rattle.qh_model.specs.{contract.IdSets.AreIndices, contract.IdSets.IsIdSet, headline.Dimension.IsDimension, headline.Predicates.place}
+use Rattle.qh_model.specs.headline.{Sets.In, Sets.Members, Vector.Vector}
 use Rattle.qh_model.proofs.Members.{In-get_or, in_at, to_contains}
 use Rattle.qh_lattice.specs.contract.LatticeMaps.{IsReduced}
-use Rattle.qh_lattice.proofs.{Hulls.Keeps, Hulls.back, Hulls.dimension, Hulls.face, Hulls.triple, SameHulls.image_keeps, SameHulls.image_set}
+use Rattle.qh_lattice.proofs.Hulls.{Keeps, back, dimension, face, triple}
+use Rattle.qh_lattice.proofs.SameHulls.{image_keeps, image_set}
+use Rattle.qh_check.specs.contract.{Claims.IsFaceFault, Pieces.BeginsWith, Pieces.IsOfPlane, Pieces.IsPiece}
+use Rattle.qh_check.specs.contract.{Surfaces.IsHullSurface, Surfaces.IsSurfaceReason, Surfaces.IsSurfaceVerdictOf, Naming.AreNamed, Naming.AreNamedFaces}
+use Rattle.qh_check.specs.declared.fault.FaceFault.{FaceFault, TheVariants.NoPlane, TheVariants.Above, TheVariants.OtherFace}
 use Rattle.qh_check.specs.declared.flaw.SurfaceVerdict.{SurfaceVerdict}
 use Rattle.qh_check.specs.declared.flaw.SurfaceVerdict.TheVariants.{Right, OtherPolygons, NoPiece, Open, Twice}
-use Rattle.qh_check.specs.declared.fault.FaceFault.{FaceFault}
-use Rattle.qh_check.specs.declared.fault.FaceFault.TheVariants.{NoPlane, Above, OtherFace}
-use Rattle.qh_check.specs.contract.Claims.{IsFaceFault}
-use Rattle.qh_check.specs.contract.Pieces.{BeginsWith, IsOfPlane, IsPiece}
-use Rattle.qh_check.specs.contract.Surfaces.{IsHullSurface, IsSurfaceReason, IsSurfaceVerdictOf}
-use Rattle.qh_check.specs.contract.Naming.{AreNamed, AreNamedFaces}
 use Rattle.qh_check.specs.steps.Corners.{HaveCornersIn}
 
 -- ---- polygons of members

@@ -2,11 +2,9 @@
 use Rattle.std.proofs.Common.{ℕ, zero, suc, ◌≡◌, ◌+◌, ◌-◌, ◌<◌, ◌≤◌, arith, ap, sym, subst, ◌∙◌, inl, inr, List, [], ◌∷◌, ◌++◌, length, get_or, drop, take}
 use Rattle.std.proofs.lemmas.List.{get_or-append_right, get_or_append_left, get_or-take, get_or-drop, length-append, length-drop, length-take, drop_more}
 use Rattle.qh_model.specs.headline.Sets.{In}
-use Rattle.qh_model.proofs.Members.{In-get_or}
-use Rattle.qh_model.proofs.lists.Joined.{of_append}
+use Rattle.qh_model.proofs.{Members.In-get_or, lists.Joined.of_append}
 use Rattle.qh_places.proofs.ListMembers.{in_back, in_front}
-use Rattle.qh_check.specs.contract.Pieces.{IsMetAlong, IsMetRound}
-use Rattle.qh_check.specs.steps.Rounds.{IsBehind, way_behind}
+use Rattle.qh_check.specs.{contract.Pieces.IsMetAlong, contract.Pieces.IsMetRound, steps.Rounds.IsBehind, steps.Rounds.way_behind}
 
 -- ---- from an earlier place
 -- a list that is met from a position is met from the position before it

@@ -1,7 +1,6 @@
 -- Lists that are met along others: from one id to the next, and to the end.
 use Rattle.std.proofs.Common.{ℕ, ◌≡◌, ◌≢◌, ◌+◌, ◌<◌, ◌≤◌, arith, sym, subst, inl, inr, List, [], ◌∷◌, ◌++◌, length, get_or, drop}
-use Rattle.std.proofs.lemmas.Bool.{cases_lt}
-use Rattle.std.proofs.lemmas.List.{append-nil, drop_more, drop_all}
+use Rattle.std.proofs.lemmas.{Bool.cases_lt, List.append-nil, List.drop_more, List.drop_all}
 use Rattle.std.specs.Prelude.{◌↔◌}
 use Rattle.qh_check.specs.contract.Pieces.{IsMetAlong}
 

@@ -1,9 +1,7 @@
 -- Faces whose corners are distinct ids name themselves.
 use Rattle.std.proofs.Common.{◌≡◌, ℕ, ◌<◌, arith, All, List, [], get_or, length, refl, sym, subst, ◌∙◌}
 use Rattle.std.proofs.lemmas.List.{get_or_default}
-use Rattle.qh_model.specs.headline.Vector.{Vector, origin}
-use Rattle.qh_model.specs.headline.Predicates.{place}
-use Rattle.qh_model.specs.headline.Sets.{In}
+use Rattle.qh_model.specs.headline.{Vector.Vector, Vector.origin, Predicates.place, Sets.In}
 use Rattle.qh_model.proofs.Members.{All-In, In-get_or}
 use Rattle.qh_check.specs.contract.Naming.{AreNamed, AreNamedFaces, IsNamed}
 use Rattle.qh_check.specs.steps.OwnIndices.{AreAllIndices, AreSamePoints}

@@ -1,22 +1,14 @@
 -- Verdicts on surfaces: polygons with a fault are no surface, and polygons without a fault are one.
-use Rattle.std.proofs.Common.{ℕ, ◌≡◌, ◌≢◌, ◌<◌, ◌≤◌, arith, refl, subst, inl, inr, ap, List, [], ◌∷◌, length}
-use Rattle.std.proofs.Common.{get_or, All}
-use Rattle.qh_model.specs.headline.Vector.{Vector}
-use Rattle.qh_model.specs.headline.Predicates.{place}
-use Rattle.qh_model.specs.headline.Sets.{Members}
-use Rattle.qh_model.specs.headline.Dimension.{IsDimension}
-use Rattle.qh_model.specs.headline.Polygons.{ArePolygons}
-use Rattle.qh_model.specs.contract.ClosedPolygons.{AreClosed, step_count}
-use Rattle.qh_model.specs.contract.IdSets.{IsIdSet}
+use Rattle.std.proofs.Common.{ℕ, ◌≡◌, ◌≢◌, ◌<◌, ◌≤◌, arith, refl, subst, inl, inr, ap, List, [], ◌∷◌, length, get_or, All}
+use Rattle.qh_model.specs.{contract.ClosedPolygons.AreClosed, contract.ClosedPolygons.step_count, contract.IdSets.IsIdSet, headline.Vector.Vector}
+use Rattle.qh_model.specs.headline.{Predicates.place, Sets.Members, Dimension.IsDimension, Polygons.ArePolygons}
 use Rattle.qh_model.proofs.Members.{All-In, In-get_or}
-use Rattle.qh_check.specs.declared.findings.Finding.{Finding}
-use Rattle.qh_check.specs.declared.flaw.SurfaceVerdict.{SurfaceVerdict}
-use Rattle.qh_check.specs.declared.flaw.SurfaceVerdict.TheVariants.{Right, OtherPolygons, NoPiece, Open, Twice}
-use Rattle.qh_bodies.specs.contract.OpenSteps.{IsOpen}
 use Rattle.qh_check.specs.contract.Claims.{ArePolygonsOf}
 use Rattle.qh_check.specs.contract.Surfaces.{IsFaceSurface, IsHullSurface, IsSurfaceReason, IsSurfaceVerdictOf}
-use Rattle.qh_check.specs.steps.Faces.{IsFaceOf}
-use Rattle.qh_check.specs.steps.Findings.{IsFound}
+use Rattle.qh_check.specs.declared.{findings.Finding.Finding, flaw.SurfaceVerdict.SurfaceVerdict}
+use Rattle.qh_check.specs.declared.flaw.SurfaceVerdict.TheVariants.{Right, OtherPolygons, NoPiece, Open, Twice}
+use Rattle.qh_check.specs.steps.{Faces.IsFaceOf, Findings.IsFound}
+use Rattle.qh_bodies.specs.contract.OpenSteps.{IsOpen}
 use Rattle.qh_check.proofs.Pieces.{no_piece}
 
 -- ---- solid sets

@@ -1,6 +1,5 @@
 -- The signs of volumes.
-use Rattle.std.proofs.Common.{◌≡◌, arith}
-use Rattle.std.proofs.lemmas.Int.{ints}
+use Rattle.std.proofs.{Common.◌≡◌, Common.arith, lemmas.Int.ints}
 use Rattle.std.specs.Prelude.{ℤ, pos, neg_ℤ, ◌<ℤ◌, ◌≤ℤ◌}
 
 -- a number that is not below 0 is at least 0

@@ -1,8 +1,6 @@
 //! Checks if polygons are those of a set, by computing its hull.
 ghost use Rattle.std.specs.Prelude.{◌≡◌, ◌↔◌, IfOk, IsTrue};
-ghost use Rattle.qh_model.specs.headline.Predicates.{place};
-ghost use Rattle.qh_model.specs.headline.Sets.{Members};
-ghost use Rattle.qh_model.specs.contract.IdSets.{IsIdSet};
+ghost use Rattle.qh_model.specs.{contract.IdSets.IsIdSet, headline.Predicates.place, headline.Sets.Members};
 ghost use Rattle.qh_check.specs.contract.Claims.{ArePolygonsOf};
 
 use crate::claim::Claim;

@@ -1,7 +1,6 @@
 //! The verdict on faces of points.
 ghost use Rattle.std.specs.Prelude.{◌<◌, ◌≤◌, IfOk, length};
-ghost use Rattle.qh_model.specs.declared.limits.TheConstants.{POINT_LIMIT};
-ghost use Rattle.qh_model.specs.headline.DistinctIds.{AreDistinctIds};
+ghost use Rattle.qh_model.specs.{declared.limits.TheConstants.POINT_LIMIT, headline.DistinctIds.AreDistinctIds};
 ghost use Rattle.qh_check.specs.contract.Judging.{IsJudgement};
 
 use crate::claim::Claim;

@@ -1,8 +1,7 @@
 //! The verdict on polygons of distinct points.
 ghost use Rattle.std.specs.Prelude.{IfOk};
 ghost use Rattle.qh_model.specs.contract.IdSets.{IsIdSet};
-ghost use Rattle.qh_check.specs.contract.Surfaces.{IsSurfaceVerdictOf};
-ghost use Rattle.qh_check.specs.steps.Corners.{HaveCornersIn};
+ghost use Rattle.qh_check.specs.{contract.Surfaces.IsSurfaceVerdictOf, steps.Corners.HaveCornersIn};
 
 use crate::claim::Claim;
 use crate::convex::is_sharp_surface;

@@ -1,13 +1,9 @@
 //! The search for a polygon that is no piece of a face. The hull is computed, and each polygon is looked up in it. The
 //! first polygon that is not found is tested by its plane, so a fault costs no more than one test of each point.
-ghost use Rattle.std.specs.Prelude.{IfOk, MatchOption};
-ghost use Rattle.std.specs.List.{All};
-ghost use Rattle.qh_model.specs.headline.Dimension.{IsDimension};
-ghost use Rattle.qh_model.specs.headline.Predicates.{place};
+ghost use Rattle.std.specs.{Prelude.IfOk, Prelude.MatchOption, List.All};
+ghost use Rattle.qh_model.specs.{contract.IdSets.IsIdSet, headline.Dimension.IsDimension, headline.Predicates.place};
 ghost use Rattle.qh_model.specs.headline.Sets.{Members};
-ghost use Rattle.qh_model.specs.contract.IdSets.{IsIdSet};
-ghost use Rattle.qh_check.specs.steps.Faces.{IsFaceOf, IsFaultOf};
-ghost use Rattle.qh_check.specs.steps.Findings.{IsFound, IsSeen};
+ghost use Rattle.qh_check.specs.steps.{Faces.IsFaceOf, Faces.IsFaultOf, Findings.IsFound, Findings.IsSeen};
 
 use crate::claim::Claim;
 use crate::face_table::FaceTable;

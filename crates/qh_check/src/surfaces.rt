@@ -1,13 +1,9 @@
 //! Checks if polygons, pieces of faces in any order, are the surface of a hull.
 ghost use Rattle.std.specs.Prelude.{◌<◌, ℕ, List, IfOk, length};
 ghost use Rattle.std.specs.List.{All};
-ghost use Rattle.qh_model.specs.headline.Dimension.{IsDimension};
-ghost use Rattle.qh_model.specs.headline.Predicates.{place};
-ghost use Rattle.qh_model.specs.headline.Sets.{Members};
-ghost use Rattle.qh_model.specs.headline.Vector.{Vector};
-ghost use Rattle.qh_model.specs.contract.IdSets.{IsIdSet};
-ghost use Rattle.qh_check.specs.contract.Surfaces.{IsSurfaceVerdictOf};
-ghost use Rattle.qh_check.specs.steps.Faces.{IsFaceOf};
+ghost use Rattle.qh_model.specs.{contract.IdSets.IsIdSet, headline.Dimension.IsDimension, headline.Predicates.place};
+ghost use Rattle.qh_model.specs.headline.{Sets.Members, Vector.Vector};
+ghost use Rattle.qh_check.specs.{contract.Surfaces.IsSurfaceVerdictOf, steps.Faces.IsFaceOf};
 
 use crate::claim::Claim;
 use crate::claims::are_polygons_of;

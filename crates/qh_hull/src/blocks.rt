@@ -1,11 +1,8 @@
 //! The hull of a set of ids by the calling thread. A large set that is long or flat is mapped first. If few ids of a
 //! large set are extreme, the hulls of its blocks remove most ids first.
 ghost use Rattle.std.specs.Prelude.{◌<◌, IfOk, length};
-ghost use Rattle.qh_model.specs.contract.IdSets.{AreIndices, IsIdSet};
-ghost use Rattle.qh_model.specs.headline.Hull.{IsBody};
-ghost use Rattle.qh_model.specs.headline.Predicates.{place};
-ghost use Rattle.qh_model.specs.headline.Sets.{Members};
-ghost use Rattle.qh_model.specs.laws.HullLaws.{HasExtremes};
+ghost use Rattle.qh_model.specs.{contract.IdSets.AreIndices, contract.IdSets.IsIdSet, headline.Hull.IsBody};
+ghost use Rattle.qh_model.specs.{headline.Predicates.place, headline.Sets.Members, laws.HullLaws.HasExtremes};
 
 use qh_block::{BLOCK_ALONE, TELLING, WHOLE_ALONE, are_few, extremes, hull};
 use qh_lattice::reduced;

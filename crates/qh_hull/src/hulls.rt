@@ -1,10 +1,7 @@
 //! The hull of a list of points.
 ghost use Rattle.std.specs.Prelude.{◌≡◌, ◌≤◌, ◌<◌, IfOk, length};
-ghost use Rattle.qh_model.specs.headline.DistinctIds.{AreDistinctIds};
-ghost use Rattle.qh_model.specs.headline.Hull.{IsBody, IsHull};
-ghost use Rattle.qh_model.specs.headline.Predicates.{place};
-ghost use Rattle.qh_model.specs.headline.Sets.{Members};
-ghost use Rattle.qh_model.specs.declared.limits.TheConstants.{POINT_LIMIT};
+ghost use Rattle.qh_model.specs.{declared.limits.TheConstants.POINT_LIMIT, headline.DistinctIds.AreDistinctIds};
+ghost use Rattle.qh_model.specs.headline.{Hull.IsBody, Hull.IsHull, Predicates.place, Sets.Members};
 
 use crate::blocks::body_alone;
 use qh_model::{Body, Hull, Id, Memory, Point};

@@ -5,8 +5,7 @@ use Rattle.qh_model.specs.headline.{Predicates.cross, Predicates.vol, Vector.Vec
 use Rattle.qh_model.proofs.algebra.Ring.{Expr, ring, Expr.var, Expr.add, Expr.sub as less, Expr.mul}
 use Rattle.qh_model.proofs.algebra.VectorIdentities.{vec, put, dotE, crossE, subE, VE, vector_path, opposite, oppositeE, dot_comm, dot-origin}
 use Rattle.qh_model.proofs.closed_surfaces.Beyond.{scaled, scaledE}
-use Rattle.qh_lattice.specs.contract.LatticeMaps.{Matrix, determinant, moved}
-use Rattle.qh_lattice.specs.laws.MapLaws.{MovedVolume}
+use Rattle.qh_lattice.specs.{contract.LatticeMaps.Matrix, contract.LatticeMaps.determinant, contract.LatticeMaps.moved, laws.MapLaws.MovedVolume}
 
 -- the image of a vector, with no shift
 abbrev pub apply : Matrix → Vector → Vector

@@ -10,13 +10,12 @@ use Rattle.qh_model.proofs.algebra.Integers.{mul_sub, mul_swap, mul_comm, one_mu
 use Rattle.qh_laws.proofs.{ScaledPoints.weigh, Scales.combination_moved}
 use Rattle.qh_model.proofs.algebra.Ring.{Expr, ring, Expr.var, Expr.add, Expr.sub as less, Expr.mul}
 use Rattle.qh_model.proofs.algebra.VectorIdentities.{vec, put, dotE, combine3, vector_path, left-dot, dot_comm, dot-origin}
-use Rattle.qh_model.proofs.closed_surfaces.Beyond.{scaled}
-use Rattle.qh_model.proofs.extremes.Directions.{Parallel, square-positive}
+use Rattle.qh_model.proofs.{closed_surfaces.Beyond.scaled, extremes.Directions.Parallel, extremes.Directions.square-positive}
 use Rattle.qh_model.proofs.polygons.PlaneTurns.{level_parallel}
 use Rattle.qh_lattice.specs.contract.LatticeMaps.{Matrix, determinant, moved}
 use Rattle.qh_lattice.specs.laws.MapLaws.{SameSign, at_moved, MovedVolumeSign, MovedLine, MovedTurn, MovedExtreme}
-use Rattle.qh_lattice.proofs.Identities.{apply, cofactors, transposed, adjugate, moved_volume, cross-moved, normal_back}
-use Rattle.qh_lattice.proofs.Identities.{shift_back, moved_back, apply-origin, dot-factor}
+use Rattle.qh_lattice.proofs.Identities.{apply, cofactors, transposed, adjugate, moved_volume, cross-moved, normal_back, shift_back, moved_back, apply-origin}
+use Rattle.qh_lattice.proofs.Identities.{dot-factor}
 
 -- ---- signs
 -- a product below 0

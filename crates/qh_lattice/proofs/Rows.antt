@@ -1,12 +1,9 @@
 -- Rows of a map as rows of its matrix.
-use Rattle.std.proofs.Common.{ℕ, ◌≡◌, ◌∙◌, ◌<◌, ◌≤◌, ◌+◌, ◌*◌, ◌^◌, refl, subst, sym, ap, arith, below_more, FitsSigned, true}
-use Rattle.std.proofs.Common.{List, [], ◌∷◌, ◌++◌, get_or, length}
-use Rattle.std.proofs.lemmas.List.{get_or_append_left, get_or_default}
+use Rattle.std.proofs.Common.{ℕ, ◌≡◌, ◌∙◌, ◌<◌, ◌≤◌, ◌+◌, ◌*◌, ◌^◌, refl, subst, sym, ap, arith, below_more, FitsSigned, true, List, [], ◌∷◌, ◌++◌, get_or}
+use Rattle.std.proofs.{Common.length, Math.Seq.get_or-append_seam, lemmas.List.get_or_append_left, lemmas.List.get_or_default}
 use Rattle.std.proofs.lemmas.Int.{to_z-of_z, ints, fits_signed_from_abs}
-use Rattle.std.proofs.Math.Seq.{get_or-append_seam}
 use Rattle.std.specs.Prelude.{ℤ, pos, ◌+ℤ◌, ◌-ℤ◌, ◌*ℤ◌, ◌<ℤ◌, unsigned_abs}
-use Rattle.qh_model.specs.declared.limits.TheConstants.{COORDINATE_LIMIT}
-use Rattle.qh_model.specs.headline.Limits.{IsCoordinate}
+use Rattle.qh_model.specs.{declared.limits.TheConstants.COORDINATE_LIMIT, headline.Limits.IsCoordinate}
 use Rattle.qh_model.specs.headline.{Predicates.cross, Predicates.vol, Predicates.place, Vector.Vector, Vector.origin, Vector.dot}
 use Rattle.qh_model.proofs.algebra.Order.{mul-pos}
 use Rattle.qh_model.proofs.algebra.Ring.{ring, Expr.var, Expr.con, Expr.add, Expr.sub as less, Expr.mul}

@@ -1,7 +1,6 @@
 //! Maps of space that map whole numbers to whole numbers and keep orientation.
 ghost use Rattle.std.specs.Prelude.{◌≡◌, ◌<ℤ◌, ◌↔◌, IfOk, IfSome, IsSome, pos};
-ghost use Rattle.qh_model.specs.headline.Predicates.{vol};
-ghost use Rattle.qh_model.specs.headline.Vector.{origin};
+ghost use Rattle.qh_model.specs.headline.{Predicates.vol, Vector.origin};
 ghost use Rattle.qh_lattice.specs.contract.LatticeMaps.{AreImages, determinant, moved};
 ghost use Rattle.qh_lattice.specs.steps.Rows.{matrix_of, shift_of};
 

@@ -1,10 +1,8 @@
 //! Sets mapped so that they extend about equally in all directions.
 ghost use Rattle.std.specs.Prelude.{◌<◌, ◌≤◌, IfOk, IfSome, IsTrue, length};
-ghost use Rattle.qh_model.specs.declared.limits.TheConstants.{COORDINATE_LIMIT};
 ghost use Rattle.qh_model.specs.contract.IdSets.{AreIndices, IsIdSet};
-ghost use Rattle.qh_model.specs.headline.Dimension.{IsDimension};
-ghost use Rattle.qh_model.specs.headline.Predicates.{place};
-ghost use Rattle.qh_model.specs.headline.Sets.{Members};
+ghost use Rattle.qh_model.specs.{declared.limits.TheConstants.COORDINATE_LIMIT, headline.Dimension.IsDimension};
+ghost use Rattle.qh_model.specs.headline.{Predicates.place, Sets.Members};
 ghost use Rattle.qh_lattice.specs.contract.LatticeMaps.{IsMapped, IsReduced};
 
 use crate::basis::reduced_rows;

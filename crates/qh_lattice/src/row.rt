@@ -1,7 +1,6 @@
 //! Rows of whole numbers, and the coordinates of points along them.
 ghost use Rattle.std.specs.Prelude.{◌≡◌, ◌≤◌, ◌<◌, ◌*◌, ◌<ℤ◌, ◌*ℤ◌, IfSome, pos, unsigned_abs};
-ghost use Rattle.qh_model.specs.declared.limits.TheConstants.{COORDINATE_LIMIT};
-ghost use Rattle.qh_model.specs.headline.Limits.{IsCoordinate};
+ghost use Rattle.qh_model.specs.{declared.limits.TheConstants.COORDINATE_LIMIT, headline.Limits.IsCoordinate};
 ghost use Rattle.qh_model.specs.headline.Vector.{dot};
 ghost use Rattle.qh_lattice.specs.declared.row.TheConstants.{CENTRE_LIMIT};
 

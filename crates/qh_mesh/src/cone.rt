@@ -1,12 +1,10 @@
 //! The cone over a horizon, and its connection to the remaining facets.
-ghost use Rattle.std.specs.Prelude.{All, ◌≡◌, ◌≢◌, ◌+◌, ◌*◌, ◌<◌, ◌^◌, ℕ, List, ◌++◌, length, true, slice_index, slice_set};
-ghost use Rattle.qh_model.specs.headline.Sets.{Once};
-ghost use Rattle.qh_model.specs.contract.StoredSurface.{facet_at};
+ghost use Rattle.std.specs.Prelude.{All, ◌≡◌, ◌≢◌, ◌+◌, ◌*◌, ◌<◌, ◌^◌, ℕ, List, ◌++◌, length, true, slice_index};
+ghost use Rattle.std.specs.Prelude.{slice_set};
+ghost use Rattle.qh_model.specs.{contract.StoredSurface.facet_at, headline.Sets.Once};
 ghost use Rattle.qh_mesh.specs.contract.Edges.{edge_of, facet_of, nth_side, side_of_edge};
-ghost use Rattle.qh_mesh.specs.steps.Kept.{with_twin};
-ghost use Rattle.qh_mesh.specs.steps.Horizons.{AreNoted, IsBalanced, side_at};
-ghost use Rattle.qh_mesh.specs.steps.Cones.{Joined, Written};
-ghost use Rattle.qh_mesh.specs.steps.Places.{IsPool};
+ghost use Rattle.qh_mesh.specs.steps.{Kept.with_twin, Horizons.AreNoted, Horizons.IsBalanced, Horizons.side_at};
+ghost use Rattle.qh_mesh.specs.steps.{Cones.Joined, Cones.Written, Places.IsPool};
 
 use crate::facets::{EdgeNo, Facet, FacetSide};
 use crate::slots::{End, Slot, Table, is_noted, mate};

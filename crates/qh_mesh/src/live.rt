@@ -1,9 +1,8 @@
 //! The iterator over the live facets.
 ghost use Rattle.std.specs.Prelude.{◌≡◌, ◌<◌, ◌≤◌, length};
 ghost use Rattle.std.specs.Iterator.{YieldsFirst, item_count};
-ghost use Rattle.qh_mesh.specs.contract.LiveNumbers.{live_after};
+ghost use Rattle.qh_mesh.specs.contract.{LiveNumbers.live_after, Replacement.IsLive};
 ghost use Rattle.qh_model.specs.contract.StoredSurface.{surface_of};
-ghost use Rattle.qh_mesh.specs.contract.Replacement.{IsLive};
 
 use crate::mesh::Mesh;
 use qh_model::FacetNo;

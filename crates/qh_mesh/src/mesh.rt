@@ -1,18 +1,16 @@
 //! The mesh: its creation, its accessors and its growth.
 ghost use Rattle.std.specs.Prelude.{◌≡◌, ◌≢◌, ◌<◌, length, map, max, OnErr, IfOk, pos, [], ◌∷◌, ℕ, ◌<ℤ◌};
-ghost use Rattle.qh_model.specs.headline.Predicates.{vol, place};
-ghost use Rattle.qh_model.specs.headline.Vector.{Vector};
-ghost use Rattle.qh_model.specs.contract.Weighted.{Weighted};
-ghost use Rattle.qh_model.specs.contract.FinishedSurface.{weighted_at, middle_at};
+ghost use Rattle.qh_model.specs.contract.{Weighted.Weighted, FinishedSurface.weighted_at, FinishedSurface.middle_at};
 ghost use Rattle.qh_model.specs.contract.ClosedSurface.{signed_volume, triples_of};
 ghost use Rattle.qh_model.specs.contract.StoredSurface.{facet_at, named_facet, surface_of};
-ghost use Rattle.qh_mesh.specs.contract.Edges.{nth_side, side_of_edge, facet_of, edge_of, edge_end, edge_start, twin_of};
+ghost use Rattle.qh_model.specs.contract.{Rewired.IsRewired, Surface.rest};
+ghost use Rattle.qh_model.specs.headline.{Predicates.vol, Predicates.place, Vector.Vector};
+ghost use Rattle.qh_mesh.specs.contract.Edges.{nth_side, side_of_edge, facet_of, edge_of, edge_end, edge_start};
+ghost use Rattle.qh_mesh.specs.contract.Edges.{twin_of};
 ghost use Rattle.qh_mesh.specs.contract.Replacement.{IsLive, AreFacets, IsReplacement};
 ghost use Rattle.qh_mesh.specs.contract.Names.{name_in};
-ghost use Rattle.qh_mesh.specs.steps.Twins.{HasTwins};
 ghost use Rattle.qh_mesh.specs.contract.SoundMesh.{simplex_facets, IsSoundMesh, IsClosedMesh, AreVisible};
-ghost use Rattle.qh_model.specs.contract.Rewired.{IsRewired};
-ghost use Rattle.qh_model.specs.contract.Surface.{rest};
+ghost use Rattle.qh_mesh.specs.steps.Twins.{HasTwins};
 
 use crate::facets::{EdgeNo, Facet, name_all};
 use crate::live::Live;

@@ -1,9 +1,7 @@
 //! The places of facets: those of removed facets, and those of a cone.
 ghost use Rattle.std.specs.Prelude.{All, ◌≡◌, ◌+◌, ◌<◌, ◌≤◌, ◌^◌, ℕ, length, reverse, [], ◌++◌, vec_len, vec_capacity};
-ghost use Rattle.qh_model.specs.headline.Sets.{Once};
-ghost use Rattle.qh_model.specs.contract.StoredSurface.{facet_at};
-ghost use Rattle.qh_mesh.specs.contract.Replacement.{IsLive};
-ghost use Rattle.qh_mesh.specs.steps.Places.{Removed, IsPool};
+ghost use Rattle.qh_model.specs.{contract.StoredSurface.facet_at, headline.Sets.Once};
+ghost use Rattle.qh_mesh.specs.{contract.Replacement.IsLive, steps.Places.Removed, steps.Places.IsPool};
 
 use crate::facets::{Facet, FacetSide};
 use crate::slots::{Slot, note};

@@ -1,10 +1,8 @@
 //! A replacement, after room for it has been reserved.
 ghost use Rattle.std.specs.Prelude.{◌≡◌, ◌+◌, ◌*◌, ◌≤◌, length, reverse, [], vec_len, vec_capacity};
-ghost use Rattle.qh_mesh.specs.contract.Replacement.{AreFacets};
-ghost use Rattle.qh_mesh.specs.steps.Places.{IsPool};
+ghost use Rattle.qh_mesh.specs.{contract.Replacement.AreFacets, steps.Places.IsPool};
 ghost use Rattle.qh_mesh.specs.steps.Rebuilt.{IsCleared, IsConed, IsPrepared, IsReady, IsRebuilt};
-ghost use Rattle.qh_mesh.specs.steps.Rooms.{HasRoom, IsBlank};
-ghost use Rattle.qh_mesh.specs.steps.Surfaces.{IsSurface};
+ghost use Rattle.qh_mesh.specs.steps.{Rooms.HasRoom, Rooms.IsBlank, Surfaces.IsSurface};
 
 use crate::cone::{join_outer, write_cone};
 use crate::facets::{Facet, FacetSide};

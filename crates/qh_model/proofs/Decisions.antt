@@ -4,10 +4,8 @@ use Rattle.std.proofs.lemmas.Int.{by_lt_z}
 use Rattle.std.specs.Prelude.{ℤ, ◌≤ℤ◌, ◌<ℤ◌}
 use native.Mathlib.Decide.{ℕ_discrete}
 use lib.IntN.{ℤ_discrete}
-use Rattle.qh_model.proofs.algebra.Signs.{not_less}
-use Rattle.qh_model.proofs.algebra.VectorIdentities.{vector_path}
-use Rattle.qh_model.specs.headline.Vector.{Vector}
-use Rattle.qh_model.specs.headline.Sets.{In}
+use Rattle.qh_model.proofs.algebra.{Signs.not_less, VectorIdentities.vector_path}
+use Rattle.qh_model.specs.headline.{Vector.Vector, Sets.In}
 
 -- a claim holds or not
 abbrev pub Decided : Type 0 → Type 0

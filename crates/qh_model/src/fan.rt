@@ -1,6 +1,5 @@
 //! The walk over the triangles of the fan of a polygon.
-ghost use Rattle.std.specs.Prelude.{◌≡◌};
-ghost use Rattle.std.specs.Iterator.{YieldsFirst, item_count};
+ghost use Rattle.std.specs.{Prelude.◌≡◌, Iterator.YieldsFirst, Iterator.item_count};
 ghost use Rattle.qh_model.specs.contract.FaceTriangles.{face_triangles};
 
 use crate::point::Id;

@@ -19,8 +19,7 @@ pub struct Body {
 }
 
 impl Model for Body {
-    ghost use Rattle.qh_model.specs.headline.Hull.{BodyValue};
-    ghost use Rattle.qh_model.specs.contract.Bodies.{IsBodyInOrder};
+    ghost use Rattle.qh_model.specs.{contract.Bodies.IsBodyInOrder, headline.Hull.BodyValue};
 
     ghost Value = { BodyValue };
 

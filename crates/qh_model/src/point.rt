@@ -1,7 +1,6 @@
 //! Points and ids.
 ghost use Rattle.std.specs.Prelude.{◌≡◌};
-ghost use Rattle.qh_model.specs.headline.Vector.{Vector};
-ghost use Rattle.qh_model.specs.contract.Places.{IsPlace};
+ghost use Rattle.qh_model.specs.{contract.Places.IsPlace, headline.Vector.Vector};
 
 use std::marker::Model;
 
@@ -16,9 +15,7 @@ pub struct Point {
 }
 
 impl Model for Point {
-    ghost use Rattle.qh_model.specs.headline.Vector.{Vector};
-    ghost use Rattle.qh_model.specs.contract.Places.{vector_code};
-    ghost use Rattle.qh_model.specs.contract.Places.{IsPlace};
+    ghost use Rattle.qh_model.specs.{contract.Places.vector_code, contract.Places.IsPlace, headline.Vector.Vector};
 
     ghost Value = { Vector };
 

@@ -1,7 +1,6 @@
 //! The polygon of a face.
 ghost use Rattle.std.specs.Prelude.{◌≡◌, ◌<◌, ◌^◌, [], ◌∷◌, length};
-ghost use Rattle.qh_model.specs.contract.ClosedPolygons.{steps_round};
-ghost use Rattle.qh_model.specs.contract.FaceTriangles.{face_triangles};
+ghost use Rattle.qh_model.specs.contract.{ClosedPolygons.steps_round, FaceTriangles.face_triangles};
 
 use crate::fan::Fan;
 use crate::point::Id;

@@ -1,13 +1,12 @@
 -- A set that is divided into parts.
 use Rattle.std.proofs.Common.{ℕ, ◌<◌, inl, refl, arith, List, [], ◌∷◌, All, length}
 use Rattle.std.specs.List.{flat_map}
-use Rattle.qh_model.specs.headline.{Vector.Vector, Predicates.place, Sets.In, Sets.Members, Dimension.IsDimension}
-use Rattle.qh_model.specs.contract.StoredSurface.{surface_of}
+use Rattle.qh_model.specs.{contract.StoredSurface.surface_of, headline.Vector.Vector, headline.Predicates.place, headline.Sets.In, headline.Sets.Members}
+use Rattle.qh_model.specs.headline.Dimension.{IsDimension}
 use Rattle.qh_model.proofs.{Members.All-In, lists.Joined.in_flat_map}
 use Rattle.qh_surface.specs.contract.NamedMeshes.{named}
 use Rattle.qh_laws.proofs.Joined.{part_is_solid}
-use Rattle.qh_parts_join.specs.declared.parts.Part.{Part}
-use Rattle.qh_parts_join.specs.contract.Parts.{ids_in, IsPartOf}
+use Rattle.qh_parts_join.specs.{contract.Parts.ids_in, contract.Parts.IsPartOf, declared.parts.Part.Part}
 
 -- a divided set is solid, as a part of it is
 pub is_solid : (pts : List Vector) (shared ids : List ℕ) (parts : List Part) → All (IsPartOf pts shared) parts → 0 < length parts

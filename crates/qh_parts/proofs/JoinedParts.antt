@@ -1,14 +1,12 @@
 -- The faces that parts of a set contribute, and those between them, are those of its hull.
 use Rattle.std.proofs.Common.{ℕ, ◌<◌, List, All, length, map}
-use Rattle.std.specs.Prelude.{IsPermutation}
 use Rattle.std.proofs.lemmas.List.Sorted.{IsPermutation-append_left, IsPermutation-sym}
-use Rattle.qh_model.specs.headline.{Vector.Vector, Hull.BodyValue, Hull.IsBody, Predicates.place, Sets.Members}
-use Rattle.qh_model.specs.contract.IdSets.{IsIdSet}
+use Rattle.std.specs.Prelude.{IsPermutation}
+use Rattle.qh_model.specs.{contract.IdSets.IsIdSet, headline.Vector.Vector, headline.Hull.BodyValue, headline.Hull.IsBody, headline.Predicates.place}
+use Rattle.qh_model.specs.headline.Sets.{Members}
 use Rattle.qh_model.proofs.Members.{in_permutation}
 use Rattle.qh_bodies.proofs.StepCounts.{closed_permuted}
-use Rattle.qh_parts_join.specs.declared.parts.Part.{Part}
-use Rattle.qh_parts_join.specs.contract.Parts.{IsPartOf}
-use Rattle.qh_parts_join.specs.contract.{Kept.places_of, Joined.IsBodyOfJoined}
+use Rattle.qh_parts_join.specs.{contract.Parts.IsPartOf, contract.Kept.places_of, contract.Joined.IsBodyOfJoined, declared.parts.Part.Part}
 use Rattle.qh_parts_join.proofs.OwnCorners.{corners_held}
 use Rattle.qh_parts.specs.steps.{Given.AreGivenOf, Kept.HaveKept}
 use Rattle.qh_parts.proofs.Divided.{is_solid}

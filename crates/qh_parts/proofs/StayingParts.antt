@@ -2,19 +2,18 @@
 use Rattle.std.proofs.Common.{◌≡◌, ℕ, ◌<◌, ◌⊎◌, inl, inr, List, All, Bool, true, length, get_or, sym, subst, ap, ◌∙◌}
 use Rattle.std.proofs.lemmas.List.{get_or_default}
 use Rattle.std.specs.List.{flat_map}
-use Rattle.qh_model.specs.headline.{Vector.Vector, Predicates.place, Sets.In, Sets.Members}
 use Rattle.qh_model.specs.contract.{IdSets.HasDistinctPoints, IdSets.IsIdSet, FinishedSurface.IsFinished, StoredSurface.surface_of}
+use Rattle.qh_model.specs.headline.{Vector.Vector, Predicates.place, Sets.In, Sets.Members}
 use Rattle.qh_model.proofs.{Members.All-of, Members.In-get_or, Members.to_contains, lists.Joined.in_flat_map, lists.Joined.of_flat_map}
 use Rattle.qh_model.proofs.surfaces.Stored.{live_is_marked}
 use Rattle.qh_mesh.specs.contract.Replacement.{IsLive}
-use Rattle.qh_surface.specs.contract.{NamedMeshes.named}
+use Rattle.qh_surface.specs.contract.NamedMeshes.{named}
 use Rattle.qh_block.specs.steps.Faces.{IsFacetPolygon}
 use Rattle.qh_laws.specs.contract.Parts.{IsPartFace}
 use Rattle.qh_laws.proofs.Parts.{strict_is_clear}
-use Rattle.qh_parts_join.specs.declared.parts.Part.{Part}
 use Rattle.qh_parts_join.specs.contract.Parts.{ids_in, own_in, KeepsCorners, IsPartOf}
-use Rattle.qh_parts.specs.contract.Staying.{IsStayingPart}
-use Rattle.qh_parts.specs.steps.Apart.{IsApart}
+use Rattle.qh_parts_join.specs.declared.parts.Part.{Part}
+use Rattle.qh_parts.specs.{contract.Staying.IsStayingPart, steps.Apart.IsApart}
 
 -- the id at a place of a list is one of the list
 pub named_there : (xs : List ℕ) (k x : ℕ) → x ≡ get_or xs k x → k < length xs → In x xs

@@ -1,9 +1,7 @@
 //! The hull of a set by several threads.
 ghost use Rattle.std.specs.Prelude.{◌<◌, IfOk, IfSome, length};
-ghost use Rattle.qh_model.specs.contract.IdSets.{AreIndices, IsIdSet};
-ghost use Rattle.qh_model.specs.headline.Hull.{IsBody};
-ghost use Rattle.qh_model.specs.headline.Predicates.{place};
-ghost use Rattle.qh_model.specs.headline.Sets.{Members};
+ghost use Rattle.qh_model.specs.{contract.IdSets.AreIndices, contract.IdSets.IsIdSet, headline.Hull.IsBody};
+ghost use Rattle.qh_model.specs.headline.{Predicates.place, Sets.Members};
 
 use crate::joining::hull_of_parts;
 use crate::pieces::parts_along_curve;

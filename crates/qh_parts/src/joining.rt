@@ -1,13 +1,10 @@
 //! The hull of a set from its parts: from their remaining faces and those between them, or from their corners.
 ghost use Rattle.std.specs.Prelude.{◌<◌, ℕ, List, IfOk, IfSome, length};
 ghost use Rattle.std.specs.List.{All};
-ghost use Rattle.qh_model.specs.contract.IdSets.{AreIndices, IsIdSet};
-ghost use Rattle.qh_model.specs.headline.Hull.{IsBody};
-ghost use Rattle.qh_model.specs.headline.Predicates.{place};
-ghost use Rattle.qh_model.specs.headline.Sets.{Members};
+ghost use Rattle.qh_model.specs.{contract.IdSets.AreIndices, contract.IdSets.IsIdSet, headline.Hull.IsBody};
+ghost use Rattle.qh_model.specs.headline.{Predicates.place, Sets.Members};
 ghost use Rattle.qh_parts_join.specs.contract.Parts.{IsPartOf};
-ghost use Rattle.qh_parts.specs.steps.Given.{AreGivenOf};
-ghost use Rattle.qh_parts.specs.steps.Kept.{HaveKept};
+ghost use Rattle.qh_parts.specs.steps.{Given.AreGivenOf, Kept.HaveKept};
 
 use crate::given::outlines_in_threads;
 use crate::hulls::Seams;

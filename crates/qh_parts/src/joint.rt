@@ -1,9 +1,7 @@
 //! The contributions of the parts of a set, with the polygons that close the gap between them.
-ghost use Rattle.std.specs.Prelude.{IfOk, IfSome, IsPermutation};
-ghost use Rattle.std.specs.List.{All};
+ghost use Rattle.std.specs.{Prelude.IfOk, Prelude.IfSome, Prelude.IsPermutation, List.All};
 ghost use Rattle.qh_parts_join.specs.contract.Parts.{IsPartOf};
-ghost use Rattle.qh_parts.specs.steps.Given.{AreGivenOf};
-ghost use Rattle.qh_parts.specs.steps.Kept.{HaveKept};
+ghost use Rattle.qh_parts.specs.steps.{Given.AreGivenOf, Kept.HaveKept};
 
 use crate::given::{Given, given_in_threads};
 use qh_bodies::UnsortedFaces;

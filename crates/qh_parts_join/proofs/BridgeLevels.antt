@@ -1,14 +1,11 @@
 -- The kept ids of a set, as the places of its parts hold them.
 use Rattle.std.proofs.Common.{ℕ, ◌<◌, List, ◌++◌, All, length}
 use Rattle.std.proofs.lemmas.List.Elements.{All-append}
-use Rattle.std.specs.Prelude.{◌↔◌}
-use Rattle.std.specs.List.{flat_map}
-use Rattle.qh_model.specs.headline.{Vector.Vector, Sets.In}
-use Rattle.qh_model.specs.contract.IdSets.{AreIndices}
+use Rattle.std.specs.{Prelude.◌↔◌, List.flat_map}
+use Rattle.qh_model.specs.{contract.IdSets.AreIndices, headline.Vector.Vector, headline.Sets.In}
 use Rattle.qh_model.proofs.{Members.All-In, Members.All-of, lists.Joined.in_append, lists.Joined.of_append, lists.Joined.of_flat_map}
 use Rattle.qh_pred.specs.contract.Planes.{PlaneValue}
-use Rattle.qh_places.specs.contract.Places.{AreLevel}
-use Rattle.qh_places.specs.declared.places.Places.{Places}
+use Rattle.qh_places.specs.{contract.Places.AreLevel, declared.places.Places.Places}
 use Rattle.qh_parts_join.specs.contract.Kept.{held_in, ArePlaced, AreHeld}
 
 module _ (corners : List Places) (shared : List ℕ) where

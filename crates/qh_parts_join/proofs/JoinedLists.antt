@@ -1,7 +1,6 @@
 -- Joined lists of polygons.
 use Rattle.std.proofs.Common.{◌≡◌, ℕ, ◌⊎◌, inl, List, [], ◌∷◌, length, refl}
-use Rattle.qh_model.specs.headline.{Vector.Vector, Sets.In, Sets.Members}
-use Rattle.qh_model.specs.contract.{ClosedPolygons.AreClosed, ClosedPolygons.IsFace}
+use Rattle.qh_model.specs.{contract.ClosedPolygons.AreClosed, contract.ClosedPolygons.IsFace, headline.Vector.Vector, headline.Sets.In, headline.Sets.Members}
 use Rattle.qh_laws.specs.contract.Parts.{IsPartFace, AreJoined}
 
 -- polygons, at least one, that close up are joined

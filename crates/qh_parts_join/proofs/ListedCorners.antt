@@ -1,8 +1,6 @@
 -- Members that a loop lists one by one or three by three.
 use Rattle.std.proofs.Common.{◌≡◌, ℕ, inl, inr, List, [], ◌∷◌, ◌++◌, sym, subst, refl}
-use Rattle.qh_model.specs.headline.Sets.{In}
-use Rattle.qh_model.specs.contract.Surface.{Surface, IsCorner}
-use Rattle.qh_model.specs.laws.CompletenessLaws.{IsLiveCorner}
+use Rattle.qh_model.specs.{contract.Surface.Surface, contract.Surface.IsCorner, headline.Sets.In, laws.CompletenessLaws.IsLiveCorner}
 use Rattle.qh_model.proofs.lists.Joined.{in_append, of_append}
 use Rattle.qh_parts_join.proofs.Asked.{AreAsked, asking_starts, asking_goes}
 

@@ -2,10 +2,8 @@
 use Rattle.std.proofs.Common.{ℕ, ◌+◌, ◌≤◌, inl, inr, List, [], ◌∷◌, ◌++◌, length, arith, sym, subst}
 use Rattle.std.proofs.lemmas.List.{length-append}
 use Rattle.std.specs.Prelude.{◌↔◌}
-use Rattle.qh_model.specs.headline.{Vector.Vector, Sets.In, Sets.Once}
-use Rattle.qh_model.specs.contract.{FinishedSurface.IsFinished, Surface.Surface}
-use Rattle.qh_model.proofs.lists.Joined.{in_append, of_append}
-use Rattle.qh_model.proofs.lists.OnceEach.{once_within}
+use Rattle.qh_model.specs.{contract.FinishedSurface.IsFinished, contract.Surface.Surface, headline.Vector.Vector, headline.Sets.In, headline.Sets.Once}
+use Rattle.qh_model.proofs.lists.{Joined.in_append, Joined.of_append, OnceEach.once_within}
 
 module _ {X : Type 0} (each : List X) (once : Once each) where
   -- if the members of `each` are in two lists that together are no longer, the second list has each of its members once

@@ -1,15 +1,13 @@
 -- The corners of parts include all extreme ids.
 use Rattle.std.proofs.Common.{ℕ, ◌⊎◌, inl, inr, List, All}
-use Rattle.std.specs.Prelude.{◌↔◌}
-use Rattle.std.specs.List.{flat_map}
-use Rattle.qh_model.specs.headline.{Vector.Vector, Predicates.place, Sets.In, Sets.Members, Extreme.Extreme}
-use Rattle.qh_model.specs.contract.StoredSurface.{surface_of}
+use Rattle.std.specs.{Prelude.◌↔◌, List.flat_map}
+use Rattle.qh_model.specs.{contract.StoredSurface.surface_of, headline.Vector.Vector, headline.Predicates.place, headline.Sets.In, headline.Sets.Members}
+use Rattle.qh_model.specs.headline.Extreme.{Extreme}
 use Rattle.qh_model.proofs.{Members.All-In, lists.Joined.in_flat_map, lists.Joined.of_flat_map}
 use Rattle.qh_surface.specs.contract.NamedMeshes.{named}
 use Rattle.qh_laws.specs.contract.Parts.{AreKept}
 use Rattle.qh_laws.proofs.Parts.{extremes_are_kept}
-use Rattle.qh_parts_join.specs.declared.parts.Part.{Part}
-use Rattle.qh_parts_join.specs.contract.Parts.{ids_in, own_in, IsPartOf}
+use Rattle.qh_parts_join.specs.{contract.Parts.ids_in, contract.Parts.own_in, contract.Parts.IsPartOf, declared.parts.Part.Part}
 
 module _ (pts : List Vector) (ids shared kept : List ℕ) (parts : List Part) (are : All (IsPartOf pts shared) parts)
     (all : (l : ℕ) → In l (flat_map ids_in parts) ↔ In l ids) (some : (l : ℕ) → In l shared → In l ids)

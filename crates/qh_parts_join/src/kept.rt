@@ -1,10 +1,7 @@
 //! The kept ids of a set: the corners of its parts. They include all extreme ids of the set.
 ghost use Rattle.std.specs.Prelude.{◌≡◌, ◌↔◌, ℕ, List, IfOk, IfSome, IsTrue};
-ghost use Rattle.std.specs.List.{All, flat_map};
-ghost use Rattle.std.specs.List.Sorted.{IsStrictlyIncreasing};
-ghost use Rattle.qh_model.specs.headline.Predicates.{place};
-ghost use Rattle.qh_model.specs.headline.Sets.{In};
-ghost use Rattle.qh_model.specs.headline.Vector.{Vector};
+ghost use Rattle.std.specs.List.{All, flat_map, Sorted.IsStrictlyIncreasing};
+ghost use Rattle.qh_model.specs.headline.{Predicates.place, Sets.In, Vector.Vector};
 ghost use Rattle.qh_laws.specs.contract.Parts.{AreKept};
 ghost use Rattle.qh_parts_join.specs.contract.Parts.{ids_in, own_in, KeepsCorners, IsPartOf};
 

@@ -1,15 +1,11 @@
 //! Parts of a set: the finished mesh of some of its ids, and the corners of the mesh.
 ghost use Rattle.std.specs.Prelude.{All, ◌≡◌, ◌<◌, ◌⊎◌, ◌↔◌, ℕ, IfOk, IfSome, IsTrue, List, length, true};
-ghost use Rattle.qh_model.specs.headline.Predicates.{place};
-ghost use Rattle.qh_model.specs.headline.Sets.{In, Once};
-ghost use Rattle.qh_model.specs.contract.IdSets.{AreIndices};
-ghost use Rattle.qh_model.specs.contract.StoredSurface.{surface_of};
-ghost use Rattle.qh_model.specs.laws.CompletenessLaws.{IsLiveCorner};
-ghost use Rattle.qh_surface.specs.contract.Corners.{AreCornersBelow};
-ghost use Rattle.qh_surface.specs.contract.NamedMeshes.{named};
-ghost use Rattle.qh_surface.specs.contract.Simplexes.{IsSimplexOf};
-ghost use Rattle.qh_surface.specs.contract.Walks.{mark_at};
 ghost use Rattle.std.specs.List.Sorted.{IsStrictlyIncreasing};
+ghost use Rattle.qh_model.specs.contract.{IdSets.AreIndices, StoredSurface.surface_of};
+ghost use Rattle.qh_model.specs.headline.{Predicates.place, Sets.In, Sets.Once};
+ghost use Rattle.qh_model.specs.laws.CompletenessLaws.{IsLiveCorner};
+ghost use Rattle.qh_surface.specs.contract.{Corners.AreCornersBelow, NamedMeshes.named, Simplexes.IsSimplexOf};
+ghost use Rattle.qh_surface.specs.contract.Walks.{mark_at};
 ghost use Rattle.qh_parts_join.specs.contract.Parts.{IsPartOf};
 
 use qh_mesh::FacetNo;

@@ -3,18 +3,13 @@ use Rattle.std.proofs.Common.{◌≡◌, ◌∙◌, ap, ℕ, ◌<◌, refl, sym,
 use Rattle.std.proofs.lemmas.Int.{ints, by_lt_z}
 use Rattle.std.specs.Prelude.{ℤ, pos, ◌+ℤ◌, ◌-ℤ◌, ◌*ℤ◌, ◌<ℤ◌, ◌≤ℤ◌}
 use Rattle.qh_model.specs.headline.Vector.{Vector, minus, dot}
-use Rattle.qh_model.proofs.algebra.{Order.mul-le, Order.mul-nonneg, Order.positive_le, Integers.mul_comm}
-use Rattle.qh_model.proofs.algebra.Ring.{Expr, ring}
+use Rattle.qh_model.proofs.algebra.{Order.mul-le, Order.mul-nonneg, Order.positive_le, Integers.mul_comm, Ring.Expr, Ring.ring}
 use Rattle.qh_model.proofs.algebra.Ring.Expr.{var, add, sub as less, mul}
 use Rattle.qh_model.proofs.algebra.VectorIdentities.{VE, vec, subE, dotE, put}
-use Rattle.qh_pred.specs.contract.Planes.{PlaneValue, height}
-use Rattle.qh_pred.specs.contract.Ranges.{IsBetween}
+use Rattle.qh_pred.specs.contract.{Planes.PlaneValue, Planes.height, Ranges.IsBetween}
 use Rattle.qh_pred.proofs.Ranges.{greatest}
-use Rattle.qh_places.specs.declared.bundles.Bundle.{Bundle}
-use Rattle.qh_places.specs.declared.slabs.Block.{Block}
-use Rattle.qh_places.specs.steps.Boxes.{IsWithin}
-use Rattle.qh_places.specs.contract.Bundles.{taken, IsInSpans, IsOfBundle}
-use Rattle.qh_places.specs.steps.Slabs.{vector_of, less_times, IsInBlock}
+use Rattle.qh_places.specs.{contract.Bundles.taken, contract.Bundles.IsInSpans, contract.Bundles.IsOfBundle, declared.bundles.Bundle.Bundle}
+use Rattle.qh_places.specs.{declared.slabs.Block.Block, steps.Boxes.IsWithin, steps.Slabs.vector_of, steps.Slabs.less_times, steps.Slabs.IsInBlock}
 
 -- a number of a span minus k, times a difference from one number to another
 pub rest_top : (n w low high from to k l h f t g : ℤ) → IsBetween low n high → IsBetween from w to

@@ -1,8 +1,6 @@
 -- A property of each element of all chunks holds for each element of the list.
-use Rattle.std.proofs.Common.{◌≡◌, ℕ, ◌+◌, ◌*◌, ◌/◌, ◌%◌, ◌<◌, ◌≤◌, arith, subst, ◌∙◌, ap, inl, inr, List, length}
-use Rattle.std.proofs.Common.{get_or, min, All}
-use Rattle.std.proofs.Math.Nat.{mul-le-mul_left}
-use Rattle.std.proofs.lemmas.Bool.{cases_lt}
+use Rattle.std.proofs.Common.{◌≡◌, ℕ, ◌+◌, ◌*◌, ◌/◌, ◌%◌, ◌<◌, ◌≤◌, arith, subst, ◌∙◌, ap, inl, inr, List, length, get_or, min, All}
+use Rattle.std.proofs.{Math.Nat.mul-le-mul_left, lemmas.Bool.cases_lt}
 use Rattle.std.specs.Fork.{IsChunk}
 
 -- a position lies in one of the chunks

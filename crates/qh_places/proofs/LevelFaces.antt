@@ -1,20 +1,13 @@
 -- A plane with no id of the set above it, with the polygon of the ids in it, is a face.
 use Rattle.std.proofs.Common.{◌≡◌, ℕ, sym, subst, ◌∙◌, inl, refl, List}
-use Rattle.std.specs.Prelude.{pos, ◌≤ℤ◌, ◌↔◌}
-use Rattle.std.specs.List.Sorted.{IsStrictlyIncreasing}
-use Rattle.qh_model.specs.headline.Vector.{Vector}
+use Rattle.std.specs.{Prelude.pos, Prelude.◌≤ℤ◌, Prelude.◌↔◌, List.Sorted.IsStrictlyIncreasing}
+use Rattle.qh_model.specs.{contract.IdSets.HasDistinctPoints, headline.Vector.Vector}
 use Rattle.qh_model.specs.headline.Predicates.{place, cross, vol, AreInLine}
-use Rattle.qh_model.specs.headline.Sets.{In, Members}
-use Rattle.qh_model.specs.headline.Extreme.{Extreme}
-use Rattle.qh_model.specs.headline.SupportingPlane.{Supports, IsSupportingTriple, OnPlane}
-use Rattle.qh_model.specs.headline.Polygon.{IsPolygon}
+use Rattle.qh_model.specs.headline.{Sets.In, Sets.Members, Extreme.Extreme}
+use Rattle.qh_model.specs.headline.{SupportingPlane.Supports, SupportingPlane.IsSupportingTriple, SupportingPlane.OnPlane, Polygon.IsPolygon}
 use Rattle.qh_model.specs.headline.Polygons.{IsFacePolygon}
-use Rattle.qh_model.specs.contract.IdSets.{HasDistinctPoints}
 use Rattle.qh_model.proofs.algebra.VectorIdentities.{vol-first, vol-second, vol-third}
-use Rattle.qh_model.proofs.extremes.Directions.{along_itself}
-use Rattle.qh_model.proofs.extremes.Faces.{extremes_of_face}
-use Rattle.qh_model.proofs.hulls.SameSets.{extreme_as}
-use Rattle.qh_model.proofs.polygons.Direction.{polygon_as}
+use Rattle.qh_model.proofs.{extremes.Directions.along_itself, extremes.Faces.extremes_of_face, hulls.SameSets.extreme_as, polygons.Direction.polygon_as}
 use Rattle.qh_pred.specs.contract.Planes.{PlaneValue, height}
 use Rattle.qh_polygon.specs.contract.PlanarSets.{IsPlanarSet}
 use Rattle.qh_places.specs.contract.Places.{AreLevel}

@@ -1,9 +1,6 @@
 -- Members of a list: a test that finds them, and those before and after a cut.
-use Rattle.std.proofs.Common.{◌≡◌, ℕ, zero, suc, ◌⊎◌, inl, inr, List, [], ◌∷◌, length, take, drop, subst, arith}
-use Rattle.std.proofs.Common.{refl, sym, Bool, true, false, eqb, eqb-true}
-use Rattle.std.specs.Prelude.{◌||◌}
-use Rattle.std.specs.Cmp.Lexicographic.{pointwise}
-use Rattle.std.specs.List.{list_any}
+use Rattle.std.proofs.Common.{◌≡◌, ℕ, zero, suc, ◌⊎◌, inl, inr, List, [], ◌∷◌, length, take, drop, subst, arith, refl, sym, Bool, true, false, eqb, eqb-true}
+use Rattle.std.specs.{Prelude.◌||◌, List.list_any, Cmp.Lexicographic.pointwise}
 use Rattle.qh_model.specs.headline.Sets.{In}
 use Rattle.qh_model.proofs.closed_surfaces.SignedVolume.{eqb-refl}
 

@@ -1,14 +1,9 @@
 -- The positions that starts cover, and the results there.
-use Rattle.std.proofs.Common.{◌≡◌, ℕ, zero, suc, ◌+◌, ◌<◌, ◌≤◌, arith, sym, ap, subst, ◌∙◌, ◌⊎◌, inl, inr, List, [], ◌∷◌, ◌++◌}
-use Rattle.std.proofs.Common.{length, get_or, length-append}
-use Rattle.std.proofs.lemmas.List.{get_or_default, get_or_append_left}
-use Rattle.std.proofs.Math.Seq.{get_or-append_seam}
-use Rattle.std.proofs.lemmas.Bool.{cases_lt}
+use Rattle.std.proofs.Common.{◌≡◌, ℕ, zero, suc, ◌+◌, ◌<◌, ◌≤◌, arith, sym, ap, subst, ◌∙◌, ◌⊎◌, inl, inr, List, [], ◌∷◌, ◌++◌, length, get_or, length-append}
+use Rattle.std.proofs.{Math.Seq.get_or-append_seam, lemmas.List.get_or_default, lemmas.List.get_or_append_left, lemmas.Bool.cases_lt}
 use Rattle.qh_model.specs.headline.Vector.{Vector}
 use Rattle.qh_pred.specs.contract.Planes.{PlaneValue}
-use Rattle.qh_places.specs.declared.bundles.Bundle.{Bundle}
-use Rattle.qh_places.specs.declared.places.TheConstants.{LEAF}
-use Rattle.qh_places.specs.contract.Near.{IsBegun, IsNearUpTo}
+use Rattle.qh_places.specs.{contract.Near.IsBegun, contract.Near.IsNearUpTo, declared.bundles.Bundle.Bundle, declared.places.TheConstants.LEAF}
 use Rattle.qh_places.specs.steps.Levels.{AreBelowAll, HasLooked, HasSeen}
 
 -- a position that is covered by the first starts is covered by more starts

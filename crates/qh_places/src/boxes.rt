@@ -1,8 +1,7 @@
 //! Boxes with sides along the axes, around points.
 ghost use Rattle.std.specs.Prelude.{◌≡◌, ◌⊎◌, ◌<◌, ◌<ℤ◌, pos, length, IsTrue};
 ghost use Rattle.qh_model.specs.headline.Vector.{Vector};
-ghost use Rattle.qh_pred.specs.contract.Planes.{height};
-ghost use Rattle.qh_pred.specs.contract.Ranges.{IsFarEnd};
+ghost use Rattle.qh_pred.specs.contract.{Planes.height, Ranges.IsFarEnd};
 ghost use Rattle.qh_places.specs.steps.Boxes.{IsWithin, IsBoxOf};
 
 use qh_model::Point;

@@ -4,11 +4,9 @@
 //! nearly parallel, so the length of the box matters little.
 ghost use Rattle.std.specs.Prelude.{◌≡◌, ◌<◌, ◌≤◌, ◌^◌, ◌+ℤ◌, ◌*ℤ◌, ◌-ℤ◌, ◌≤ℤ◌, ◌<ℤ◌, ℤ, pos, IsTrue, unsigned_abs};
 ghost use Rattle.qh_model.specs.headline.Vector.{Vector, minus, dot};
-ghost use Rattle.qh_pred.specs.contract.Planes.{PlaneValue, height};
-ghost use Rattle.qh_pred.specs.contract.Bounds.{normal_limit};
-ghost use Rattle.qh_places.specs.declared.spans.TheConstants.{TIMES_LIMIT};
-ghost use Rattle.qh_places.specs.steps.Boxes.{IsWithin};
+ghost use Rattle.qh_pred.specs.contract.{Planes.PlaneValue, Planes.height, Bounds.normal_limit};
 ghost use Rattle.qh_places.specs.contract.Bundles.{IsOfBundle, IsInSpans};
+ghost use Rattle.qh_places.specs.{declared.spans.TheConstants.TIMES_LIMIT, steps.Boxes.IsWithin};
 ghost use Rattle.qh_places.specs.steps.Slabs.{vector_of, less_times, IsInBlock};
 
 use crate::boxes::PointBox;

@@ -1,10 +1,8 @@
 //! The ids of a set in a spatial order, with their points and blocks of these.
-ghost use Rattle.std.specs.Prelude.{◌≡◌, ◌+◌, ◌<◌, ◌≤◌, ◌↔◌, ◌<ℤ◌, ℕ, List, pos, IfOk, MatchOption, IsTrue, length, map};
-ghost use Rattle.std.specs.List.{All};
-ghost use Rattle.qh_model.specs.headline.Sets.{In};
-ghost use Rattle.qh_model.specs.headline.Vector.{Vector};
+ghost use Rattle.std.specs.Prelude.{◌≡◌, ◌+◌, ◌<◌, ◌≤◌, ◌↔◌, ◌<ℤ◌, ℕ, List, pos, IfOk, MatchOption, IsTrue, length};
+ghost use Rattle.std.specs.{Prelude.map, List.All};
+ghost use Rattle.qh_model.specs.{contract.IdSets.AreIndices, headline.Sets.In, headline.Vector.Vector};
 ghost use Rattle.qh_model.specs.headline.Predicates.{place};
-ghost use Rattle.qh_model.specs.contract.IdSets.{AreIndices};
 ghost use Rattle.qh_pred.specs.contract.Planes.{PlaneValue, height};
 ghost use Rattle.qh_places.specs.contract.Near.{IsNear};
 ghost use Rattle.qh_places.specs.steps.Levels.{IsLevel, AreBelowAll, HasLooked, IsAboveAt};

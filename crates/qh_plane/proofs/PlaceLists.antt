@@ -1,19 +1,16 @@
 -- The ids of points that are equal to an earlier one, for each of the two keys: the number of the place, and a hash of it.
-use Rattle.std.proofs.Common.{◌≡◌, ℕ, ◌+◌, ◌-◌, ◌%◌, ◌/◌, ◌<◌, ◌≤◌, ◌⊎◌, inl, inr, List, length, get_or, arith, ap, sym, subst}
-use Rattle.std.proofs.{Common.◌∙◌, Common.IsPermutation, lemmas.Bool.cases_lt}
+use Rattle.std.proofs.Common.{◌≡◌, ℕ, ◌+◌, ◌-◌, ◌%◌, ◌/◌, ◌<◌, ◌≤◌, ◌⊎◌, inl, inr, List, length, get_or, arith, ap, sym, subst, ◌∙◌, IsPermutation}
+use Rattle.std.proofs.lemmas.Bool.{cases_lt}
 use Rattle.std.specs.List.{All, Sorted.IsNonDecreasing}
 use Rattle.qh_model.proofs.Members.{All-In, In-get_or}
-use Rattle.qh_model.specs.declared.limits.TheConstants.{POINT_LIMIT}
-use Rattle.qh_model.specs.headline.{Predicates.place, Sets.In, Vector.Vector}
+use Rattle.qh_model.specs.{declared.limits.TheConstants.POINT_LIMIT, headline.Predicates.place, headline.Sets.In, headline.Vector.Vector}
 use Rattle.qh_plane.proofs.DistinctLists.{AreSortedKeys, StandsAt, all_in, in_all, rises_each, all_within, index_in, up, position, stands_before, all_repeats}
 use Rattle.qh_polygon.proofs.PlaceOrder.{place_code-same}
+use Rattle.qh_polygon.specs.contract.{PlaceNumbers.place_code, PlaceNumbers.place_key, PlaceKeys.HasKey}
 use Rattle.qh_polygon.specs.declared.place_keys.TheConstants.{ROOM}
 use Rattle.qh_plane.specs.declared.hashed_keys.TheConstants.{ID_ROOM}
 use Rattle.qh_plane.specs.steps.HashedKeys.{place_hash, hash_at, Hashes, WithHashes, AreKeysBelow, AreHashedKeys, IsRepeat, RepeatsTold}
-use Rattle.qh_polygon.specs.contract.PlaceNumbers.{place_code, place_key}
-use Rattle.qh_polygon.specs.contract.PlaceKeys.{HasKey}
-use Rattle.qh_plane.specs.steps.PlaceKeys.{ArePlaceKeys, ArePlaceRepeats}
-use Rattle.qh_plane.specs.steps.Repeats.{IsRepeatedId, AreRepeats, AreAllRepeats}
+use Rattle.qh_plane.specs.steps.{PlaceKeys.ArePlaceKeys, PlaceKeys.ArePlaceRepeats, Repeats.IsRepeatedId, Repeats.AreRepeats, Repeats.AreAllRepeats}
 
 -- ---- by the number of the place
 module _ (pts : List Vector) (keys : List ℕ) (k : ArePlaceKeys pts keys) (rising : IsNonDecreasing keys) where

@@ -1,6 +1,5 @@
 //! The result of a search for ids.
-ghost use Rattle.std.specs.Prelude.{◌≡◌, MatchResult};
-ghost use Rattle.std.specs.Option.{option_copied};
+ghost use Rattle.std.specs.{Prelude.◌≡◌, Prelude.MatchResult, Option.option_copied};
 
 use qh_model::Id;
 use std::alloc::AllocError;

@@ -1,8 +1,7 @@
 //! Finds points that are equal to an earlier one by sorted keys of 64 bits.
 ghost use Rattle.std.specs.Prelude.{◌≤◌, ◌<◌, ◌%◌, IfOk, IfSome, length};
 ghost use Rattle.std.specs.List.{All};
-ghost use Rattle.qh_plane.specs.steps.HashedKeys.{RepeatsTold};
-ghost use Rattle.qh_plane.specs.steps.Repeats.{AreAllRepeats};
+ghost use Rattle.qh_plane.specs.steps.{HashedKeys.RepeatsTold, Repeats.AreAllRepeats};
 
 use crate::found_ids::FoundIds;
 use crate::hashed_keys::{ID_ROOM, hash_in, hashed_keys, id_in, is_repeat};

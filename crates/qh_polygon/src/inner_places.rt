@@ -5,12 +5,9 @@
 //! the far ids.
 ghost use Rattle.std.specs.Prelude.{◌≡◌, ◌<◌, ℕ, IfOk, IfSome, length, filter};
 ghost use Rattle.std.specs.List.Sorted.{IsStrictlyIncreasing};
-ghost use Rattle.qh_model.specs.headline.Extreme.{Extreme};
-ghost use Rattle.qh_model.specs.headline.Predicates.{place};
+ghost use Rattle.qh_model.specs.{contract.IdSets.AreIndices, headline.Extreme.Extreme, headline.Predicates.place};
 ghost use Rattle.qh_model.specs.headline.Sets.{In, Members};
-ghost use Rattle.qh_model.specs.contract.IdSets.{AreIndices};
-ghost use Rattle.qh_polygon.specs.contract.PlanarSets.{IsPlanarSet};
-ghost use Rattle.qh_polygon.specs.steps.Chains.{turn_of};
+ghost use Rattle.qh_polygon.specs.{contract.PlanarSets.IsPlanarSet, steps.Chains.turn_of};
 ghost use Rattle.qh_polygon.specs.steps.InnerPlaces.{is_inside, is_outside};
 
 use crate::chains::turns_left;

@@ -2,11 +2,9 @@
 //! the numbers sorts the points, faster than sorting records.
 ghost use Rattle.std.specs.Prelude.{◌≡◌, ◌+◌, ◌*◌, ◌/◌, ◌%◌, ◌<◌, IfOk, map};
 ghost use Rattle.std.specs.List.{All};
-ghost use Rattle.qh_model.specs.headline.Limits.{IsCoordinate};
-ghost use Rattle.qh_model.specs.contract.Places.{IsPlace};
+ghost use Rattle.qh_model.specs.{contract.Places.IsPlace, contract.IdSets.AreIndices, headline.Limits.IsCoordinate};
 ghost use Rattle.qh_polygon.specs.contract.PlaceNumbers.{biased, place_code, place_key};
 ghost use Rattle.qh_polygon.specs.contract.PlaceKeys.{key_at, HasKey};
-ghost use Rattle.qh_model.specs.contract.IdSets.{AreIndices};
 
 use qh_model::{COORDINATE_LIMIT, Id, Point};
 use qh_pred::point_at;

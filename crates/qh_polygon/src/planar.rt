@@ -1,15 +1,11 @@
 //! The polygon of points in one plane.
 ghost use Rattle.std.specs.Prelude.{◌≡◌, ◌<◌, ◌≤◌, ◌-◌, ◌++◌, ℕ, IfOk, IfSome, [], length, slice_index, reverse, take};
 ghost use Rattle.std.specs.List.{All};
-ghost use Rattle.qh_model.specs.headline.Predicates.{place};
-ghost use Rattle.qh_model.specs.headline.Sets.{Members};
-ghost use Rattle.qh_model.specs.headline.Extreme.{Extreme};
-ghost use Rattle.qh_model.specs.headline.Polygon.{IsPolygon};
+ghost use Rattle.qh_model.specs.{contract.IdSets.AreIndices, headline.Predicates.place, headline.Sets.Members};
+ghost use Rattle.qh_model.specs.headline.{Extreme.Extreme, Polygon.IsPolygon};
+ghost use Rattle.qh_polygon.specs.contract.{PlaceKeys.HasKey, PlanarSets.IsPlanarSet};
 ghost use Rattle.qh_polygon.specs.steps.Chains.{turn_of, chain, joined, triangle, goes_left, IsLeftCycle};
-ghost use Rattle.qh_polygon.specs.{steps.PlaceKeys.AreByPlace, contract.PlaceKeys.HasKey};
-ghost use Rattle.qh_model.specs.contract.IdSets.{AreIndices};
-ghost use Rattle.qh_polygon.specs.contract.PlanarSets.{IsPlanarSet};
-ghost use Rattle.qh_polygon.specs.steps.InnerPlaces.{IsFlatSet};
+ghost use Rattle.qh_polygon.specs.steps.{PlaceKeys.AreByPlace, InnerPlaces.IsFlatSet};
 
 use crate::chains::{chain, turns_left};
 use crate::inner_places::outer_ids;

@@ -1,10 +1,7 @@
 //! The rank of a set of points: its shape and dimension.
 ghost use Rattle.std.specs.Prelude.{◌<◌, ◌↔◌, IsTrue, MatchOption, IfSome, length};
-ghost use Rattle.qh_model.specs.headline.Predicates.{place};
-ghost use Rattle.qh_model.specs.headline.Sets.{Members};
-ghost use Rattle.qh_model.specs.contract.IdSets.{IsIdSet};
-ghost use Rattle.qh_model.specs.headline.Dimension.{IsDimension};
-ghost use Rattle.qh_model.specs.contract.IdSets.{AreIndices};
+ghost use Rattle.qh_model.specs.{contract.IdSets.IsIdSet, contract.IdSets.AreIndices, headline.Predicates.place};
+ghost use Rattle.qh_model.specs.headline.{Sets.Members, Dimension.IsDimension};
 ghost use Rattle.qh_polygon.specs.contract.Shapes.{IsInLine, IsInPlane, Each, IsFirstNot, IsShape, dimension_of};
 
 use crate::shape::Shape;

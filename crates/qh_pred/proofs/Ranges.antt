@@ -1,6 +1,5 @@
 -- Products over a range of numbers: the greatest is at an end of the range, and the greatest over a box is at a corner.
-use Rattle.std.proofs.Common.{◌≡◌, arith}
-use Rattle.std.proofs.lemmas.Int.{ints, by_lt_z}
+use Rattle.std.proofs.{Common.◌≡◌, Common.arith, lemmas.Int.ints, lemmas.Int.by_lt_z}
 use Rattle.std.specs.Prelude.{ℤ, pos, ◌*ℤ◌, neg_ℤ, ◌≤ℤ◌, ◌<ℤ◌}
 use Rattle.qh_model.proofs.algebra.{Order.mul-le, Integers.neg_mul}
 use Rattle.qh_model.specs.headline.Vector.{Vector}

@@ -20,8 +20,7 @@ pub struct Difference {
 }
 
 impl Model for Difference {
-    ghost use Rattle.qh_model.specs.headline.Vector.{Vector};
-    ghost use Rattle.qh_model.specs.contract.Places.{vector_code};
+    ghost use Rattle.qh_model.specs.{contract.Places.vector_code, headline.Vector.Vector};
     ghost use Rattle.qh_pred.specs.steps.Differences.{IsDifference};
 
     ghost Value = { Vector };
@@ -44,8 +43,7 @@ pub struct Components {
 }
 
 impl Model for Components {
-    ghost use Rattle.qh_model.specs.headline.Vector.{Vector};
-    ghost use Rattle.qh_model.specs.contract.Places.{vector_code};
+    ghost use Rattle.qh_model.specs.{contract.Places.vector_code, headline.Vector.Vector};
     ghost use Rattle.qh_pred.specs.contract.Bounds.{IsNormal};
 
     ghost Value = { Vector };

@@ -18,8 +18,7 @@ pub struct Normal {
 }
 
 impl Model for Normal {
-    ghost use Rattle.qh_model.specs.headline.Vector.{Vector};
-    ghost use Rattle.qh_model.specs.contract.Places.{vector_code};
+    ghost use Rattle.qh_model.specs.{contract.Places.vector_code, headline.Vector.Vector};
     ghost use Rattle.qh_pred.specs.contract.Bounds.{IsNormal};
 
     ghost Value = { Vector };

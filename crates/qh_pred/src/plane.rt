@@ -1,9 +1,7 @@
 //! The planes of triangles.
 ghost use Rattle.std.specs.Prelude.{◌≡◌, ◌≤◌, ◌↔◌, IsTrue, pos, ◌<ℤ◌, unsigned_abs};
-ghost use Rattle.qh_model.specs.headline.Vector.{Vector, dot};
-ghost use Rattle.qh_model.specs.headline.Predicates.{vol};
-ghost use Rattle.qh_pred.specs.steps.Differences.{offset_limit};
-ghost use Rattle.qh_pred.specs.contract.Planes.{PlaneValue, height};
+ghost use Rattle.qh_model.specs.headline.{Vector.Vector, Vector.dot, Predicates.vol};
+ghost use Rattle.qh_pred.specs.{contract.Planes.PlaneValue, contract.Planes.height, steps.Differences.offset_limit};
 
 use crate::components::Components;
 use crate::normal::Normal;

@@ -2,13 +2,10 @@
 use Rattle.std.proofs.Common.{◌≡◌, ◌∙◌, ◌++◌, [], ◌∷◌, ◌<◌, ◌≤◌, ◌+◌, ◌-◌, ◌*◌, drop, ℕ, List, ap, arith, suc, refl, length, length-append, append_assoc, sym}
 use Rattle.std.proofs.lemmas.List.{drop_more, append-nil}
 use Rattle.std.specs.Prelude.{ℤ, get_or}
-use Rattle.qh_model.specs.headline.{Limits.IsCoordinate, PointFile.coordinates, Vector.Vector}
-use Rattle.qh_model.specs.declared.form.Form.{Form}
+use Rattle.qh_model.specs.{declared.form.Form.Form, headline.Limits.IsCoordinate, headline.PointFile.coordinates, headline.Vector.Vector}
 use Rattle.qh_read.proofs.{BuildingLemmas.coordinates-push, NumberLaws.three, NumberLaws.coordinates-append}
 use Rattle.qh_read.specs.contract.{Holding.Held, Holding.held_by, Holding.next_held, Progress.Progress, Progress.wants}
-use Rattle.qh_read.specs.declared.builder.Trailing.{Trailing}
-use Rattle.qh_read.specs.declared.cursor.Cursor.{Cursor}
-use Rattle.qh_read.specs.declared.token.Token.TheVariants.{Empty}
+use Rattle.qh_read.specs.declared.{builder.Trailing.Trailing, cursor.Cursor.Cursor, token.Token.TheVariants.Empty}
 use Rattle.qh_read.specs.steps.Cursors.{ahead, held_from, IsParted, ArePoint, ArePushed}
 use Rattle.qh_read.specs.steps.Numbers.{quiet, ArePoints}
 

@@ -4,13 +4,12 @@ use Rattle.qh_read.proofs.OffProgressLaws as off
 use Rattle.std.proofs.Common.{◌≡◌, ◌∙◌, ◌++◌, [], ◌∷◌, ◌*◌, ◌≤◌, ℕ, List, ap, sym, arith, length, map, subst, length-append}
 use Rattle.std.proofs.lemmas.List.{append-nil}
 use Rattle.std.specs.{List.AllByRecursion, Prelude.ℤ, Prelude.pos, Prelude.Some}
-use Rattle.qh_model.specs.declared.form.Form.{Form, TheVariants.Qhull, TheVariants.Off}
-use Rattle.qh_model.specs.declared.limits.TheConstants.{BYTE_LIMIT}
-use Rattle.qh_model.specs.headline.{Forms.ReadsIn, Limits.IsCoordinate, OffFile.off_words, OffFile.ReadsOff, PointFile.coordinates}
-use Rattle.qh_model.specs.headline.{PointFile.IsHeader, PointFile.Reads, Vector.Vector, Words.data_words}
+use Rattle.qh_model.specs.declared.{form.Form.Form, form.Form.TheVariants.Qhull, form.Form.TheVariants.Off, limits.TheConstants.BYTE_LIMIT}
+use Rattle.qh_model.specs.headline.{Forms.ReadsIn, Limits.IsCoordinate, OffFile.off_words, OffFile.ReadsOff}
+use Rattle.qh_model.specs.headline.{PointFile.coordinates, PointFile.IsHeader, PointFile.Reads, Vector.Vector, Words.data_words}
 use Rattle.qh_model.proofs.ReadingLaws.{thrice}
-use Rattle.qh_read.specs.contract.Progress.{wants_first, wants_keyword, started}
-use Rattle.qh_read.specs.{declared.builder.Pending.Pending, steps.Building.filled_in, steps.Stages.pending_list}
+use Rattle.qh_read.specs.{contract.Progress.wants_first, contract.Progress.wants_keyword, contract.Progress.started, declared.builder.Pending.Pending}
+use Rattle.qh_read.specs.steps.{Building.filled_in, Stages.pending_list}
 use Rattle.qh_read.proofs.{Lexing.words_in, ProgressLaws.judged, ProgressLaws.whole, ProgressLaws.Whole}
 
 none_left : (ps : List Vector) (q : Pending) (k : ℕ) → length (coordinates ps ++ pending_list q) ≡ 3 * k

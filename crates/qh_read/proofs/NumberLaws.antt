@@ -1,10 +1,9 @@
 -- Coordinates that are accepted, and those of points.
-use Rattle.std.proofs.Common.{◌≡◌, ◌∙◌, ◌++◌, [], ◌∷◌, ℕ, List, true, false, ap, arith, suc, refl}
-use Rattle.std.proofs.{Common.append_assoc, lemmas.Bool.Decides.nat_tests}
+use Rattle.std.proofs.Common.{◌≡◌, ◌∙◌, ◌++◌, [], ◌∷◌, ℕ, List, true, false, ap, arith, suc, refl, append_assoc}
+use Rattle.std.proofs.lemmas.Bool.Decides.{nat_tests}
 use Rattle.std.specs.Prelude.{ℤ, Some}
 use Rattle.qh_model.specs.headline.{Limits.IsCoordinate, Limits.is_coordinate, PointFile.coordinates, Vector.Vector}
-use Rattle.qh_read.specs.contract.{Progress.Progress, Progress.after, Progress.wants}
-use Rattle.qh_read.specs.declared.builder.Trailing.{Trailing}
+use Rattle.qh_read.specs.{contract.Progress.Progress, contract.Progress.after, contract.Progress.wants, declared.builder.Trailing.Trailing}
 
 -- a coordinate in range is accepted
 takes : (trailing : Trailing) (left : ℕ) (t : List ℤ) (z : ℤ) (n : ℕ) → IsCoordinate z

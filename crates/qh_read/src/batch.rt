@@ -24,11 +24,10 @@ pub struct Batch {
 }
 
 impl Batch {
-    ghost use Rattle.std.specs.Prelude.{◌≡◌, ◌+◌, ◌-◌, ◌^◌, ◌++◌, ℕ, List, true, false, length, IfOk, IfErr, OnOk, Ok, Err};
-    ghost use Rattle.std.specs.Io.KnownBytes.{Consumes, IsAtEnd};
+    ghost use Rattle.std.specs.Prelude.{◌≡◌, ◌+◌, ◌-◌, ◌^◌, ◌++◌, ℕ, List, true, false, length, IfOk, IfErr, OnOk, Ok};
+    ghost use Rattle.std.specs.{Prelude.Err, Io.KnownBytes.Consumes, Io.KnownBytes.IsAtEnd};
     ghost use Rattle.qh_model.specs.declared.form.Form.{Form};
-    ghost use Rattle.qh_read.specs.contract.Holding.{Fed};
-    ghost use Rattle.qh_read.specs.steps.Segments.{batch_text, IsGoneOver};
+    ghost use Rattle.qh_read.specs.{contract.Holding.Fed, steps.Segments.batch_text, steps.Segments.IsGoneOver};
     ghost use Rattle.qh_read.specs.steps.Sources.{Stops};
 
     /// Creates an empty batch with room for `bytes` bytes in `segments` segments.

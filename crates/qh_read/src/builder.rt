@@ -97,15 +97,13 @@ fn after_keyword(token: Token) -> Stage
 }
 
 impl Builder {
-    ghost use Rattle.std.specs.Prelude.{◌≡◌, ◌≤◌, ◌<◌, ◌+◌, ◌*◌, ◌++◌, [], ◌∷◌, ℕ, Some, OnOk, IfOk, IfErr, IfSome, length, vec_len, vec_capacity};
-    ghost use Rattle.qh_read.specs.contract.ReadFaults.{IsTextFault};
-    ghost use Rattle.qh_read.specs.contract.Tokens.{is_keyword, value_of};
+    ghost use Rattle.std.specs.Prelude.{◌≡◌, ◌≤◌, ◌<◌, ◌+◌, ◌*◌, ◌++◌, [], ◌∷◌, ℕ, Some, OnOk, IfOk, IfErr, IfSome};
+    ghost use Rattle.std.specs.Prelude.{length, vec_len, vec_capacity};
+    ghost use Rattle.qh_read.specs.contract.{ReadFaults.IsTextFault, Tokens.is_keyword, Tokens.value_of};
     ghost use Rattle.qh_read.specs.steps.SmallTokens.{IsSmall};
     ghost use Rattle.qh_read.specs.steps.Building.{shown, taken, taken_count, lack, AreAll};
-    ghost use Rattle.qh_read.specs.steps.Numbers.{AwaitsPoints};
-    ghost use Rattle.qh_read.specs.steps.Cursors.{IsOn, held_from};
-    ghost use Rattle.qh_model.specs.declared.form.Form.{Form};
-    ghost use Rattle.qh_model.specs.headline.PointFile.{coordinates};
+    ghost use Rattle.qh_read.specs.steps.{Numbers.AwaitsPoints, Cursors.IsOn, Cursors.held_from};
+    ghost use Rattle.qh_model.specs.{declared.form.Form.Form, headline.PointFile.coordinates};
 
     /// Creates a builder that has read nothing yet.
     pub fn new(alloc: Global, form: Form) -> Builder

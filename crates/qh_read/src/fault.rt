@@ -1,8 +1,7 @@
 //! The reasons why a piece is refused, and their conversion to faults of reading.
 ghost use Rattle.std.specs.Prelude.{◌≡◌};
 ghost use Rattle.qh_model.specs.declared.read_fault.ReadFault.TheVariants as faults;
-ghost use Rattle.qh_read.specs.declared.fault.FeedFault.TheVariants.{Memory};
-ghost use Rattle.qh_read.specs.contract.ReadFaults.{read_fault};
+ghost use Rattle.qh_read.specs.{contract.ReadFaults.read_fault, declared.fault.FeedFault.TheVariants.Memory};
 
 use crate::source::DeviceFault;
 use qh_model::ReadFault;

@@ -3,8 +3,7 @@
 //! Words and comments have the syntax of OFF files, whose faces consist of such numbers.
 ghost use Rattle.std.specs.Prelude.{◌≡◌, ◌≤◌, ◌<◌, ◌+◌, [], ◌∷◌, ℕ, List, true, false, None, Some, length, MatchOption};
 ghost use Rattle.qh_model.specs.declared.limits.TheConstants.{BYTE_LIMIT};
-ghost use Rattle.qh_read.specs.contract.Numerals.{IsElsewhere, numerals_in};
-ghost use Rattle.qh_read.specs.contract.Tokens.{grown};
+ghost use Rattle.qh_read.specs.contract.{Numerals.IsElsewhere, Numerals.numerals_in, Tokens.grown};
 ghost use Rattle.qh_read.specs.steps.Arriving.{BeginsWord, arriving, ends_word, told};
 ghost use Rattle.qh_read.specs.steps.SmallTokens.{IsSmall};
 

@@ -3,9 +3,7 @@ ghost use Rattle.std.specs.Prelude.{◌≡◌, ◌≤◌, ◌<◌, ◌+◌, ◌+
 ghost use Rattle.qh_model.specs.declared.form.Form.{Form};
 ghost use Rattle.qh_model.specs.declared.form.Form.TheVariants as forms;
 ghost use Rattle.qh_model.specs.headline.Forms.{ReadsIn, IsFirstFault};
-ghost use Rattle.qh_read.specs.contract.ReadFaults.{IsTextFault};
-ghost use Rattle.qh_read.specs.contract.Holding.{Fed};
-ghost use Rattle.qh_read.specs.steps.Segments.{IsSegment};
+ghost use Rattle.qh_read.specs.{contract.ReadFaults.IsTextFault, contract.Holding.Fed, steps.Segments.IsSegment};
 
 use crate::fault::FeedFault;
 use crate::known_points::KnownPoints;

@@ -1,9 +1,8 @@
 //! Splits bytes into words, for pieces that may be cut anywhere.
 ghost use Rattle.std.specs.Prelude.{ℕ, ◌≡◌, ◌≤◌, ◌<◌, ◌+◌, ◌^◌, false, length, OnOk};
 ghost use Rattle.std.specs.Char.{is_ascii_digit};
-ghost use Rattle.qh_read.specs.steps.SmallTokens.{IsSmall};
 ghost use Rattle.qh_read.specs.contract.Holding.{held_at_start, ended_held, held_marked, next_held, held_by};
-ghost use Rattle.qh_read.specs.steps.Scanning.{held, under_way, HasRoom};
+ghost use Rattle.qh_read.specs.steps.{SmallTokens.IsSmall, Scanning.held, Scanning.under_way, Scanning.HasRoom};
 
 use crate::builder::Builder;
 use crate::cursor::Cursor;

@@ -3,8 +3,7 @@
 //! A file is read in batches, and a batch is cut into segments. While threads parse the segments of one batch, the
 //! calling thread feeds the previous batch to the reader, and reads the next one.
 ghost use Rattle.std.specs.Prelude.{◌≡◌, ◌≤◌, ◌<◌, ◌+◌, ◌-◌, ◌^◌, true, false, length, IfErr, OnOk, Ok};
-ghost use Rattle.std.specs.Thread.{IsSync};
-ghost use Rattle.std.specs.Io.KnownBytes.{IsAtEnd};
+ghost use Rattle.std.specs.{Thread.IsSync, Io.KnownBytes.IsAtEnd};
 ghost use Rattle.qh_read.specs.contract.Answers.{AnswersSource};
 ghost use Rattle.qh_read.specs.steps.Segments.{batch_text, IsGoneOver, FedAndFilled};
 ghost use Rattle.qh_read.specs.steps.Sources.{FedOn, Stops};

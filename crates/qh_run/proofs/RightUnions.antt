@@ -1,10 +1,7 @@
 -- The union of two right values: its ids are in the list, and it is not empty.
 use Rattle.std.proofs.Common.{ℕ, ◌<◌, ◌⊎◌, ◌↔◌, inl, inr, List, length, get_or, arith}
-use Rattle.qh_model.specs.headline.Vector.{Vector}
-use Rattle.qh_model.specs.headline.Sets.{In}
-use Rattle.qh_model.specs.contract.RightValue.{RightValue}
-use Rattle.qh_model.proofs.Members.{In-get_or, in_at}
-use Rattle.qh_model.proofs.hulls.RightValues.{right_within}
+use Rattle.qh_model.specs.{contract.RightValue.RightValue, headline.Vector.Vector, headline.Sets.In}
+use Rattle.qh_model.proofs.{Members.In-get_or, Members.in_at, hulls.RightValues.right_within}
 
 -- an id of the union is in the list
 pub union_within : (pts : List Vector) (ids bounds : List ℕ) (J K : ℕ → Type 0) (xs ys both : List ℕ)

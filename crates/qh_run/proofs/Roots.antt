@@ -1,12 +1,7 @@
 -- A value that is right for all blocks of a cut has the hull of all ids.
 use Rattle.std.proofs.Common.{ℕ, ◌≡◌, List, length}
-use Rattle.qh_model.specs.headline.Vector.{Vector}
-use Rattle.qh_model.specs.headline.Predicates.{place}
-use Rattle.qh_model.specs.headline.Sets.{Members}
-use Rattle.qh_model.specs.contract.BoardMachine.{InSpan}
-use Rattle.qh_model.specs.contract.Cut.{IsCut, block_count, positions}
-use Rattle.qh_model.specs.contract.IdSets.{HasDistinctPoints}
-use Rattle.qh_model.specs.contract.RightValue.{RightValue}
+use Rattle.qh_model.specs.contract.{BoardMachine.InSpan, Cut.IsCut, Cut.block_count, Cut.positions, IdSets.HasDistinctPoints, RightValue.RightValue}
+use Rattle.qh_model.specs.headline.{Vector.Vector, Predicates.place, Sets.Members}
 use Rattle.qh_model.proofs.hulls.RightValues.{hull_of_root, right_within}
 use Rattle.qh_run.specs.steps.Parts.{StandsFor}
 

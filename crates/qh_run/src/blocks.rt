@@ -1,14 +1,10 @@
 //! Ids of distinct points that are cut into blocks, and their extreme ids.
 ghost use Rattle.std.specs.Prelude.{◌≡◌, ◌<◌, ◌+◌, IfOk, length};
 ghost use Rattle.std.specs.List.Sorted.{IsStrictlyIncreasing};
-ghost use Rattle.qh_model.specs.contract.BoardMachine.{InSpan};
-ghost use Rattle.qh_model.specs.contract.Cut.{block_count, positions};
-ghost use Rattle.qh_model.specs.contract.IdSets.{HasDistinctPoints, IsIdSet};
-ghost use Rattle.qh_model.specs.contract.RightValue.{RightValue};
-ghost use Rattle.qh_model.specs.headline.Hull.{AreExtremes};
-ghost use Rattle.qh_model.specs.headline.Predicates.{place};
+ghost use Rattle.qh_model.specs.contract.{BoardMachine.InSpan, Cut.block_count, Cut.positions};
+ghost use Rattle.qh_model.specs.contract.IdSets.{HasDistinctPoints, IsIdSet, AreIndices};
+ghost use Rattle.qh_model.specs.{contract.RightValue.RightValue, headline.Hull.AreExtremes, headline.Predicates.place};
 ghost use Rattle.qh_model.specs.headline.Sets.{Members};
-ghost use Rattle.qh_model.specs.contract.IdSets.{AreIndices};
 
 use crate::reduction::{Claimed, GivesUp, Reduction};
 use crate::unions::union;

@@ -1,10 +1,7 @@
 //! The gate, which is notified of the blocks of a run and takes its last hull.
 ghost use Rattle.std.specs.Prelude.{◌<◌, IfOk, length};
-ghost use Rattle.qh_model.specs.contract.IdSets.{IsIdSet};
-ghost use Rattle.qh_model.specs.headline.Hull.{IsBody};
-ghost use Rattle.qh_model.specs.headline.Predicates.{place};
-ghost use Rattle.qh_model.specs.headline.Sets.{Members};
-ghost use Rattle.qh_model.specs.contract.IdSets.{AreIndices};
+ghost use Rattle.qh_model.specs.{contract.IdSets.IsIdSet, contract.IdSets.AreIndices, headline.Hull.IsBody};
+ghost use Rattle.qh_model.specs.headline.{Predicates.place, Sets.Members};
 
 use qh_block::hull;
 use qh_model::{Body, Id, Memory, Point};

@@ -1,7 +1,6 @@
 //! The spans of the workers' board: the points, their distinct ids, and a cut of these into blocks.
 ghost use Rattle.std.specs.Prelude.{◌≡◌, length};
-ghost use Rattle.qh_model.specs.contract.Cut.{block_count, positions};
-ghost use Rattle.qh_model.specs.contract.RightValue.{RightValue};
+ghost use Rattle.qh_model.specs.contract.{Cut.block_count, Cut.positions, RightValue.RightValue};
 ghost use Rattle.qh_model.specs.headline.DistinctIds.{AreDistinctIds};
 
 use crate::blocks::{Blocks, Extremes};

@@ -4,8 +4,7 @@ ghost use Rattle.qh_model.specs.contract.BoardMachine.{InSpan};
 ghost use Rattle.qh_board.specs.declared.view.Mark.TheVariants as marks;
 ghost use Rattle.qh_board.specs.contract.Tokens.{IsRightAt};
 ghost use Rattle.qh_model.specs.contract.IdSets.{AreIndices, IsIdSet};
-ghost use Rattle.qh_run.specs.steps.Parts.{StandsFor};
-ghost use Rattle.qh_run.specs.steps.Turns.{IsWorked};
+ghost use Rattle.qh_run.specs.steps.{Parts.StandsFor, Turns.IsWorked};
 
 use crate::blocks::Blocks;
 use crate::filtered::{Filtered, without_interior};

@@ -1,12 +1,9 @@
 //! The hull of a list of points, by workers.
 ghost use Rattle.std.specs.Prelude.{◌≡◌, ◌↔◌, ◌<◌, ◌≤◌, IfOk, IfSome, IsErrOf, length};
-ghost use Rattle.qh_model.specs.contract.Cut.{positions};
-ghost use Rattle.qh_model.specs.contract.IdSets.{AreIndices, IsIdSet};
-ghost use Rattle.qh_model.specs.headline.DistinctIds.{AreDistinctIds};
-ghost use Rattle.qh_model.specs.headline.Hull.{IsBody, IsHull};
-ghost use Rattle.qh_model.specs.headline.Predicates.{place};
-ghost use Rattle.qh_model.specs.headline.Sets.{Members};
+ghost use Rattle.qh_model.specs.contract.{Cut.positions, IdSets.AreIndices, IdSets.IsIdSet};
 ghost use Rattle.qh_model.specs.declared.limits.TheConstants.{POINT_LIMIT, WORKER_LIMIT};
+ghost use Rattle.qh_model.specs.headline.{DistinctIds.AreDistinctIds, Hull.IsBody, Hull.IsHull, Predicates.place};
+ghost use Rattle.qh_model.specs.headline.Sets.{Members};
 ghost use Rattle.qh_run.specs.steps.Parts.{StandsFor};
 
 use crate::gate::Gate;

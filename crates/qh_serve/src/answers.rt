@@ -1,11 +1,8 @@
 //! The answer to an input: the texts of its hull.
 ghost use Rattle.std.specs.Prelude.{◌≡◌, ◌≢◌, ◌<◌, ◌≤◌, IfOk, IfErr, Err, length};
 ghost use Rattle.qh_model.specs.contract.Cut.{positions};
-ghost use Rattle.qh_model.specs.headline.DistinctIds.{AreDistinctIds};
-ghost use Rattle.qh_model.specs.headline.Forms.{ReadsIn};
-ghost use Rattle.qh_model.specs.headline.Hull.{IsHull};
-ghost use Rattle.qh_model.specs.headline.Text.{IsText};
 ghost use Rattle.qh_model.specs.declared.limits.TheConstants.{BYTE_LIMIT, POINT_LIMIT};
+ghost use Rattle.qh_model.specs.headline.{DistinctIds.AreDistinctIds, Forms.ReadsIn, Hull.IsHull, Text.IsText};
 ghost use Rattle.qh_model.specs.declared.read_fault.ReadFault.TheVariants as reads;
 ghost use Rattle.qh_read.specs.contract.ReadFaults.{IsFaultOf};
 ghost use Rattle.qh_serve.specs.headline.Answers.{IsAnswer, IsAnswerFault};

@@ -3,10 +3,8 @@
 //! The rank consists of three numbers and needs no hull. The points have a hull with these numbers by the law
 //! `qh_laws::existence::every_list_has_a_text`.
 ghost use Rattle.std.specs.Prelude.{◌≡◌, ◌↔◌, ◌≤◌, ◌<◌, All, IfOk, IsTrue, length};
-ghost use Rattle.qh_model.specs.declared.limits.TheConstants.{POINT_LIMIT};
-ghost use Rattle.qh_model.specs.declared.out.Out.TheVariants.{Rank};
-ghost use Rattle.qh_model.specs.headline.DistinctIds.{AreDistinctIds};
-ghost use Rattle.qh_model.specs.headline.Text.{IsText};
+ghost use Rattle.qh_model.specs.declared.{limits.TheConstants.POINT_LIMIT, out.Out.TheVariants.Rank};
+ghost use Rattle.qh_model.specs.headline.{DistinctIds.AreDistinctIds, Text.IsText};
 
 use qh_model::{Body, Hull, Id, Memory, Point};
 use qh_polygon::rank;

@@ -1,11 +1,9 @@
 -- Chains of positions: the number of times that a position occurs in them, and the chains after a write to one link.
-use Rattle.std.proofs.Common.{◌≡◌, ℕ, zero, suc, ◌+◌, ◌<◌, ◌≤◌, arith, sym, refl, List, [], ◌∷◌, ◌++◌, length, subst, get_or, set}
-use Rattle.std.proofs.Common.{length-set, sum_by, eq-eqb, lt-ltb, le-ltb}
-use Rattle.std.proofs.lemmas.Bool.Decides.{nat_tests}
-use Rattle.std.proofs.lemmas.Grind.{common_steps}
+use Rattle.std.proofs.Common.{◌≡◌, ℕ, zero, suc, ◌+◌, ◌<◌, ◌≤◌, arith, sym, refl, List, [], ◌∷◌, ◌++◌, length, subst, get_or, set, length-set, sum_by, eq-eqb}
+use Rattle.std.proofs.{Common.lt-ltb, Common.le-ltb, lemmas.Grind.common_steps, lemmas.Bool.Decides.nat_tests}
 use Rattle.std.proofs.lemmas.List.Sums.{sum_by-cons, get_or-le-sum_by}
-use Rattle.qh_surface.specs.steps.PositionChains.{count, chain_from, IsChain, IsLast, IsSet, AreSets, no_sets, one_more}
 use Rattle.qh_surface.specs.declared.outside_sets.Ends.{Ends}
+use Rattle.qh_surface.specs.steps.PositionChains.{count, chain_from, IsChain, IsLast, IsSet, AreSets, no_sets, one_more}
 
 -- ---- counts
 pub count_at : (y x : ℕ) (xs : List ℕ) → y ≡ x → count y (x ∷ xs) ≡ count y xs + 1

@@ -1,18 +1,14 @@
 -- A walk over all its facets found all facets that the apex sees.
 use Rattle.std.proofs.Common.{◌≡◌, ℕ, arith, sym, ◌∙◌, Bool, false, List, subst, inl, inr, ℤ, pos, ◌<ℤ◌}
 use Rattle.std.proofs.lemmas.Int.{by_lt_z}
-use Rattle.qh_model.specs.headline.{Vector.Vector, Sets.In}
 use Rattle.qh_model.specs.contract.{Weighted.Weighted, FinishedSurface.weighted_at}
 use Rattle.qh_model.specs.contract.Surface.{Surface, Side, Sees, rise}
-use Rattle.qh_model.specs.contract.StoredSurface.{StoredFacet, facet_at, surface_of}
-use Rattle.qh_model.specs.laws.Horizons.{IsWalked}
-use Rattle.qh_model.proofs.algebra.Signs.{equal_positive}
-use Rattle.qh_model.proofs.surfaces.SurfaceLaws.{rise_is_vol, walk_finds_all}
+use Rattle.qh_model.specs.{contract.StoredSurface.StoredFacet, contract.StoredSurface.facet_at, contract.StoredSurface.surface_of, headline.Vector.Vector}
+use Rattle.qh_model.specs.{headline.Sets.In, laws.Horizons.IsWalked}
+use Rattle.qh_model.proofs.{Members.All-In, Members.in_at, algebra.Signs.equal_positive, surfaces.SurfaceLaws.rise_is_vol, surfaces.SurfaceLaws.walk_finds_all}
 use Rattle.qh_mesh.proofs.{Rewiring.live_in, Rewiring.in_live, ListedFacets.in_listed, ListedFacets.listed_in}
 use Rattle.qh_pred.specs.contract.Planes.{PlaneValue, height}
-use Rattle.qh_mesh.specs.contract.Replacement.{IsLive, is_listed}
-use Rattle.qh_mesh.specs.contract.SoundMesh.{facet_vol, IsSoundMesh, AreVisible}
-use Rattle.qh_model.proofs.Members.{All-In, in_at}
+use Rattle.qh_mesh.specs.contract.{Replacement.IsLive, Replacement.is_listed, SoundMesh.facet_vol, SoundMesh.IsSoundMesh, SoundMesh.AreVisible}
 use Rattle.qh_surface.specs.contract.Walks.{mark_at, IsMarked, IsCrossed, IsWalkFrom}
 use Rattle.qh_surface.specs.steps.Planes.{plane_at, ArePlanes}
 

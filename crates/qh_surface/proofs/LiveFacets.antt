@@ -1,10 +1,8 @@
 -- The live facets of a mesh: their places, and the loop over them.
 use Rattle.std.proofs.Common.{◌≡◌, ℕ, List, ◌∷◌, subst, All, ◌<◌, arith, length}
-use Rattle.std.proofs.lemmas.List.Elements.{All-head, All-rest}
-use Rattle.std.proofs.lemmas.List.{get_or_past}
+use Rattle.std.proofs.lemmas.List.{get_or_past, Elements.All-head, Elements.All-rest}
 use Rattle.qh_model.specs.contract.StoredSurface.{StoredFacet, surface_of, no_facet}
-use Rattle.qh_model.proofs.Members.{All-of}
-use Rattle.qh_model.proofs.surfaces.Stored.{live_is_marked}
+use Rattle.qh_model.proofs.{Members.All-of, surfaces.Stored.live_is_marked}
 use Rattle.qh_mesh.specs.contract.Replacement.{IsLive}
 
 -- a live facet has a place

@@ -1,11 +1,9 @@
 -- The same facets are live in a mesh over positions and over ids.
 use Rattle.std.proofs.Common.{ℕ, sym, subst}
-use Rattle.qh_model.specs.headline.Sets.{In}
-use Rattle.qh_model.specs.contract.StoredSurface.{surface_of}
+use Rattle.qh_model.specs.{contract.StoredSurface.surface_of, headline.Sets.In}
 use Rattle.qh_model.proofs.surfaces.{Named.IsNamed, Named.stored_named, Stored.live_is_marked}
 use Rattle.qh_mesh.specs.contract.{Names.name_in, Replacement.IsLive}
-use Rattle.qh_surface.specs.declared.named_mesh.NamedMesh.{NamedMesh}
-use Rattle.qh_surface.specs.contract.NamedMeshes.{named}
+use Rattle.qh_surface.specs.{contract.NamedMeshes.named, declared.named_mesh.NamedMesh.NamedMesh}
 
 module _ (n : NamedMesh) where
   -- the mesh over ids is the mesh over positions with renamed corners

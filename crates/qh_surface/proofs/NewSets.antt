@@ -1,11 +1,9 @@
 -- Outside sets at the start, and with room for more facets.
-use Rattle.std.proofs.Common.{◌≡◌, ℕ, zero, suc, ◌+◌, ◌<◌, ◌≤◌, arith, refl, List, [], ◌++◌, length, get_or, replicate, take, take_all}
-use Rattle.std.proofs.Common.{sum_by, ne_eqb}
+use Rattle.std.proofs.Common.{◌≡◌, ℕ, zero, suc, ◌+◌, ◌<◌, ◌≤◌, arith, refl, List, [], ◌++◌, length, get_or, replicate, take, take_all, sum_by, ne_eqb}
+use Rattle.std.proofs.lemmas.{Bool.Decides.nat_tests, List.FromFn.length-range_with_len, List.Folds.sum_by-replicate, List.Sums.sum_by-append}
 use Rattle.std.specs.List.{range_with_len}
-use Rattle.std.proofs.lemmas.Bool.Decides.{nat_tests}
-use Rattle.std.proofs.lemmas.List.{FromFn.length-range_with_len, Folds.sum_by-replicate, Sums.sum_by-append}
-use Rattle.qh_surface.specs.steps.PositionChains.{none, count, IsChain, AreSets, no_sets, one_more, IsKept}
 use Rattle.qh_surface.specs.declared.outside_sets.Ends.{Ends}
+use Rattle.qh_surface.specs.steps.PositionChains.{none, count, IsChain, AreSets, no_sets, one_more, IsKept}
 
 -- ---- the first sets
 -- a range has no number below its first

@@ -1,14 +1,12 @@
 -- The value that links, ends and a first orphan represent, and its change by each call.
-use Rattle.std.proofs.Common.{◌≡◌, ◌≢◌, ℕ, ◌+◌, ◌<◌, ◌≤◌, arith, ap, sym, ◌∙◌, refl, false, subst, List, [], ◌∷◌, ◌++◌, length}
-use Rattle.std.proofs.Common.{length-append, drop, drop-cons, map, get_or, set, length-set, sum_by}
-use Rattle.std.proofs.lemmas.List.{length-map}
-use Rattle.std.proofs.lemmas.List.Sums.{sum_by-cons, sum_by-set, get_or-le-sum_by}
+use Rattle.std.proofs.Common.{◌≡◌, ◌≢◌, ℕ, ◌+◌, ◌<◌, ◌≤◌, arith, ap, sym, ◌∙◌, refl, false, subst, List, [], ◌∷◌, ◌++◌, length, length-append, drop, drop-cons}
+use Rattle.std.proofs.Common.{map, get_or, set, length-set, sum_by}
+use Rattle.std.proofs.lemmas.List.{length-map, Sums.sum_by-cons, Sums.sum_by-set, Sums.get_or-le-sum_by}
 use Rattle.qh_surface.specs.contract.OutsideSets.{OutsideValue, set_of, joined, listed}
-use Rattle.qh_surface.specs.steps.PositionChains.{none, count, chain_from, value_of, IsChain, IsLast, IsSet, IsKept, AreKept, AreSets}
-use Rattle.qh_surface.specs.steps.PositionChains.{no_sets, one_more}
 use Rattle.qh_surface.specs.declared.outside_sets.Ends.{Ends}
-use Rattle.qh_surface.proofs.Chains.{count_at, count-append, last_in, last_within, next, chain_is, chain_kept, chain_front}
-use Rattle.qh_surface.proofs.Chains.{chain_joined, set_at, sets_kept, sets_put}
+use Rattle.qh_surface.specs.steps.PositionChains.{none, count, chain_from, value_of, IsChain, IsLast, IsSet, IsKept, AreKept, AreSets, no_sets, one_more}
+use Rattle.qh_surface.proofs.Chains.{count_at, count-append, last_in, last_within, next, chain_is, chain_kept, chain_front, chain_joined, set_at, sets_kept}
+use Rattle.qh_surface.proofs.Chains.{sets_put}
 
 -- ---- the value
 -- the stored sets are those that are read

@@ -1,12 +1,10 @@
 -- The steps of a walk over twins.
-use Rattle.std.proofs.Common.{◌≡◌, ◌≢◌, ℕ, ◌+◌, ◌<◌, ◌≤◌, ◌∙◌, ◌∷◌, ◌++◌, arith, ap, sym, refl, Bool, true, false, inl, inr, List, []}
-use Rattle.std.proofs.Common.{length, subst, set, length-set, get_or-set_same, get_or-set_other, slice_index, ◌↔◌, ◌||◌, IsTrue}
+use Rattle.std.proofs.Common.{◌≡◌, ◌≢◌, ℕ, ◌+◌, ◌<◌, ◌≤◌, ◌∙◌, ◌∷◌, ◌++◌, arith, ap, sym, refl, Bool, true, false, inl, inr, List, [], length, subst, set}
+use Rattle.std.proofs.Common.{length-set, get_or-set_same, get_or-set_other, slice_index, ◌↔◌, ◌||◌, IsTrue}
 use Rattle.std.proofs.lemmas.{Bool.cases_Bool, Bool.cases_eq, Bool.cases_lt, List.get_or_append_left, List.length_push}
 use Rattle.std.proofs.lemmas.List.Elements.{All-push, All-weaker}
-use Rattle.qh_model.specs.headline.Sets.{In}
-use Rattle.qh_model.specs.contract.StoredSurface.{StoredFacet, surface_of}
-use Rattle.qh_model.proofs.Members.{All-In, In-get_or, in_at}
-use Rattle.qh_model.proofs.lists.{Joined.in_append, Ranges.pigeon}
+use Rattle.qh_model.specs.{contract.StoredSurface.StoredFacet, contract.StoredSurface.surface_of, headline.Sets.In}
+use Rattle.qh_model.proofs.{Members.All-In, Members.In-get_or, Members.in_at, lists.Joined.in_append, lists.Ranges.pigeon}
 use Rattle.qh_mesh.specs.contract.Replacement.{IsLive, AreFacets}
 use Rattle.qh_mesh.proofs.ListedFacets.{once_apart, once_push}
 use Rattle.qh_surface.specs.contract.Walks.{mark_at, IsMarked, IsWalk, IsCrossed, AreCrossed, IsFurther}

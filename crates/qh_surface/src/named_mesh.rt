@@ -5,8 +5,7 @@
 ghost use Rattle.std.specs.Prelude.{◌≡◌, ◌∷◌, [], length};
 ghost use Rattle.qh_model.specs.contract.StoredSurface.{facet_at};
 ghost use Rattle.qh_mesh.specs.contract.Replacement.{IsLive};
-ghost use Rattle.qh_surface.specs.contract.Corners.{AreCornersBelow};
-ghost use Rattle.qh_surface.specs.contract.NamedMeshes.{named};
+ghost use Rattle.qh_surface.specs.contract.{Corners.AreCornersBelow, NamedMeshes.named};
 
 use qh_mesh::{FacetNo, Mesh};
 use qh_model::{Id, Point};

@@ -1,8 +1,7 @@
 -- The chunks of a list: their first positions, and their number.
 use Rattle.std.proofs.Common.{◌≡◌, ◌+◌, ◌*◌, ◌/◌, ◌%◌, ◌<◌, ◌≤◌, ℕ, min, List, length, drop, arith, refl, ◌∙◌, subst, ⊎_elim}
 use Rattle.std.proofs.lemmas.List.{length-drop, length-take, get_or-take, get_or-drop}
-use Rattle.std.proofs.lemmas.Bool.{cases_lt}
-use Rattle.std.proofs.lemmas.Nat.{div-add-mod', mod-mul-add}
+use Rattle.std.proofs.lemmas.{Bool.cases_lt, Nat.div-add-mod', Nat.mod-mul-add}
 use native.Mathlib.Nat.{add-mul, one-mul, mul-le-mul_right}
 use Rattle.std.specs.Fork.{slice_chunk, IsChunk}
 

@@ -4,8 +4,7 @@ use Rattle.std.proofs.lemmas.List.{get_or-set_same, get_or-set_other, length-set
 use native.Mathlib.Decide.{ℕ_discrete}
 use denote.Param.Members.{Shared}
 use Rattle.std.specs.Fn.{FnReturns}
-use Rattle.qh_threads.specs.declared.claimed.Answer.{Answer}
-use Rattle.qh_threads.specs.steps.Answers.{IsAnswer, ArePlaced}
+use Rattle.qh_threads.specs.{declared.claimed.Answer.Answer, steps.Answers.IsAnswer, steps.Answers.ArePlaced}
 
 -- the result of a call, in the slot of its index
 pub placed_set : {F X : Type 0} (g : Shared F (ℕ × Unit {0}) X) (f : F) (slots : List (Option X)) (k : ℕ) (o : Option X)

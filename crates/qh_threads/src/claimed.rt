@@ -1,8 +1,6 @@
 //! Calls of a closure at indices that threads claim one after the other.
 ghost use Rattle.std.specs.Prelude.{◌≡◌, ◌<◌, ℕ, IfOk, IsNone, length};
-ghost use Rattle.std.specs.List.{All};
-ghost use Rattle.std.specs.Fork.{GivesEach};
-ghost use Rattle.std.specs.Thread.{IsSend, IsSync};
+ghost use Rattle.std.specs.{List.All, Fork.GivesEach, Thread.IsSend, Thread.IsSync};
 ghost use Rattle.qh_threads.specs.steps.Answers.{IsAnswer, AreAnswers, ArePlaced};
 
 use crate::indices::map_indices;

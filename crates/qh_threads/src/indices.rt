@@ -1,8 +1,6 @@
 //! Parallel calls of a closure at indices.
 ghost use Rattle.std.specs.Prelude.{◌≡◌, ◌<◌, ℕ, IfOk, length};
-ghost use Rattle.std.specs.Fn.{FnReturns};
-ghost use Rattle.std.specs.Fork.{GivesEach};
-ghost use Rattle.std.specs.Thread.{IsSend, IsSync};
+ghost use Rattle.std.specs.{Fn.FnReturns, Fork.GivesEach, Thread.IsSend, Thread.IsSync};
 
 use std::alloc::{AllocError, Global};
 use std::thread::{Threads, join};

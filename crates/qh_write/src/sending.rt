@@ -1,8 +1,7 @@
 //! Sends a text to a sink, piece by piece.
 ghost use Rattle.std.specs.Prelude.{◌≡◌, ◌+◌, ◌-◌, ◌^◌, ◌<◌, OnOk, OnErr, true};
 ghost use Rattle.std.specs.Io.KnownBytes.{Appends, Keeps};
-ghost use Rattle.qh_write.specs.contract.Pieces.{bytes_in};
-ghost use Rattle.qh_write.specs.headline.Sinks.{AppendsBeginning};
+ghost use Rattle.qh_write.specs.{contract.Pieces.bytes_in, headline.Sinks.AppendsBeginning};
 
 use crate::pieces::Pieces;
 use crate::sink::Sink;

@@ -1,7 +1,6 @@
 //! The text of each output of a hull.
 ghost use Rattle.std.specs.Prelude.{◌≡◌, ◌++◌, ◌<◌, IfOk, OnOk};
-ghost use Rattle.qh_model.specs.headline.Text.{hull_text, output_text};
-ghost use Rattle.qh_model.specs.contract.IdSets.{AreIndices};
+ghost use Rattle.qh_model.specs.{contract.IdSets.AreIndices, headline.Text.hull_text, headline.Text.output_text};
 ghost use Rattle.qh_write.specs.contract.Pieces.{bytes_in};
 
 mod edges;

@@ -1,18 +1,13 @@
 -- The faults that prevent a verdict on the bytes of two files. This project's own.
 use Rattle.std.specs.Prelude.{ℕ, ◌≡◌, ◌<◌, List, Option, None, Some, IfSome, length}
 use Rattle.qh_model.specs.declared.form.Form.TheVariants as forms
-use Rattle.qh_model.specs.declared.limits.TheConstants.{BYTE_LIMIT}
-use Rattle.qh_model.specs.declared.read_fault.ReadFault.{ReadFault}
+use Rattle.qh_model.specs.declared.{limits.TheConstants.BYTE_LIMIT, read_fault.ReadFault.ReadFault}
 use Rattle.qh_model.specs.declared.read_fault.ReadFault.TheVariants as reads
 use Rattle.qh_model.specs.headline.Forms.{IsFirstFault}
-use Rattle.qh_read.specs.contract.ReadFaults.{IsTextFault}
+use Rattle.qh_read.specs.{contract.ReadFaults.IsTextFault, contract.FaceFiles.IsFaultOfFaces, declared.faces.reading.Reading.Reading}
 use Rattle.qh_read.specs.headline.SourceBytes.{Gives, GivesAll}
-use Rattle.qh_read.specs.declared.faces.reading.Reading.{Reading}
-use Rattle.qh_read.specs.contract.FaceFiles.{IsFaultOfFaces}
-use Rattle.hullcheck.specs.declared.fault.Fault.{Fault}
+use Rattle.hullcheck.specs.{contract.CommandLine.Asked, contract.CommandLine.asked_by, contract.Judging.IsWhole, declared.fault.Fault.Fault}
 use Rattle.hullcheck.specs.declared.fault.Fault.TheVariants.{Usage, Memory, Device, Output, Points, Faces}
-use Rattle.hullcheck.specs.contract.CommandLine.{Asked, asked_by}
-use Rattle.hullcheck.specs.contract.Judging.{IsWhole}
 
 -- a fault of reading all points: the first fault of all bytes read; or a read failed; or more bytes were read than the input limit
 pub record IsPointsFault (old new : Option (List ℕ)) (Failed : Type 0) (e : ReadFault) : Type 0 where

@@ -1,13 +1,9 @@
 -- The judgement on the faces in a file. This project's own.
 use Rattle.std.specs.Prelude.{ℕ, ◌≡◌, List, Option, Some, IfSome}
-use Rattle.qh_model.specs.headline.PointFile.{Reads}
-use Rattle.qh_model.specs.headline.Vector.{Vector}
-use Rattle.qh_read.specs.declared.faces.reading.Layout.{Layout}
+use Rattle.qh_model.specs.headline.{PointFile.Reads, Vector.Vector}
+use Rattle.qh_read.specs.{contract.FaceFiles.ReadsFaces, declared.faces.reading.Layout.Layout, declared.faces.reading.Reading.Reading}
 use Rattle.qh_read.specs.declared.faces.reading.Layout.TheVariants.{Off, Counted, Lines}
-use Rattle.qh_read.specs.declared.faces.reading.Reading.{Reading}
-use Rattle.qh_read.specs.contract.FaceFiles.{ReadsFaces}
-use Rattle.qh_check.specs.declared.judgement.Judgement.{Judgement}
-use Rattle.qh_check.specs.contract.Judging.{IsJudgement}
+use Rattle.qh_check.specs.{contract.Judging.IsJudgement, declared.judgement.Judgement.Judgement}
 use Rattle.hullcheck.specs.contract.CommandLine.{Asked, asked_by}
 
 -- the points that the numbers of a file refer to: its vertices, or the points of the set

@@ -1,17 +1,11 @@
 -- The effect of one run of the program on its devices, given the words and the files. This project's own.
 use Rattle.std.specs.Prelude.{ℕ, ◌≡◌, ◌≢◌, List, Option, Result, Ok, Err, MatchResult}
-use Rattle.std.specs.declared.io.ErrorKind.{ErrorKind}
-use Rattle.std.specs.declared.io.ErrorKind.TheVariants.{OutOfMemory}
-use Rattle.qh_check.specs.contract.Texts.{judgement_text}
-use Rattle.qh_check.specs.declared.judgement.Judgement.{Judgement}
-use Rattle.qh_write.specs.declared.sink.SinkFault.{SinkFault}
+use Rattle.std.specs.declared.io.ErrorKind.{ErrorKind, TheVariants.OutOfMemory}
+use Rattle.qh_check.specs.{contract.Texts.judgement_text, declared.judgement.Judgement.Judgement}
 use Rattle.qh_write.specs.contract.LineDevices.{IsCounted, LineDevice, SaysLine, SendsLine}
-use Rattle.hullcheck.specs.declared.fault.Fault.{Fault}
-use Rattle.hullcheck.specs.declared.fault.Fault.TheVariants.{Memory, Output, Usage}
-use Rattle.hullcheck.specs.contract.Checking.{IsJudgeFault}
-use Rattle.hullcheck.specs.contract.FaultTexts.{fault_text}
-use Rattle.hullcheck.specs.contract.Judging.{IsToldBy}
-use Rattle.hullcheck.specs.contract.Statuses.{fault_status, judgement_status}
+use Rattle.qh_write.specs.declared.sink.SinkFault.{SinkFault}
+use Rattle.hullcheck.specs.contract.{Checking.IsJudgeFault, FaultTexts.fault_text, Judging.IsToldBy, Statuses.fault_status, Statuses.judgement_status}
+use Rattle.hullcheck.specs.declared.fault.Fault.{Fault, TheVariants.Memory, TheVariants.Output, TheVariants.Usage}
 
 -- there are no words: out of memory, or a word is not UTF-8
 abbrev pub IsUnread : ErrorKind → Result Judgement Fault → Type 0

@@ -3,10 +3,9 @@ use Rattle.std.specs.Prelude.{ℕ}
 use Rattle.qh_model.specs.declared.read_fault.ReadFault.{ReadFault}
 use Rattle.qh_model.specs.declared.read_fault.ReadFault.TheVariants as read
 use Rattle.qh_check.specs.declared.flaw.SurfaceVerdict.TheVariants.{Right, OtherPolygons, NoPiece, Open, Twice}
+use Rattle.qh_check.specs.declared.judgement.Judgement.{Judgement, TheVariants.Told, TheVariants.Stranger}
 use Rattle.hullcheck.specs.declared.fault.Fault.{Fault}
 use Rattle.hullcheck.specs.declared.fault.Fault.TheVariants.{Usage, Memory, Device, Output, Points, Faces}
-use Rattle.qh_check.specs.declared.judgement.Judgement.{Judgement}
-use Rattle.qh_check.specs.declared.judgement.Judgement.TheVariants.{Told, Stranger}
 
 -- the faces are the hull
 abbrev pub all_right : ℕ

@@ -1,9 +1,8 @@
 -- The settings that the words of a command line specify, word by word.
 use Rattle.std.specs.Prelude.{ℕ, List, [], ◌∷◌, Option, None}
 use Rattle.std.specs.Option.{option_and_then}
-use Rattle.hullcheck.specs.declared.command_line.Next.{Next}
-use Rattle.hullcheck.specs.declared.command_line.Next.TheVariants.{Any, Workers}
 use Rattle.hullcheck.specs.contract.CommandLine.{Asked, with_words, with_workers, workers_in}
+use Rattle.hullcheck.specs.declared.command_line.Next.{Next, TheVariants.Any, TheVariants.Workers}
 
 -- the settings with a number of workers and all words after it
 abbrev pub with_number : Asked → List (List ℕ) → Option Asked

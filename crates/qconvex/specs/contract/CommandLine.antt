@@ -3,21 +3,15 @@
 use Rattle.std.specs.Prelude.{ℕ, ◌≡◌, ◌≢◌, ◌⊎◌, pos, false, List, [], ◌∷◌, Option, None, Some, codes, map}
 use Rattle.std.specs.Str.Parse.{IsNumeral, digits_value, without_leading_plus}
 use Rattle.clap.specs.Words.{App, Rule, Text, new_app, new_rule, with_rule, all_of, matches_of, one_of, takes, fault_of, IsAmong}
-use Rattle.clap.specs.declared.builder.action.ArgAction.TheVariants.{Set, Append}
-use Rattle.clap.specs.declared.builder.value_parser.ValueParser.{ValueParser}
+use Rattle.clap.specs.declared.builder.{action.ArgAction.TheVariants.Set, action.ArgAction.TheVariants.Append, value_parser.ValueParser.ValueParser}
 use Rattle.clap.specs.declared.builder.value_parser.ValueParser.TheVariants.{Signed, Names}
-use Rattle.clap.specs.declared.error.kind.ErrorKind.{ErrorKind}
-use Rattle.clap.specs.declared.error.kind.ErrorKind.TheVariants.{DisplayHelp}
-use Rattle.qh_model.specs.declared.limits.TheConstants.{WORKER_LIMIT}
-use Rattle.qh_model.specs.declared.form.Form.{Form}
+use Rattle.clap.specs.declared.error.kind.ErrorKind.{ErrorKind, TheVariants.DisplayHelp}
+use Rattle.qh_model.specs.declared.{form.Form.Form, limits.TheConstants.WORKER_LIMIT}
 use Rattle.qh_model.specs.declared.form.Form.TheVariants as forms
 use Rattle.qh_model.specs.declared.out.Out.{Out}
 use Rattle.qh_model.specs.declared.out.Out.TheVariants.{Rank, Summary, Fx, Off, OffTriangles}
-use Rattle.qconvex.specs.declared.command_line.ArgFault.{ArgFault}
-use Rattle.qconvex.specs.declared.command_line.ArgFault.TheVariants.{Help, Usage, Memory}
-use Rattle.qh_serve.specs.declared.settings.TheConstants.{BLOCK_SIZE_LIMIT}
-use Rattle.qh_serve.specs.headline.SettingsValue.{SettingsValue}
-use Rattle.qh_serve.specs.contract.Ranges.{IsInRange}
+use Rattle.qconvex.specs.declared.command_line.ArgFault.{ArgFault, TheVariants.Help, TheVariants.Usage, TheVariants.Memory}
+use Rattle.qh_serve.specs.{contract.Ranges.IsInRange, declared.settings.TheConstants.BLOCK_SIZE_LIMIT, headline.SettingsValue.SettingsValue}
 
 -- the parser of whole numbers from 1 to a limit
 abbrev pub from_one_to : ℕ → ValueParser

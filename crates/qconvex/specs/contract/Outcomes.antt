@@ -8,8 +8,7 @@ use Rattle.qh_serve.specs.declared.fault.Fault.{Fault}
 use Rattle.qh_serve.specs.declared.fault.Fault.TheVariants as faults
 use Rattle.qh_serve.specs.headline.Serving.{Devices, IsQuiet, IsServed, IsServeFault}
 use Rattle.qh_serve.specs.headline.SettingsValue.{SettingsValue}
-use Rattle.qconvex.specs.declared.command_line.ArgFault.{ArgFault}
-use Rattle.qconvex.specs.declared.command_line.ArgFault.TheVariants.{Help, Usage, Memory}
+use Rattle.qconvex.specs.declared.command_line.ArgFault.{ArgFault, TheVariants.Help, TheVariants.Usage, TheVariants.Memory}
 
 -- the devices, by their observable state
 abbrev pub devices : Option (List ℕ) → Option (List ℕ) → ℕ → ℕ → Bool → Devices

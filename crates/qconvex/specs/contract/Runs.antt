@@ -1,18 +1,13 @@
 -- The effect of one run of the program on its devices, given the words.
 -- Source: this project's own.
 use Rattle.std.specs.Prelude.{ℕ, ◌≡◌, ◌≢◌, List, Result, Ok, Err, MatchResult}
-use Rattle.std.specs.declared.io.ErrorKind.{ErrorKind}
-use Rattle.std.specs.declared.io.ErrorKind.TheVariants.{OutOfMemory}
+use Rattle.std.specs.declared.io.ErrorKind.{ErrorKind, TheVariants.OutOfMemory}
 use Rattle.clap.specs.Words.{Text}
 use Rattle.qh_write.specs.contract.LineDevices.{LineDevice, SaysLine}
-use Rattle.qh_serve.specs.contract.FaultLines.{fault_line, status_of}
-use Rattle.qh_serve.specs.declared.fault.Fault.{Fault}
-use Rattle.qh_serve.specs.headline.Serving.{Devices}
+use Rattle.qh_serve.specs.{contract.FaultLines.fault_line, contract.FaultLines.status_of, declared.fault.Fault.Fault, headline.Serving.Devices}
 use Rattle.qh_serve.specs.headline.SettingsValue.{SettingsValue}
-use Rattle.qconvex.specs.contract.CommandLine.{AreSettingsOf, IsArgFaultOf}
-use Rattle.qconvex.specs.contract.Outcomes.{IsOutcome}
-use Rattle.qconvex.specs.declared.command_line.ArgFault.{ArgFault}
-use Rattle.qconvex.specs.declared.command_line.ArgFault.TheVariants.{Usage, Memory}
+use Rattle.qconvex.specs.contract.{CommandLine.AreSettingsOf, CommandLine.IsArgFaultOf, Outcomes.IsOutcome}
+use Rattle.qconvex.specs.declared.command_line.ArgFault.{ArgFault, TheVariants.Usage, TheVariants.Memory}
 
 -- there are no words: out of memory, or a word is not UTF-8
 abbrev pub IsUnread : ErrorKind → Result SettingsValue ArgFault → Type 0

@@ -2,15 +2,12 @@
 use Rattle.std.specs.Prelude.{◌≡◌, ◌≢◌, List, Option, codes}
 use Rattle.std.specs.Option.{option_map}
 use Rattle.clap.specs.Words.{Text, matched_of, one_text, raw_values}
+use Rattle.clap.specs.declared.error.kind.ErrorKind.{ErrorKind, TheVariants.DisplayHelp, TheVariants.OutOfMemory}
 use Rattle.clap.specs.declared.parser.matches.Found.{Found}
-use Rattle.clap.specs.declared.error.kind.ErrorKind.{ErrorKind}
-use Rattle.clap.specs.declared.error.kind.ErrorKind.TheVariants.{DisplayHelp, OutOfMemory}
 use Rattle.qh_model.specs.declared.out.Out.{Out}
-use Rattle.qconvex.specs.declared.command_line.ArgFault.{ArgFault}
+use Rattle.qconvex.specs.{contract.CommandLine.AreOutsOf, contract.CommandLine.IsFormOf, contract.CommandLine.NumberOf, declared.command_line.ArgFault.ArgFault}
 use Rattle.qconvex.specs.declared.command_line.ArgFault.TheVariants.{Help, Usage, Memory}
-use Rattle.qh_serve.specs.headline.SettingsValue.{SettingsValue}
-use Rattle.qh_serve.specs.contract.Ranges.{IsInRange}
-use Rattle.qconvex.specs.contract.CommandLine.{AreOutsOf, IsFormOf, NumberOf}
+use Rattle.qh_serve.specs.{contract.Ranges.IsInRange, headline.SettingsValue.SettingsValue}
 
 -- the settings in the values found
 pub record AreSettingsFound (found : Found) (s : SettingsValue) : Type 0 where

@@ -1,8 +1,7 @@
 -- The contents of a call's buffers.
 use Rattle.std.specs.Prelude.{ℕ, ◌+◌, ◌<◌, ◌⊎◌, List, length, take}
 use Rattle.qh_model.specs.headline.Vector.{Vector}
-use Rattle.qconvex_c.specs.contract.Flat.{IsFlatHull}
-use Rattle.qconvex_c.specs.declared.sizes.Sizes.{Sizes}
+use Rattle.qconvex_c.specs.{contract.Flat.IsFlatHull, declared.sizes.Sizes.Sizes}
 
 -- the buffers begin with the flat hull of the points, with the lengths in the sizes
 pub record IsAnswered (pts : List Vector) (s : Sizes) (extremes offsets corners : List ℕ) : Type 0 where

@@ -1,20 +1,12 @@
 -- Faces in one list of corners, and the verdict that a call returns.
 use Rattle.std.specs.Prelude.{ℕ, ◌≡◌, ◌+◌, ◌<◌, List, [], length, slice_index, slice_index_or, slice_range}
-use Rattle.qh_model.specs.headline.DistinctIds.{AreDistinctIds}
-use Rattle.qh_model.specs.headline.Predicates.{place}
-use Rattle.qh_model.specs.headline.Sets.{Members}
-use Rattle.qh_model.specs.headline.Vector.{Vector}
-use Rattle.qh_check.specs.contract.Surfaces.{IsHullSurface}
-use Rattle.qh_check.specs.declared.flaw.SurfaceVerdict.TheVariants.{Right, OtherPolygons, NoPiece, Open, Twice}
+use Rattle.qh_model.specs.headline.{DistinctIds.AreDistinctIds, Predicates.place, Sets.Members, Vector.Vector}
+use Rattle.qh_check.specs.contract.{Surfaces.IsHullSurface, Judging.IsJudgement, Naming.AreNamedFaces}
 use Rattle.qh_check.specs.declared.fault.FaceFault.TheVariants.{NoPlane, Above, OtherFace}
-use Rattle.qh_check.specs.contract.Judging.{IsJudgement}
-use Rattle.qh_check.specs.contract.Naming.{AreNamedFaces}
-use Rattle.qh_check.specs.declared.judgement.Judgement.{Judgement}
-use Rattle.qh_check.specs.declared.judgement.Judgement.TheVariants.{Told, Stranger}
-use Rattle.qconvex_c.specs.contract.Codes.{QCONVEX_RIGHT, QCONVEX_STRANGER, QCONVEX_NO_PLANE, QCONVEX_ABOVE, QCONVEX_OTHER_FACE}
-use Rattle.qconvex_c.specs.contract.Codes.{QCONVEX_OPEN, QCONVEX_TWICE, QCONVEX_OTHERS}
-use Rattle.qconvex_c.specs.contract.Sets.{sets_in}
-use Rattle.qconvex_c.specs.declared.verdict.Verdict.{Verdict}
+use Rattle.qh_check.specs.declared.flaw.SurfaceVerdict.TheVariants.{Right, OtherPolygons, NoPiece, Open, Twice}
+use Rattle.qh_check.specs.declared.judgement.Judgement.{Judgement, TheVariants.Told, TheVariants.Stranger}
+use Rattle.qconvex_c.specs.contract.Codes.{QCONVEX_RIGHT, QCONVEX_STRANGER, QCONVEX_NO_PLANE, QCONVEX_ABOVE, QCONVEX_OTHER_FACE, QCONVEX_OPEN, QCONVEX_TWICE}
+use Rattle.qconvex_c.specs.{contract.Codes.QCONVEX_OTHERS, contract.Sets.sets_in, declared.verdict.Verdict.Verdict}
 
 -- face j has the corners from offset j to before offset j + 1
 pub record AreFacesIn (offsets corners : List ℕ) (faces : List (List ℕ)) : Type 0 where

@@ -1,7 +1,6 @@
 -- A hull in flat lists, as C reads it.
 use Rattle.std.specs.Prelude.{ℕ, ◌≡◌, ◌+◌, List, [], ◌∷◌, ◌++◌, length}
-use Rattle.qh_model.specs.headline.Hull.{HullValue, IsHull}
-use Rattle.qh_model.specs.headline.Vector.{Vector}
+use Rattle.qh_model.specs.headline.{Hull.HullValue, Hull.IsHull, Vector.Vector}
 use Rattle.qconvex_c.specs.declared.sizes.Sizes.{Sizes}
 
 -- the corners of the faces, one face after the other

@@ -1,13 +1,10 @@
 -- Many sets of points in one list, and the hull of each in its part of the buffers.
 use Rattle.std.specs.Prelude.{ℕ, ◌≡◌, ◌≢◌, ◌≤◌, ◌<◌, ◌↔◌, ◌+◌, ◌*◌, ◌-◌, List, length, take, drop, slice_index, slice_index_or, slice_range}
 use Rattle.std.specs.List.{All}
-use Rattle.qh_model.specs.contract.Places.{IsPlace}
-use Rattle.qh_model.specs.declared.limits.TheConstants.{POINT_LIMIT}
-use Rattle.qh_model.specs.headline.Vector.{Vector}
+use Rattle.qh_model.specs.{contract.Places.IsPlace, declared.limits.TheConstants.POINT_LIMIT, headline.Vector.Vector}
 use Rattle.qconvex_c.specs.contract.Answered.{IsAnswered, NeedsRoom}
 use Rattle.qconvex_c.specs.contract.Codes.{QCONVEX_DONE, QCONVEX_NO_POINT, QCONVEX_TOO_MANY, QCONVEX_RANGE, QCONVEX_ROOM}
-use Rattle.qconvex_c.specs.declared.set_answer.SetAnswer.{SetAnswer}
-use Rattle.qconvex_c.specs.declared.sizes.Sizes.{Sizes}
+use Rattle.qconvex_c.specs.declared.{set_answer.SetAnswer.SetAnswer, sizes.Sizes.Sizes}
 
 -- set j has the points from start j to before start j + 1: there is at least one start, the starts rise, and none exceeds the number of points
 pub record AreStarts (count : ℕ) (starts : List ℕ) : Type 0 where

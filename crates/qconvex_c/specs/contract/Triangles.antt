@@ -1,10 +1,8 @@
 -- The faces of a hull as triangles with their normals, in flat lists.
 use Rattle.std.specs.Prelude.{ℕ, ℤ, ◌≡◌, ◌*◌, ◌<◌, ◌⊎◌, List, [], ◌∷◌, length}
 use Rattle.std.specs.List.{flat_map}
-use Rattle.qh_model.specs.contract.FaceTriangles.{face_triangles}
-use Rattle.qh_model.specs.headline.Hull.{HullValue, IsHull}
-use Rattle.qh_model.specs.headline.Predicates.{cross, place}
-use Rattle.qh_model.specs.headline.Vector.{Vector}
+use Rattle.qh_model.specs.{contract.FaceTriangles.face_triangles, headline.Hull.HullValue, headline.Hull.IsHull}
+use Rattle.qh_model.specs.headline.{Predicates.cross, Predicates.place, Vector.Vector}
 use Rattle.qconvex_c.specs.contract.Flat.{corners_of}
 
 -- the fans of faces, one after the other

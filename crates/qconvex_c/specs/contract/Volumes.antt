@@ -1,8 +1,7 @@
 -- Six times the volume inside triangles, by their corners in one list.
 use Rattle.std.specs.Int.{w128}
 use Rattle.std.specs.Prelude.{ℕ, ℤ, pos, ◌+ℤ◌, FitsSigned, List, ◌∷◌}
-use Rattle.qh_model.specs.headline.Predicates.{vol}
-use Rattle.qh_model.specs.headline.Vector.{Vector}
+use Rattle.qh_model.specs.headline.{Predicates.vol, Vector.Vector}
 
 -- the sum of the determinants of the triangles' corners relative to an apex: six times the volume inside triangles that close up, above 0 if they are
 -- counterclockwise seen from outside. Any textbook (the divergence theorem)

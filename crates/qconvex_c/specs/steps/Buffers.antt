@@ -1,7 +1,6 @@
 -- The buffers of a call, and the parts of them that belong to a set.
 use Rattle.std.specs.Prelude.{◌≡◌, ◌≤◌, ◌+◌, ◌*◌, length}
-use Rattle.qconvex_c.specs.declared.buffers.Buffers.{Buffers}
-use Rattle.qconvex_c.specs.declared.sets.Set.{Set}
+use Rattle.qconvex_c.specs.declared.{buffers.Buffers.Buffers, sets.Set.Set}
 
 -- the same buffers, with any contents
 pub record AreSame (old new : Buffers) : Type 0 where

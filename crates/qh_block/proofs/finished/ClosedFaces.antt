@@ -1,16 +1,14 @@
 -- The faces of a finished mesh close up, whatever the order in which they were gathered.
 use Rattle.std.proofs.Common.{ℕ, List, [], ◌∷◌, IsPermutation}
 use Rattle.std.proofs.lemmas.List.Sorted.{IsPermutation-cons, IsPermutation-refl, IsPermutation-sym, IsPermutation-trans}
+use Rattle.qh_model.specs.contract.{ClosedPolygons.AreClosed, IdSets.IsIdSet, FinishedSurface.IsFinished, StoredSurface.StoredFacet, StoredSurface.surface_of}
 use Rattle.qh_model.specs.headline.{Vector.Vector, Predicates.place, Sets.Members}
-use Rattle.qh_model.specs.contract.{ClosedPolygons.AreClosed, IdSets.IsIdSet}
-use Rattle.qh_model.specs.contract.{FinishedSurface.IsFinished, StoredSurface.StoredFacet, StoredSurface.surface_of}
 use Rattle.qh_model.proofs.{Members.in_permutation, lists.Ordered.Ordered}
 use Rattle.qh_bodies.specs.steps.FaceKeys.{merged}
 use Rattle.qh_block.specs.steps.Faces.{AreFacetFaces}
-use Rattle.qh_bodies.proofs.FaceOrder.{apart_permuted, ordered_rise}
-use Rattle.qh_bodies.proofs.MergedFaces.{UpTo, merged_ordered, merged_permutation}
-use Rattle.qh_block.proofs.finished.SolidBodies.{closed}
+use Rattle.qh_bodies.proofs.{FaceOrder.apart_permuted, FaceOrder.ordered_rise, MergedFaces.UpTo, MergedFaces.merged_ordered, MergedFaces.merged_permutation}
 use Rattle.qh_bodies.proofs.StepCounts.{closed_permuted}
+use Rattle.qh_block.proofs.finished.SolidBodies.{closed}
 
 -- polygons in order
 in_order : List (List ℕ) → List (List ℕ)

@@ -1,13 +1,12 @@
 -- The corners of a list of facets.
 use Rattle.std.proofs.Common.{All, ℕ, ◌<◌, List, length, arith}
 use Rattle.std.specs.Prelude.{◌↔◌}
-use Rattle.qh_model.specs.headline.{Vector.Vector, Sets.In}
 use Rattle.qh_model.specs.contract.{IdSets.AreIndices, Surface.IsCorner, StoredSurface.StoredFacet, StoredSurface.surface_of}
-use Rattle.qh_model.proofs.Members.{All-In, All-of}
-use Rattle.qh_model.proofs.lists.Joined.{in_flat_map, of_flat_map}
+use Rattle.qh_model.specs.headline.{Vector.Vector, Sets.In}
+use Rattle.qh_model.proofs.{Members.All-In, Members.All-of, lists.Joined.in_flat_map, lists.Joined.of_flat_map}
 use Rattle.qh_mesh.specs.contract.Replacement.{IsLive}
 use Rattle.qh_surface.specs.contract.Corners.{AreCornersBelow}
-use Rattle.qh_block.specs.steps.{Faces.three_of, Faces.corners_of, Faces.IsListedCorner}
+use Rattle.qh_block.specs.steps.Faces.{three_of, corners_of, IsListedCorner}
 
 -- the corners of one facet
 in_three : (fs : List StoredFacet) (v : ℕ) (l : ℕ) → In l (three_of fs v) ↔ IsCorner (surface_of fs) v l

@@ -2,20 +2,17 @@
 use Rattle.std.proofs.Common.{◌≡◌, ◌≢◌, ℕ, ◌<◌, List, [], ◌∷◌, length, sym, subst, refl, arith, Bool, true, false, cond}
 use Rattle.std.proofs.lemmas.Bool.Decides.{nat_tests}
 use Rattle.std.specs.Prelude.{◌&&◌, nat_lt, pos, ◌<ℤ◌}
-use Rattle.qh_model.specs.headline.{Vector.Vector, Predicates.place, Predicates.cross, Predicates.left, Predicates.AreInLine, Sets.Members}
-use Rattle.qh_model.specs.headline.{Extreme.Extreme, Polygon.IsPolygon}
-use Rattle.qh_model.specs.contract.{FinishedSurface.IsFinished, IdSets.IsIdSet}
-use Rattle.qh_model.specs.contract.StoredSurface.{StoredFacet, facet_at, surface_of}
-use Rattle.qh_model.proofs.algebra.VectorIdentities.{left-dot, left-turn}
-use Rattle.qh_model.proofs.extremes.Directions.{square-positive}
+use Rattle.qh_model.specs.contract.{FinishedSurface.IsFinished, IdSets.IsIdSet, StoredSurface.StoredFacet, StoredSurface.facet_at, StoredSurface.surface_of}
+use Rattle.qh_model.specs.headline.Vector.{Vector}
+use Rattle.qh_model.specs.headline.Predicates.{place, cross, left, AreInLine}
+use Rattle.qh_model.specs.{headline.Sets.Members, headline.Extreme.Extreme, headline.Polygon.IsPolygon, laws.FacetPlanes.IsLevelFacet}
+use Rattle.qh_model.proofs.{algebra.VectorIdentities.left-dot, algebra.VectorIdentities.left-turn, extremes.Directions.square-positive}
 use Rattle.qh_model.proofs.surfaces.{Finished.facet_area, Stored.live_is_marked}
 use Rattle.qh_mesh.specs.contract.Replacement.{IsLive}
 use Rattle.qh_polygon.proofs.polygons.Triangle.{left_triangle}
 use Rattle.qh_surface.specs.contract.Walks.{IsWalkFrom}
-use Rattle.qh_block.specs.steps.{Faces.three_of, Faces.corners_of, Faces.from_least, Faces.IsNewPlane, Faces.IsNewFace}
-use Rattle.qh_model.specs.laws.FacetPlanes.{IsLevelFacet}
-use Rattle.qh_block.proofs.flats.Polygons.{corners_differ}
-use Rattle.qh_block.proofs.finished.{Corners.in_corners, NewFaces.face_of_corners}
+use Rattle.qh_block.specs.steps.Faces.{three_of, corners_of, from_least, IsNewPlane, IsNewFace}
+use Rattle.qh_block.proofs.{finished.Corners.in_corners, finished.NewFaces.face_of_corners, flats.Polygons.corners_differ}
 
 -- three ids that are not in line, beginning with the least, are their polygon
 least_first : (at : ℕ → Vector) (i j k : ℕ) → ¬ (AreInLine (at i) (at j) (at k))

@@ -2,14 +2,13 @@
 use Rattle.std.proofs.Common.{◌≡◌, ◌∙◌, ℕ, ◌<◌, inl, inr, List, length, ap, sym, subst, refl, Bool}
 use Rattle.std.proofs.lemmas.List.{get_or-map}
 use Rattle.std.specs.Prelude.{◌↔◌, slice_index}
-use Rattle.qh_model.specs.headline.{Vector.Vector, Vector.origin, Predicates.place, Predicates.vol, Sets.In}
-use Rattle.qh_model.specs.contract.{Surface.Side, Surface.Surface, Surface.IsCorner, Surface.IsWhole, StoredSurface.surface_of}
-use Rattle.qh_model.specs.laws.FacetPlanes.{IsLevelFacet, IsLevelWith}
-use Rattle.qh_model.proofs.Members.{All-In, All-of, In-get_or}
-use Rattle.qh_model.proofs.surfaces.Stored.{live_is_marked}
+use Rattle.qh_model.specs.contract.Surface.{Side, Surface, IsCorner, IsWhole}
+use Rattle.qh_model.specs.{contract.StoredSurface.surface_of, headline.Vector.Vector, headline.Vector.origin}
+use Rattle.qh_model.specs.{headline.Predicates.place, headline.Predicates.vol, headline.Sets.In, laws.FacetPlanes.IsLevelFacet, laws.FacetPlanes.IsLevelWith}
+use Rattle.qh_model.proofs.{Members.All-In, Members.All-of, Members.In-get_or, surfaces.Stored.live_is_marked}
 use Rattle.qh_mesh.specs.contract.{Names.name_in, Replacement.IsLive}
-use Rattle.qh_surface.specs.declared.named_mesh.NamedMesh.{NamedMesh}
 use Rattle.qh_surface.specs.contract.{NamedMeshes.named, NamedMeshes.IsNamedMesh, Walks.IsMarked, Walks.IsWalkFrom}
+use Rattle.qh_surface.specs.declared.named_mesh.NamedMesh.{NamedMesh}
 use Rattle.qh_surface.proofs.{NamedFacets.names, NamedFacets.named_live, NamedFacets.live_before, runs.OrderedIds.name_is}
 
 module _ (n : NamedMesh) where

@@ -1,22 +1,17 @@
 -- A walk in the plane of a facet gathers the face of that plane.
 use Rattle.std.proofs.Common.{inl, inr, ⊎_elim, ℕ, List, refl, Bool}
-use Rattle.std.specs.Prelude.{◌↔◌}
-use Rattle.std.specs.List.Sorted.{IsStrictlyIncreasing}
-use Rattle.qh_model.specs.headline.{Vector.Vector, Predicates.place, Predicates.cross, Sets.In, Sets.Members, Extreme.Extreme}
+use Rattle.std.specs.{Prelude.◌↔◌, List.Sorted.IsStrictlyIncreasing}
 use Rattle.qh_model.specs.contract.{IdSets.IsIdSet, Surface.Surface, Surface.Side, Surface.IsCorner, FinishedSurface.IsFinished}
-use Rattle.qh_model.specs.headline.{SupportingPlane.OnPlane, Polygon.IsPolygon}
+use Rattle.qh_model.specs.{contract.StoredSurface.StoredFacet, contract.StoredSurface.surface_of, headline.Vector.Vector}
+use Rattle.qh_model.specs.headline.{Predicates.place, Predicates.cross, Sets.In, Sets.Members, Extreme.Extreme, SupportingPlane.OnPlane, Polygon.IsPolygon}
 use Rattle.qh_model.specs.laws.{FacetPlanes.IsLevelFacet, CompletenessLaws.CornerInPlane}
-use Rattle.qh_model.specs.contract.StoredSurface.{StoredFacet, surface_of}
-use Rattle.qh_model.proofs.extremes.Directions.{along_itself}
-use Rattle.qh_model.proofs.polygons.Direction.{polygon_as}
-use Rattle.qh_model.proofs.surfaces.{Complete.extremes_of_plane, FacetPlanes.plane_walk_finds_all}
-use Rattle.qh_model.proofs.surfaces.{Finished.facet_area, Finished.facets_support, Stored.live_is_marked}
-use Rattle.qh_model.proofs.hulls.SameSets.{extreme_as}
+use Rattle.qh_model.proofs.{extremes.Directions.along_itself, hulls.SameSets.extreme_as, polygons.Direction.polygon_as, surfaces.Complete.extremes_of_plane}
+use Rattle.qh_model.proofs.surfaces.{FacetPlanes.plane_walk_finds_all, Finished.facet_area, Finished.facets_support, Stored.live_is_marked}
 use Rattle.qh_mesh.specs.contract.Replacement.{IsLive, is_listed}
 use Rattle.qh_mesh.proofs.ListedFacets.{in_listed, listed_in}
 use Rattle.qh_polygon.specs.contract.PlanarSets.{IsPlanarSet}
 use Rattle.qh_surface.specs.contract.Walks.{IsWalkFrom}
-use Rattle.qh_block.specs.steps.{Faces.IsListedCorner, Faces.IsNewPlane, Faces.IsNewFace}
+use Rattle.qh_block.specs.steps.Faces.{IsListedCorner, IsNewPlane, IsNewFace}
 use Rattle.qh_surface.proofs.FoundFacets.{found_live, found_passes, found_marked, found_over}
 
 module _ (pts : List Vector) (ids : List ℕ) (fs : List StoredFacet) (f : ℕ) (before after : List Bool) (vs : List ℕ)

@@ -11,11 +11,10 @@ use Rattle.qh_model.proofs.algebra.{Order.le_less, Order.mul-pos, Order.mul-nonn
 use Rattle.qh_model.proofs.algebra.Ring.Expr.{add, sub as less, mul, neg}
 use Rattle.qh_model.proofs.algebra.Signs.{equal_le, gap_positive, less_le, lt_neg, neg_le, not_less}
 use Rattle.qh_model.proofs.algebra.VectorIdentities.{vec, subE, crossE, dotE, put, combine3, dot-minus}
-use Rattle.qh_model.proofs.combinations.Alternatives.{combination_or_separator}
-use Rattle.qh_model.proofs.extremes.{Directions.square-positive, ExtremeIds.combination_within, ExtremeIds.greatest_is_extreme}
-use Rattle.qh_polygon.proofs.LinesAndPlanes.{same_point}
+use Rattle.qh_model.proofs.{combinations.Alternatives.combination_or_separator, extremes.Directions.square-positive}
+use Rattle.qh_model.proofs.extremes.ExtremeIds.{combination_within, greatest_is_extreme}
+use Rattle.qh_polygon.proofs.{LinesAndPlanes.same_point, ShapeIds.first_two_in}
 use Rattle.qh_polygon.specs.contract.Shapes.{IsInLine, Each, AreFirstTwo}
-use Rattle.qh_polygon.proofs.ShapeIds.{first_two_in}
 use Rattle.qh_block.specs.steps.Segments.{IsFirstAlong}
 
 -- ---- scalar products along a line

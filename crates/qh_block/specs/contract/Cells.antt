@@ -1,13 +1,8 @@
 -- Boxes of space, and cells: a box with the planes near it. This project's own.
 use Rattle.std.specs.Prelude.{◌⊎◌, ◌<◌, ℕ, List, All, length, slice_index_or, pos, ◌<ℤ◌}
-use Rattle.qh_model.specs.headline.Vector.{Vector, origin}
-use Rattle.qh_model.specs.contract.Places.{IsPlace}
-use Rattle.qh_model.specs.headline.Sets.{In}
-use Rattle.qh_pred.specs.contract.Planes.{PlaneValue, height}
-use Rattle.qh_pred.specs.contract.Corners.{IsInBox}
-use Rattle.qh_block.specs.declared.regions.bounds.Bounds.{Bounds}
-use Rattle.qh_block.specs.declared.regions.cells.Cell.{Cell}
-use Rattle.qh_block.specs.declared.regions.columns.Columns.{Columns}
+use Rattle.qh_model.specs.{contract.Places.IsPlace, headline.Vector.Vector, headline.Vector.origin, headline.Sets.In}
+use Rattle.qh_pred.specs.contract.{Planes.PlaneValue, Planes.height, Corners.IsInBox}
+use Rattle.qh_block.specs.declared.regions.{bounds.Bounds.Bounds, cells.Cell.Cell, columns.Columns.Columns}
 
 -- a point between the two corners of a box
 abbrev pub IsWithin : Bounds → Vector → Type 0

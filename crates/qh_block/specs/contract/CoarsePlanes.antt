@@ -1,7 +1,6 @@
 -- Planes with normals of few bits, each below another plane wherever points are. This project's own.
 use Rattle.std.specs.Prelude.{◌^◌, ℤ, pos, neg_ℤ, ◌≤ℤ◌, ◌<ℤ◌}
-use Rattle.qh_model.specs.headline.Vector.{Vector}
-use Rattle.qh_model.specs.contract.Places.{IsPlace}
+use Rattle.qh_model.specs.{contract.Places.IsPlace, headline.Vector.Vector}
 use Rattle.qh_pred.specs.contract.Planes.{PlaneValue, height}
 
 -- a number of 64 bits

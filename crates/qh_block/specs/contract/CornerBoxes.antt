@@ -1,10 +1,7 @@
 -- The points of a box between points of a set. This project's own.
 use Rattle.std.specs.Prelude.{◌≡◌, ◌⊎◌, ℕ, List, ℤ, Bool, true, false, ◌≤ℤ◌}
-use Rattle.qh_model.specs.headline.Vector.{Vector}
-use Rattle.qh_model.specs.headline.Predicates.{place}
-use Rattle.qh_model.specs.headline.Sets.{In}
-use Rattle.qh_block.specs.declared.regions.bounds.Bounds.{Bounds}
-use Rattle.qh_block.specs.contract.Cells.{IsWithin}
+use Rattle.qh_model.specs.headline.{Vector.Vector, Predicates.place, Sets.In}
+use Rattle.qh_block.specs.{contract.Cells.IsWithin, declared.regions.bounds.Bounds.Bounds}
 
 -- the point of an id of the set
 abbrev pub IsPointOf : List Vector → List ℕ → Vector → Type 0

@@ -1,10 +1,6 @@
 -- The ids of a set that are kept if the ids with points in a region are removed. This project's own.
-use Rattle.std.specs.Prelude.{ℕ, List}
-use Rattle.std.specs.List.Sorted.{IsStrictlyIncreasing}
-use Rattle.qh_model.specs.headline.Vector.{Vector}
-use Rattle.qh_model.specs.headline.Predicates.{place}
-use Rattle.qh_model.specs.headline.Sets.{In, Members}
-use Rattle.qh_model.specs.headline.Extreme.{Extreme}
+use Rattle.std.specs.{Prelude.ℕ, Prelude.List, List.Sorted.IsStrictlyIncreasing}
+use Rattle.qh_model.specs.headline.{Vector.Vector, Predicates.place, Sets.In, Sets.Members, Extreme.Extreme}
 
 -- the point of no extreme id of the set is held
 abbrev pub HasNoExtreme : List Vector → List ℕ → (Vector → Type 0) → Type 0

@@ -1,7 +1,6 @@
 -- How a plane with a normal of few bits is lowered below another plane. This project's own.
 use Rattle.std.specs.Prelude.{◌≡◌, ℤ, pos, ◌+ℤ◌, ◌*ℤ◌, ◌≤ℤ◌}
-use Rattle.qh_model.specs.declared.limits.TheConstants.{COORDINATE_LIMIT}
-use Rattle.qh_model.specs.headline.Vector.{Vector}
+use Rattle.qh_model.specs.{declared.limits.TheConstants.COORDINATE_LIMIT, headline.Vector.Vector}
 
 -- the rest of a number after a number of steps, not below 0
 abbrev pub IsRest : ℤ → ℤ → ℤ → ℤ → Type 0

@@ -1,12 +1,8 @@
 -- The faces of a solid, gathered plane by plane from the facets of its finished mesh.
 use Rattle.std.specs.List.{flat_map}
 use Rattle.std.specs.Prelude.{◌≡◌, ◌⊎◌, ℕ, List, [], ◌∷◌, Bool, true, nat_lt, ◌&&◌, if◌then◌else◌}
-use Rattle.qh_model.specs.headline.Vector.{Vector}
-use Rattle.qh_model.specs.headline.Sets.{In}
-use Rattle.qh_model.specs.contract.Surface.{IsCorner}
-use Rattle.qh_model.specs.laws.FacetPlanes.{IsLevelFacet}
-use Rattle.qh_model.specs.contract.StoredSurface.{StoredFacet, facet_at, surface_of}
-use Rattle.qh_model.specs.headline.Polygons.{IsFacePolygon}
+use Rattle.qh_model.specs.contract.{Surface.IsCorner, StoredSurface.StoredFacet, StoredSurface.facet_at, StoredSurface.surface_of}
+use Rattle.qh_model.specs.{headline.Vector.Vector, headline.Sets.In, headline.Polygons.IsFacePolygon, laws.FacetPlanes.IsLevelFacet}
 use Rattle.qh_mesh.specs.contract.Replacement.{IsLive}
 use Rattle.qh_surface.specs.contract.Walks.{mark_at}
 use Rattle.qh_bodies.specs.contract.ApartPolygons.{AreApart}

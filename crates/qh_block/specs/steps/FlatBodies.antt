@@ -1,8 +1,7 @@
 -- The hulls of sets in a point, a line or a plane.
 use Rattle.std.specs.Prelude.{◌≡◌, ◌↔◌, ℕ, List, [], ◌∷◌}
 use Rattle.std.specs.List.Sorted.{IsStrictlyIncreasing}
-use Rattle.qh_model.specs.headline.Hull.{BodyValue}
-use Rattle.qh_model.specs.headline.Sets.{In}
+use Rattle.qh_model.specs.headline.{Hull.BodyValue, Sets.In}
 
 -- a hull of this dimension with one polygon, this number of edges, and the polygon's members as the extreme ids
 pub record IsFlatBody (dim : ℕ) (q : List ℕ) (edges : ℕ) (b : BodyValue) : Type 0 where

@@ -1,8 +1,6 @@
 -- The right results for a set of ids of a list of points, if the ids rise and have distinct points.
 use Rattle.std.specs.Prelude.{ℕ, List}
-use Rattle.qh_model.specs.contract.IdSets.{IsIdSet}
-use Rattle.qh_model.specs.headline.Hull.{AreExtremes, BodyValue, IsBody}
-use Rattle.qh_model.specs.headline.Predicates.{place}
+use Rattle.qh_model.specs.{contract.IdSets.IsIdSet, headline.Hull.AreExtremes, headline.Hull.BodyValue, headline.Hull.IsBody, headline.Predicates.place}
 use Rattle.qh_model.specs.headline.Sets.{Members}
 use Rattle.qh_block.specs.declared.regions.id_set.IdSet.{IdSet}
 

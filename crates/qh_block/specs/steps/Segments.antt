@@ -1,8 +1,6 @@
 -- Positions along a line.
 use Rattle.std.specs.Prelude.{ℕ, ℤ, ◌≤ℤ◌, List}
-use Rattle.qh_model.specs.headline.Vector.{Vector, minus, dot}
-use Rattle.qh_model.specs.headline.Predicates.{place}
-use Rattle.qh_model.specs.headline.Sets.{In}
+use Rattle.qh_model.specs.headline.{Vector.Vector, Vector.minus, Vector.dot, Predicates.place, Sets.In}
 
 -- how far the point of k lies along the vector from the point of i to that of j, times the length of that vector
 abbrev pub position : List Vector → ℕ → ℕ → ℕ → ℤ

@@ -1,9 +1,7 @@
 //! The corner box and the rounds of the filter, in order.
 ghost use Rattle.std.specs.Prelude.{◌<◌, ℕ, IfOk, IfSome, length};
 ghost use Rattle.std.specs.List.Sorted.{IsStrictlyIncreasing};
-ghost use Rattle.qh_model.specs.contract.IdSets.{AreIndices};
-ghost use Rattle.qh_model.specs.headline.Extreme.{Extreme};
-ghost use Rattle.qh_model.specs.headline.Predicates.{place};
+ghost use Rattle.qh_model.specs.{contract.IdSets.AreIndices, headline.Extreme.Extreme, headline.Predicates.place};
 ghost use Rattle.qh_model.specs.headline.Sets.{In, Members};
 ghost use Rattle.qh_block.specs.steps.InnerPoints.{IsOuterPart};
 

@@ -1,10 +1,8 @@
 //! Axis-parallel boxes of space.
 ghost use Rattle.std.specs.Prelude.{◌≡◌, ◌⊎◌, ◌↔◌, IsTrue};
-ghost use Rattle.qh_model.specs.contract.Places.{IsPlace};
-ghost use Rattle.qh_model.specs.headline.Vector.{Vector};
+ghost use Rattle.qh_model.specs.{contract.Places.IsPlace, headline.Vector.Vector};
 ghost use Rattle.qh_pred.specs.contract.Ranges.{IsBetween, IsFarEnd};
-ghost use Rattle.qh_block.specs.contract.Cells.{IsWithin, IsBelow};
-ghost use Rattle.qh_block.specs.contract.CornerBoxes.{IsCorner, IsEnd};
+ghost use Rattle.qh_block.specs.contract.{Cells.IsWithin, Cells.IsBelow, CornerBoxes.IsCorner, CornerBoxes.IsEnd};
 
 use crate::regions::coarse_planes::CoarsePlane;
 use qh_model::Point;

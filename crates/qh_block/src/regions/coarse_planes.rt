@@ -3,15 +3,13 @@
 //! The normal of three points that are far apart has components of 62 bits, so a height takes 128 bits. A plane with a
 //! shorter normal is enough to show that points are strictly below a plane, if it lies a little below that plane
 //! wherever points are.
-ghost use Rattle.std.specs.Prelude.{◌≡◌, ◌≤◌, ◌<◌, ◌*◌, ◌^◌, ◌↔◌, pos, ◌+ℤ◌, ◌-ℤ◌, ◌*ℤ◌, ◌≤ℤ◌, ◌<ℤ◌, IfSome, IsTrue, unsigned_abs};
-ghost use Rattle.qh_model.specs.declared.limits.TheConstants.{COORDINATE_LIMIT};
-ghost use Rattle.qh_model.specs.headline.Limits.{IsCoordinate};
-ghost use Rattle.qh_model.specs.headline.Vector.{Vector, dot};
-ghost use Rattle.qh_model.specs.contract.Places.{IsPlace};
-ghost use Rattle.qh_pred.specs.contract.Bounds.{normal_limit};
-ghost use Rattle.qh_pred.specs.contract.Planes.{height};
-ghost use Rattle.qh_block.specs.steps.CoarsePlanes.{IsLowered, IsRest, IsRoomFor};
+ghost use Rattle.std.specs.Prelude.{◌≡◌, ◌≤◌, ◌<◌, ◌*◌, ◌^◌, ◌↔◌, pos, ◌+ℤ◌, ◌-ℤ◌, ◌*ℤ◌, ◌≤ℤ◌, ◌<ℤ◌, IfSome, IsTrue};
+ghost use Rattle.std.specs.Prelude.{unsigned_abs};
+ghost use Rattle.qh_model.specs.{contract.Places.IsPlace, declared.limits.TheConstants.COORDINATE_LIMIT};
+ghost use Rattle.qh_model.specs.headline.{Limits.IsCoordinate, Vector.Vector, Vector.dot};
+ghost use Rattle.qh_pred.specs.contract.{Bounds.normal_limit, Planes.height};
 ghost use Rattle.qh_block.specs.contract.CoarsePlanes.{IsOffset, IsUnder};
+ghost use Rattle.qh_block.specs.steps.CoarsePlanes.{IsLowered, IsRest, IsRoomFor};
 
 use qh_model::{COORDINATE_LIMIT, Point};
 use qh_pred::{Normal, Plane};
@@ -31,8 +29,7 @@ pub struct CoarsePlane {
 }
 
 impl Model for CoarsePlane {
-    ghost use Rattle.qh_pred.specs.contract.Planes.{PlaneValue};
-    ghost use Rattle.qh_pred.specs.steps.StoredPlanes.{plane_code};
+    ghost use Rattle.qh_pred.specs.{contract.Planes.PlaneValue, steps.StoredPlanes.plane_code};
     ghost use Rattle.qh_block.specs.contract.CoarsePlanes.{IsCoarse};
 
     ghost Value = { PlaneValue };

@@ -1,7 +1,6 @@
 //! The columns of a grid. Each has three cells of a hull: the middle, which is inside as far as a box can be, and the
 //! spaces above and below it, which may be partly inside.
-ghost use Rattle.std.specs.Prelude.{◌≡◌, IfOk, IsTrue};
-ghost use Rattle.std.specs.List.{All};
+ghost use Rattle.std.specs.{Prelude.◌≡◌, Prelude.IfOk, Prelude.IsTrue, List.All};
 ghost use Rattle.qh_block.specs.contract.Cells.{IsCellOf, HoldsPoint};
 
 use crate::regions::bounds::Bounds;

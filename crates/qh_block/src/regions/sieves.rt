@@ -1,11 +1,9 @@
 //! Sieves make the cells of columns and remove the ids that columns hold. The calling thread does it alone, or several
 //! threads do it in parallel.
 ghost use Rattle.std.specs.Prelude.{◌≡◌, ◌*◌, ◌≤◌, ◌<◌, ℕ, List, IfOk, Result, Vec, take, drop, length, slice_index_or};
-ghost use Rattle.std.specs.List.{All};
-ghost use Rattle.std.specs.Thread.{IsSync};
+ghost use Rattle.std.specs.{List.All, Thread.IsSync};
 ghost use Rattle.qh_pred.specs.contract.Planes.{PlaneValue};
-ghost use Rattle.qh_block.specs.contract.Cells.{HoldsPoint, IsCellOf};
-ghost use Rattle.qh_block.specs.contract.KeptIds.{KeepsExtremes};
+ghost use Rattle.qh_block.specs.contract.{Cells.HoldsPoint, Cells.IsCellOf, KeptIds.KeepsExtremes};
 
 use crate::regions::cells::Cell;
 use crate::regions::columns::{Columns, Plan, cells_between, cells_of_quarters};

@@ -5,9 +5,7 @@ use Rattle.std.specs.Slots.{slots_items}
 use Rattle.qh_board.specs.declared.view.Setup.{Setup}
 use Rattle.qh_board.specs.declared.view.Mark as ended
 use Rattle.qh_board.specs.declared.view.Mark.TheVariants as marks
-use Rattle.qh_board.specs.declared.view.Spans.{Ghosts}
-use Rattle.qh_board.specs.declared.closed.Closed.{Closed}
-use Rattle.qh_board.specs.contract.Tokens.{Token}
+use Rattle.qh_board.specs.{contract.Tokens.Token, declared.closed.Closed.Closed, declared.view.Spans.Ghosts}
 
 -- the mark that a word encodes
 abbrev pub mark_of_word : ℕ → ended.Mark

@@ -1,9 +1,8 @@
 -- The record of a pass: the effect of each step of the pass on it. A step is one event, the last of the record's events after it.
 -- Source: this project's own.
 use Rattle.std.specs.Prelude.{ℕ, ◌+◌, true, false, [], ◌∷◌, ◌++◌, Option, Some, None}
-use Rattle.qh_board.specs.declared.view.Event.{Event}
+use Rattle.qh_board.specs.declared.view.{Event.Event, Mark.Mark}
 use Rattle.qh_board.specs.declared.view.Event.TheVariants.{ClaimGot, ClaimOver, ArriveFirst, ArriveSecond, Publish, Leave, GiveUp}
-use Rattle.qh_board.specs.declared.view.Mark.{Mark}
 use Rattle.qh_board.specs.declared.view.Mark.TheVariants as marks
 use Rattle.qh_board.specs.declared.view.Record.{Record}
 

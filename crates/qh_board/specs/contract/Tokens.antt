@@ -3,9 +3,7 @@
 use Rattle.std.specs.Prelude.{◌≡◌, ℕ, ◌<◌, List, length, slice_index_or, Option, Some}
 use Rattle.atomic_table.specs.Seated.{TableId}
 use Rattle.qh_model.specs.contract.BoardMachine.{InSpan}
-use Rattle.qh_board.specs.declared.view.Setup.{Setup}
-use Rattle.qh_board.specs.declared.view.Record.{Record}
-use Rattle.qh_board.specs.contract.Records.{fresh_record, node_or}
+use Rattle.qh_board.specs.{contract.Records.fresh_record, contract.Records.node_or, declared.view.Setup.Setup, declared.view.Record.Record}
 
 -- a board: its table, and the parameters with which it was made
 pub record BoardValue (S : Type 0) : Type 0 where

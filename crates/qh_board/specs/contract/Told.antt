@@ -1,13 +1,10 @@
 -- The results of the calls of passes: the record of the pass after its step, depending on what the step found.
 -- Source: this project's own.
 use Rattle.std.specs.Prelude.{◌≡◌, ℕ, ◌+◌, ◌*◌, ◌/◌, ◌<◌, ◌≤◌, All}
-use Rattle.qh_board.specs.declared.view.Mark.{Mark}
-use Rattle.qh_board.specs.declared.calls.Claim.{Claim}
-use Rattle.qh_board.specs.declared.calls.Claim.TheVariants.{Block, Over}
-use Rattle.qh_board.specs.declared.calls.Delivered.{Delivered}
-use Rattle.qh_board.specs.declared.calls.Delivered.TheVariants.{Parked, Both, Root}
 use Rattle.qh_board.specs.contract.Records.{with_block, told_over, come_first, come_second, without_node, ended_as}
 use Rattle.qh_board.specs.contract.Tokens.{BoardValue, Token, IsOf, IsRightAt, task_node}
+use Rattle.qh_board.specs.declared.calls.{Claim.Claim, Delivered.Delivered, Claim.TheVariants.Block, Claim.TheVariants.Over}
+use Rattle.qh_board.specs.declared.{calls.Delivered.TheVariants.Parked, calls.Delivered.TheVariants.Both, calls.Delivered.TheVariants.Root, view.Mark.Mark}
 
 module _ {S : Type 0} where
   -- the claim found j claims, fewer than there are blocks, so that block j belongs to this pass; its last claim was before, and the blocks that it got are

@@ -1,13 +1,9 @@
 -- The seats of tokens: their contents besides the record of the pass.
 use Rattle.std.specs.Prelude.{◌≡◌, ℕ, ◌+◌, ◌*◌, ◌<◌, ◌≤◌, Bool, true, [], ◌∷◌, Option, Some, None}
-use Rattle.atomic_table.specs.Table.{Me}
-use Rattle.atomic_table.specs.Seated.{TableId}
-use Rattle.qh_board.specs.declared.view.Setup.{Setup}
-use Rattle.qh_board.specs.declared.view.View.{View}
-use Rattle.qh_board.specs.declared.view.Mark.{Mark}
-use Rattle.qh_model.specs.declared.limits.TheConstants.{BLOCK_LIMIT, WORKER_LIMIT}
-use Rattle.qh_board.specs.contract.Tokens.{Token}
+use Rattle.atomic_table.specs.{Table.Me, Seated.TableId}
+use Rattle.qh_board.specs.{contract.Tokens.Token, declared.view.Setup.Setup, declared.view.View.View, declared.view.Mark.Mark}
 use Rattle.qh_board.specs.steps.Views.{HasRecord, HasEnded, kids, blocks_of, passes_of, record_of}
+use Rattle.qh_model.specs.declared.limits.TheConstants.{BLOCK_LIMIT, WORKER_LIMIT}
 
 module _ {S : Type 0} where
   -- the contract view of a seat at a table

@@ -1,10 +1,8 @@
 -- The tally of the polygons of a hull.
 use Rattle.std.specs.Prelude.{◌≡◌, ◌↔◌, ℕ, List}
-use Rattle.std.specs.List.{flat_map}
-use Rattle.std.specs.List.Sorted.{IsStrictlyIncreasing}
+use Rattle.std.specs.List.{flat_map, Sorted.IsStrictlyIncreasing}
 use Rattle.qh_model.specs.headline.Sets.{In}
-use Rattle.qh_bodies.specs.declared.tallies.Tally.{Tally}
-use Rattle.qh_bodies.specs.contract.SolidEdges.{all_edges_up}
+use Rattle.qh_bodies.specs.{contract.SolidEdges.all_edges_up, declared.tallies.Tally.Tally}
 
 -- the members of all polygons, one after the other
 abbrev pub all_members : List (List ℕ) → List ℕ

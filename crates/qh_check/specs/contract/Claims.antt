@@ -1,13 +1,9 @@
 -- The polygons of a set, and the faults of other polygons. This project's own.
 use Rattle.std.specs.Prelude.{ℕ, pos, ◌<ℤ◌, List}
-use Rattle.qh_model.specs.headline.Vector.{Vector}
-use Rattle.qh_model.specs.headline.Predicates.{vol, AreInLine}
-use Rattle.qh_model.specs.headline.Dimension.{IsDimension}
-use Rattle.qh_model.specs.headline.SupportingPlane.{IsSupportingTriple}
+use Rattle.qh_model.specs.headline.{Vector.Vector, Predicates.vol, Predicates.AreInLine, Dimension.IsDimension, SupportingPlane.IsSupportingTriple}
 use Rattle.qh_model.specs.headline.Polygons.{ArePolygons}
-use Rattle.qh_check.specs.declared.fault.FaceFault.{FaceFault}
+use Rattle.qh_check.specs.{contract.Pieces.BeginsWith, contract.Pieces.IsOfPlane, declared.fault.FaceFault.FaceFault}
 use Rattle.qh_check.specs.declared.fault.FaceFault.TheVariants.{NoPlane, Above, OtherFace}
-use Rattle.qh_check.specs.contract.Pieces.{BeginsWith, IsOfPlane}
 
 -- the polygons are those of the set, in its dimension
 abbrev pub ArePolygonsOf : (ℕ → Vector) → (ℕ → Type 0) → List (List ℕ) → Type 0

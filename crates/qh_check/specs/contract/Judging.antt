@@ -1,15 +1,9 @@
 -- Judgements on faces. This project's own.
 use Rattle.std.specs.Prelude.{ℕ, ◌≡◌, ◌<◌, ◌↔◌, List, [], length, slice_index_or}
-use Rattle.qh_model.specs.headline.Vector.{Vector}
-use Rattle.qh_model.specs.headline.DistinctIds.{AreDistinctIds}
-use Rattle.qh_model.specs.headline.Predicates.{place}
-use Rattle.qh_model.specs.headline.Sets.{Members}
-use Rattle.qh_check.specs.declared.flaw.SurfaceVerdict.{SurfaceVerdict}
-use Rattle.qh_check.specs.declared.flaw.SurfaceVerdict.TheVariants.{Right}
-use Rattle.qh_check.specs.contract.Surfaces.{IsHullSurface, IsSurfaceReason}
-use Rattle.qh_check.specs.declared.judgement.Judgement.{Judgement}
+use Rattle.qh_model.specs.headline.{Vector.Vector, DistinctIds.AreDistinctIds, Predicates.place, Sets.Members}
+use Rattle.qh_check.specs.contract.{Surfaces.IsHullSurface, Surfaces.IsSurfaceReason, Naming.AreNamedFaces, Naming.HasStranger}
+use Rattle.qh_check.specs.declared.{flaw.SurfaceVerdict.SurfaceVerdict, flaw.SurfaceVerdict.TheVariants.Right, judgement.Judgement.Judgement}
 use Rattle.qh_check.specs.declared.judgement.Judgement.TheVariants.{Told, Stranger}
-use Rattle.qh_check.specs.contract.Naming.{AreNamedFaces, HasStranger}
 
 -- the verdict is `Right` exactly if the faces, renamed to the distinct ids of the points, are the surface of their hull; and the verdict is true
 pub record IsTold (pts named : List Vector) (faces : List (List ℕ)) (v : SurfaceVerdict) : Type 0 where

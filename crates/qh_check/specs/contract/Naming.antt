@@ -1,9 +1,7 @@
 -- The distinct ids of the corners of faces. A corner is the index of a point of a list, and the distinct id is that of an equal point.
 -- Source: Geomview OFF (a face is the list of the indices of its vertices, from 0).
 use Rattle.std.specs.Prelude.{ℕ, ◌≡◌, ◌≢◌, ◌<◌, List, [], length, slice_index_or}
-use Rattle.qh_model.specs.headline.Vector.{Vector}
-use Rattle.qh_model.specs.headline.Predicates.{place}
-use Rattle.qh_model.specs.headline.Sets.{In}
+use Rattle.qh_model.specs.headline.{Vector.Vector, Predicates.place, Sets.In}
 
 -- the id i is one of the set, and its point is at the place
 abbrev pub IsAt : List Vector → List ℕ → Vector → ℕ → Type 0

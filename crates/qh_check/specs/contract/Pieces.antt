@@ -1,8 +1,6 @@
 -- Pieces of faces: polygons that go round some corners of a face. This project's own.
 use Rattle.std.specs.Prelude.{ℕ, ◌≡◌, ◌<◌, ◌+◌, ◌++◌, ◌⊎◌, List, [], ◌∷◌, length, drop, take, slice_index_or}
-use Rattle.qh_model.specs.headline.Vector.{Vector}
-use Rattle.qh_model.specs.headline.SupportingPlane.{IsSupportingTriple}
-use Rattle.qh_model.specs.headline.Polygons.{IsFacePolygon}
+use Rattle.qh_model.specs.headline.{Vector.Vector, SupportingPlane.IsSupportingTriple, Polygons.IsFacePolygon}
 
 -- the polygon begins with the corners i, j, k
 abbrev pub BeginsWith : List ℕ → ℕ → ℕ → ℕ → Type 0

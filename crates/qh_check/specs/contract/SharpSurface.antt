@@ -1,13 +1,8 @@
 -- Surfaces of triangles with an angle at each edge that are the hull of the points at their corners.
 -- This project's own.
 use Rattle.std.specs.Prelude.{ℕ, ◌≡◌, ◌<◌, ◌≤◌, List, [], ◌∷◌, length}
-use Rattle.qh_model.specs.headline.Vector.{Vector}
-use Rattle.qh_model.specs.headline.Sets.{In}
-use Rattle.qh_model.specs.headline.Dimension.{IsDimension}
-use Rattle.qh_model.specs.headline.SupportingPlane.{IsSupportingTriple}
-use Rattle.qh_model.specs.headline.Polygons.{IsFacePolygon}
-use Rattle.qh_model.specs.contract.ClosedSurface.{Triple}
-use Rattle.qh_model.specs.contract.ClosedPolygons.{AreClosed, step_count}
+use Rattle.qh_model.specs.{contract.ClosedSurface.Triple, contract.ClosedPolygons.AreClosed, contract.ClosedPolygons.step_count, headline.Vector.Vector}
+use Rattle.qh_model.specs.headline.{Sets.In, Dimension.IsDimension, SupportingPlane.IsSupportingTriple, Polygons.IsFacePolygon}
 use Rattle.qh_laws.specs.contract.LocallyConvex.{IsRound}
 
 -- the polygon is a triangular face of the set, and begins at any of its corners

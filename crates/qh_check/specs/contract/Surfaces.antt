@@ -1,15 +1,10 @@
 -- Surfaces of hulls, cut into pieces in any way, and the faults of other polygons. This project's own.
 use Rattle.std.specs.Prelude.{ℕ, ◌≡◌, ◌<◌, ◌≤◌, ◌⊎◌, ◌↔◌, List, [], length, slice_index_or}
-use Rattle.qh_model.specs.headline.Vector.{Vector}
-use Rattle.qh_model.specs.headline.Dimension.{IsDimension}
-use Rattle.qh_model.specs.headline.Predicates.{place}
-use Rattle.qh_model.specs.headline.Sets.{In, Members}
-use Rattle.qh_model.specs.contract.ClosedPolygons.{AreClosed, step_count}
-use Rattle.qh_check.specs.declared.flaw.SurfaceVerdict.{SurfaceVerdict}
+use Rattle.qh_model.specs.{contract.ClosedPolygons.AreClosed, contract.ClosedPolygons.step_count, headline.Vector.Vector, headline.Dimension.IsDimension}
+use Rattle.qh_model.specs.headline.{Predicates.place, Sets.In, Sets.Members}
+use Rattle.qh_check.specs.{contract.Claims.ArePolygonsOf, contract.Claims.IsFaceFault, contract.Pieces.IsPiece, declared.flaw.SurfaceVerdict.SurfaceVerdict}
 use Rattle.qh_check.specs.declared.flaw.SurfaceVerdict.TheVariants.{Right, OtherPolygons, NoPiece, Open, Twice}
 use Rattle.qh_bodies.specs.contract.OpenSteps.{IsOpen}
-use Rattle.qh_check.specs.contract.Claims.{ArePolygonsOf, IsFaceFault}
-use Rattle.qh_check.specs.contract.Pieces.{IsPiece}
 
 -- pieces of faces, at least one; each step from corner to corner is taken as often as the step back, and only once: exactly two pieces lie at each side
 pub record IsFaceSurface (at : ℕ → Vector) (A : ℕ → Type 0) (qs : List (List ℕ)) : Type 0 where

@@ -1,8 +1,6 @@
 -- The corners of triangles, and the ids of a set.
 use Rattle.std.specs.Prelude.{ℕ, ◌≡◌, ◌⊎◌, Bool, List, false, not, slice_index_or, true}
-use Rattle.qh_model.specs.headline.Sets.{In}
-use Rattle.qh_model.specs.contract.ClosedSurface.{Triple}
-use Rattle.qh_model.specs.laws.ClosedSurfaceLaws.{IsCornerOf}
+use Rattle.qh_model.specs.{contract.ClosedSurface.Triple, headline.Sets.In, laws.ClosedSurfaceLaws.IsCornerOf}
 
 -- the mark of a number is set
 abbrev pub IsMarked : List Bool → ℕ → Type 0

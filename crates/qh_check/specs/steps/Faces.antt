@@ -1,15 +1,9 @@
 -- Faces of a set, by the first three corners of a polygon.
 use Rattle.std.specs.Prelude.{ℕ, pos, ◌≡◌, ◌<◌, ◌<ℤ◌, List, ◌∷◌, length}
-use Rattle.qh_model.specs.headline.Vector.{Vector}
-use Rattle.qh_model.specs.headline.Predicates.{place, vol, AreInLine}
-use Rattle.qh_model.specs.headline.Sets.{In, Members}
-use Rattle.qh_model.specs.headline.SupportingPlane.{IsSupportingTriple}
-use Rattle.qh_model.specs.contract.IdSets.{HasDistinctPoints}
-use Rattle.qh_check.specs.declared.faces.Three.{Three}
-use Rattle.qh_check.specs.declared.fault.FaceFault.{FaceFault}
-use Rattle.qh_check.specs.declared.fault.FaceFault.TheVariants.{NoPlane, Above, OtherFace}
-use Rattle.qh_check.specs.contract.Claims.{IsFaceFault}
-use Rattle.qh_check.specs.contract.Pieces.{BeginsWith, IsOfPlane}
+use Rattle.qh_model.specs.{contract.IdSets.HasDistinctPoints, headline.Vector.Vector}
+use Rattle.qh_model.specs.headline.{Predicates.place, Predicates.vol, Predicates.AreInLine, Sets.In, Sets.Members, SupportingPlane.IsSupportingTriple}
+use Rattle.qh_check.specs.{contract.Claims.IsFaceFault, contract.Pieces.BeginsWith, contract.Pieces.IsOfPlane, declared.faces.Three.Three}
+use Rattle.qh_check.specs.declared.fault.FaceFault.{FaceFault, TheVariants.NoPlane, TheVariants.Above, TheVariants.OtherFace}
 
 -- the polygon begins with three indices of points
 pub record BeginsWithThree (pts : List Vector) (q : List ℕ) (t : Three) : Type 0 where

@@ -1,9 +1,7 @@
 -- Polygons of a list that are not pieces of faces of a set.
 use Rattle.std.specs.Prelude.{ℕ, ◌<◌, ◌⊎◌, List, [], length, slice_index_or}
 use Rattle.qh_model.specs.headline.Vector.{Vector}
-use Rattle.qh_check.specs.declared.findings.Finding.{Finding}
-use Rattle.qh_check.specs.steps.Faces.{IsFaceOf, IsFaultOf}
-use Rattle.qh_check.specs.steps.HullFaces.{IsPieceAmong}
+use Rattle.qh_check.specs.{declared.findings.Finding.Finding, steps.Faces.IsFaceOf, steps.Faces.IsFaultOf, steps.HullFaces.IsPieceAmong}
 
 -- the polygon is a piece of one of the faces of the hull, or its plane shows that it is a piece
 abbrev pub IsSeen : List Vector → List ℕ → List (List ℕ) → List ℕ → Type 0

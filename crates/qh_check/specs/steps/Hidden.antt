@@ -1,11 +1,7 @@
 -- Points under a surface.
 use Rattle.std.specs.Prelude.{ℕ, pos, ◌%◌, ◌<◌, ◌≤ℤ◌, List, length, slice_index}
-use Rattle.qh_model.specs.headline.Vector.{Vector}
-use Rattle.qh_model.specs.headline.Predicates.{vol}
-use Rattle.qh_model.specs.contract.ClosedSurface.{Triple}
-use Rattle.qh_check.specs.declared.convex.steps.Step.{Step}
-use Rattle.qh_check.specs.declared.convex.steps.TheConstants.{ROOM}
-use Rattle.qh_check.specs.steps.StepKeys.{step_in}
+use Rattle.qh_model.specs.{contract.ClosedSurface.Triple, headline.Vector.Vector, headline.Predicates.vol}
+use Rattle.qh_check.specs.{declared.convex.steps.Step.Step, declared.convex.steps.TheConstants.ROOM, steps.StepKeys.step_in}
 
 -- the id of a key along the curve
 abbrev pub id_in : ℕ → ℕ

@@ -1,8 +1,7 @@
 -- Pieces of the faces of a hull.
 use Rattle.std.specs.Prelude.{ℕ, ◌<◌, List, [], IsTrue, length, slice_index_or}
 use Rattle.std.specs.Ordering.{is_gt}
-use Rattle.qh_model.specs.headline.Vector.{Vector}
-use Rattle.qh_model.specs.headline.Predicates.{place, cross}
+use Rattle.qh_model.specs.headline.{Vector.Vector, Predicates.place, Predicates.cross}
 use Rattle.qh_pred.specs.contract.Turns.{sign, first_product}
 use Rattle.qh_check.specs.contract.Pieces.{BeginsWith, IsMetRound}
 

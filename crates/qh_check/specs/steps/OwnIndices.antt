@@ -1,7 +1,6 @@
 -- Indices that are the distinct ids themselves.
 use Rattle.std.specs.Prelude.{ℕ, ◌≡◌, ◌<◌, List, length, slice_index}
-use Rattle.qh_model.specs.headline.Vector.{Vector}
-use Rattle.qh_model.specs.headline.Predicates.{place}
+use Rattle.qh_model.specs.headline.{Vector.Vector, Predicates.place}
 
 -- the ids are the numbers below count in order
 pub record AreAllIndices (ids : List ℕ) (count : ℕ) : Type 0 where

@@ -1,12 +1,8 @@
 -- Triangles seen from a place, and the triangles that a ray from the place meets.
 use Rattle.std.specs.Prelude.{ℕ, pos, ◌≡◌, ◌⊎◌, ◌<ℤ◌, List, count_by, false, true}
-use Rattle.qh_model.specs.headline.Vector.{Vector}
-use Rattle.qh_model.specs.headline.Predicates.{vol}
-use Rattle.qh_model.specs.headline.Sets.{In}
-use Rattle.qh_model.specs.contract.ClosedSurface.{Triple}
+use Rattle.qh_model.specs.{contract.ClosedSurface.Triple, headline.Vector.Vector, headline.Predicates.vol, headline.Sets.In}
 use Rattle.qh_laws.specs.contract.LocallyConvex.{is_met, IsMissed}
-use Rattle.qh_check.specs.declared.convex.rays.Passage.{Passage}
-use Rattle.qh_check.specs.declared.convex.rays.Passage.TheVariants.{Met, Missed, Unclear}
+use Rattle.qh_check.specs.declared.convex.rays.Passage.{Passage, TheVariants.Met, TheVariants.Missed, TheVariants.Unclear}
 
 -- z is strictly below the triangle
 abbrev pub IsInside : (ℕ → Vector) → Vector → Triple → Type 0

@@ -1,12 +1,7 @@
 -- The result of a test of each edge and each hidden id.
 use Rattle.std.specs.Prelude.{ℕ, List}
-use Rattle.qh_model.specs.headline.Vector.{Vector}
-use Rattle.qh_model.specs.headline.Sets.{In}
-use Rattle.qh_model.specs.contract.ClosedSurface.{Triple}
-use Rattle.qh_check.specs.steps.CornerMarks.{AreHidden}
-use Rattle.qh_check.specs.steps.Hidden.{IsUnderOne}
-use Rattle.qh_check.specs.steps.Rays.{IsMetOnce}
-use Rattle.qh_check.specs.steps.StepKeys.{AreSharpPairs, AreSteps, EdgesRise}
+use Rattle.qh_model.specs.{contract.ClosedSurface.Triple, headline.Vector.Vector, headline.Sets.In}
+use Rattle.qh_check.specs.steps.{CornerMarks.AreHidden, Hidden.IsUnderOne, Rays.IsMetOnce, StepKeys.AreSharpPairs, StepKeys.AreSteps, StepKeys.EdgesRise}
 
 -- a ray from z meets the triangles once; each step is taken once, as is the step back, with the corner past it strictly below; and the ids are the corners and
 -- hidden ids, each of which lies under a triangle

@@ -1,8 +1,7 @@
 -- Triangles as data of the program, and their polygons.
 use Rattle.std.specs.Prelude.{ℕ, ◌≡◌, ◌<◌, List, [], ◌∷◌, All, length, map, refl}
 use Rattle.std.specs.Coded.{Coded, code_by, coded×, coded_ℕ}
-use Rattle.qh_model.specs.headline.Vector.{Vector}
-use Rattle.qh_model.specs.contract.ClosedSurface.{Triple}
+use Rattle.qh_model.specs.{contract.ClosedSurface.Triple, headline.Vector.Vector}
 
 -- three ids in order, as data of the program
 abbrev pub triple_code : Coded Triple

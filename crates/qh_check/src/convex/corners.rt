@@ -1,8 +1,6 @@
 //! The corners of triangles among the ids of a set, and the ids that are not corners.
 ghost use Rattle.std.specs.Prelude.{◌≡◌, ◌<◌, ℕ, All, IfOk, IfSome, IsTrue, filter, length};
-ghost use Rattle.qh_model.specs.headline.Sets.{In};
-ghost use Rattle.qh_model.specs.contract.IdSets.{AreIndices};
-ghost use Rattle.qh_model.specs.laws.ClosedSurfaceLaws.{IsCornerOf};
+ghost use Rattle.qh_model.specs.{contract.IdSets.AreIndices, headline.Sets.In, laws.ClosedSurfaceLaws.IsCornerOf};
 ghost use Rattle.qh_check.specs.steps.CornerMarks.{AreHidden, IsMarked, is_unmarked};
 ghost use Rattle.qh_check.specs.steps.Triangles.{IsBelow};
 

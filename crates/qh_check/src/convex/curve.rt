@@ -1,8 +1,7 @@
 //! Ids in the order of a curve through their points, so that each is near the previous one.
 ghost use Rattle.std.specs.Prelude.{◌≡◌, ◌<◌, ◌≤◌, IfOk, IsPermutation, length, map};
 ghost use Rattle.qh_model.specs.contract.IdSets.{AreIndices};
-ghost use Rattle.qh_check.specs.declared.convex.steps.TheConstants.{ROOM};
-ghost use Rattle.qh_check.specs.steps.Hidden.{id_in};
+ghost use Rattle.qh_check.specs.{declared.convex.steps.TheConstants.ROOM, steps.Hidden.id_in};
 
 use crate::convex::steps::ROOM;
 use qh_model::keys::morton_number;

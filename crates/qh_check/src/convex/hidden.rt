@@ -4,13 +4,10 @@
 //! A walk over the surface finds the triangle. It starts at the triangle of the previous point along a curve. The walk
 //! is a guess, and the triangle at its end is tested.
 ghost use Rattle.std.specs.Prelude.{◌<◌, ◌≤◌, ℕ, All, IfOk, IfSome, IsTrue, length};
-ghost use Rattle.qh_model.specs.headline.Predicates.{place};
-ghost use Rattle.qh_model.specs.headline.Sets.{In};
-ghost use Rattle.qh_model.specs.contract.IdSets.{AreIndices};
+ghost use Rattle.qh_model.specs.{contract.IdSets.AreIndices, headline.Predicates.place, headline.Sets.In};
 ghost use Rattle.qh_check.specs.declared.convex.steps.TheConstants.{ROOM};
 ghost use Rattle.qh_check.specs.steps.Hidden.{id_in, IsStepBelow, IsUnderOne, IsUnderStep};
-ghost use Rattle.qh_check.specs.steps.StepKeys.{step_in};
-ghost use Rattle.qh_check.specs.steps.Triangles.{IsBelow};
+ghost use Rattle.qh_check.specs.steps.{StepKeys.step_in, Triangles.IsBelow};
 
 use crate::convex::curve::{id_of, keys_along};
 use crate::convex::pairs::is_below;

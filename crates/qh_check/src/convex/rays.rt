@@ -1,9 +1,7 @@
 //! A place inside a surface, and a ray from there.
 ghost use Rattle.std.specs.Prelude.{pos, ◌<ℤ◌, ◌↔◌, All, IsTrue, length};
-ghost use Rattle.qh_model.specs.headline.Predicates.{place, vol};
-ghost use Rattle.qh_model.specs.headline.Limits.{IsCoordinate};
-ghost use Rattle.qh_check.specs.steps.Rays.{IsMetOnce, IsPassage};
-ghost use Rattle.qh_check.specs.steps.Triangles.{IsBelow};
+ghost use Rattle.qh_model.specs.headline.{Predicates.place, Predicates.vol, Limits.IsCoordinate};
+ghost use Rattle.qh_check.specs.steps.{Rays.IsMetOnce, Rays.IsPassage, Triangles.IsBelow};
 
 use crate::convex::pairs::is_below;
 use crate::convex::triangles::Triangle;

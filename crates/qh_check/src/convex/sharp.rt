@@ -1,12 +1,9 @@
 //! The check of a surface of triangles.
 ghost use Rattle.std.specs.Prelude.{◌≤◌, All, IfOk, IsTrue, length};
-ghost use Rattle.qh_model.specs.headline.Predicates.{place};
+ghost use Rattle.qh_model.specs.{contract.IdSets.AreIndices, contract.IdSets.IsIdSet, headline.Predicates.place};
 ghost use Rattle.qh_model.specs.headline.Sets.{Members};
-ghost use Rattle.qh_model.specs.contract.IdSets.{AreIndices, IsIdSet};
-ghost use Rattle.qh_check.specs.declared.convex.steps.TheConstants.{ROOM};
-ghost use Rattle.qh_check.specs.contract.SharpSurface.{IsSharpSurface};
-ghost use Rattle.qh_check.specs.steps.Sharp.{AreSharp};
-ghost use Rattle.qh_check.specs.steps.Triangles.{IsBelow};
+ghost use Rattle.qh_check.specs.{contract.SharpSurface.IsSharpSurface, declared.convex.steps.TheConstants.ROOM};
+ghost use Rattle.qh_check.specs.steps.{Sharp.AreSharp, Triangles.IsBelow};
 
 use crate::convex::corners::hidden_ids;
 use crate::convex::hidden::Surroundings;

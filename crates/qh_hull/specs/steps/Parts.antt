@@ -1,10 +1,7 @@
 -- Parts of a set that contain all its extreme ids. Only private functions cite them.
 use Rattle.std.specs.Prelude.{ℕ, ◌⊎◌, List}
-use Rattle.qh_model.specs.headline.Vector.{Vector}
-use Rattle.qh_model.specs.headline.Predicates.{place}
-use Rattle.qh_model.specs.headline.Sets.{In, Members}
+use Rattle.qh_model.specs.{contract.IdSets.IsIdSet, headline.Vector.Vector, headline.Predicates.place, headline.Sets.In, headline.Sets.Members}
 use Rattle.qh_model.specs.headline.Extreme.{Extreme}
-use Rattle.qh_model.specs.contract.IdSets.{IsIdSet}
 
 -- ids of a set that contain all its extreme ids, together with the rest of the ids, which was not processed yet
 pub record HasExtremesBefore (pts : List Vector) (ids rest kept : List ℕ) : Type 0 where

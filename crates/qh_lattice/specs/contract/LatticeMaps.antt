@@ -1,11 +1,8 @@
 -- Linear maps of whole numbers with a shift, and lists of images of points. This project's own.
 -- Source of the idea: Minkowski reduction of lattice bases (Nguyen and Stehlé 2009).
 use Rattle.std.specs.Prelude.{ℕ, ℤ, pos, ◌≡◌, ◌<◌, ◌+ℤ◌, ◌<ℤ◌, List, length}
-use Rattle.qh_model.specs.headline.Dimension.{IsDimension}
-use Rattle.qh_model.specs.headline.Predicates.{place}
-use Rattle.qh_model.specs.headline.Sets.{Members}
+use Rattle.qh_model.specs.{contract.IdSets.IsIdSet, headline.Dimension.IsDimension, headline.Predicates.place, headline.Sets.Members}
 use Rattle.qh_model.specs.headline.Vector.{Vector, cross_product, dot}
-use Rattle.qh_model.specs.contract.IdSets.{IsIdSet}
 
 -- nine whole numbers, by rows
 pub record Matrix : Type 0 where

@@ -2,11 +2,7 @@
 use Rattle.std.specs.Prelude.{◌≡◌, ◌≢◌, ℕ, ℤ, pos, ◌*ℤ◌, ◌<ℤ◌, ◌↔◌, List}
 use Rattle.qh_model.specs.headline.Vector.{Vector}
 use Rattle.qh_model.specs.headline.Predicates.{cross, vol, left, AreInLine}
-use Rattle.qh_model.specs.headline.Sets.{Members}
-use Rattle.qh_model.specs.headline.Dimension.{IsDimension}
-use Rattle.qh_model.specs.headline.Extreme.{Extreme}
-use Rattle.qh_model.specs.headline.Polygons.{AreFaces}
-use Rattle.qh_model.specs.headline.Hull.{BodyValue, IsBody}
+use Rattle.qh_model.specs.headline.{Sets.Members, Dimension.IsDimension, Extreme.Extreme, Polygons.AreFaces, Hull.BodyValue, Hull.IsBody}
 use Rattle.qh_lattice.specs.contract.LatticeMaps.{Matrix, determinant, moved}
 
 -- both are above 0, both are 0, or both are below 0

@@ -1,8 +1,7 @@
 -- The matrix and the shift of the rows of a map of the program.
 use Rattle.std.specs.Prelude.{ℤ, pos, ◌*ℤ◌, ◌-ℤ◌}
 use Rattle.qh_model.specs.headline.Vector.{Vector, dot}
-use Rattle.qh_lattice.specs.contract.LatticeMaps.{Matrix}
-use Rattle.qh_lattice.specs.declared.row.Row.{Row}
+use Rattle.qh_lattice.specs.{contract.LatticeMaps.Matrix, declared.row.Row.Row}
 
 -- a vector multiplied by a factor
 abbrev pub times : ℤ → Vector → Vector

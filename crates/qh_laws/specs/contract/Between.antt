@@ -1,11 +1,9 @@
 -- Points between a facet and a place inside the surface, determined by the signs of a few volumes.
 -- This project's own.
 use Rattle.std.specs.Prelude.{ℕ, pos, ◌+ℤ◌, ◌≤ℤ◌, ◌<ℤ◌}
-use Rattle.qh_model.specs.headline.Vector.{Vector}
-use Rattle.qh_model.specs.headline.Predicates.{vol}
 use Rattle.qh_model.specs.contract.Weighted.{Weighted, weighted, above}
 use Rattle.qh_model.specs.contract.Surface.{Side, Surface, start, end, rise}
-use Rattle.qh_model.specs.contract.FinishedSurface.{weighted_at}
+use Rattle.qh_model.specs.{contract.FinishedSurface.weighted_at, headline.Vector.Vector, headline.Predicates.vol}
 use Rattle.qh_laws.specs.contract.Seam.{height_over}
 
 -- p is not above facet f, which is above o, and is not beyond the planes through o and its sides

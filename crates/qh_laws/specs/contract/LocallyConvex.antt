@@ -1,11 +1,8 @@
 -- Locally convex surfaces: closed surfaces that turn outwards at no edge and go round a place exactly once.
 -- Source: Mehlhorn, Naeher, Seel, Seidel, Schilz, Schirra and Uhrig 1999 (checking geometric programs).
 use Rattle.std.specs.Prelude.{ℕ, ◌≡◌, ◌≤◌, ◌⊎◌, ◌&&◌, Bool, true, List, length, count_by, pos, int_lt, ◌≤ℤ◌, ◌<ℤ◌}
-use Rattle.qh_model.specs.headline.Vector.{Vector}
-use Rattle.qh_model.specs.headline.Predicates.{cross, vol}
-use Rattle.qh_model.specs.headline.Sets.{In, Once, BeginsWithLeast}
-use Rattle.qh_model.specs.headline.Polygon.{Follows, TurnsLeft}
-use Rattle.qh_model.specs.contract.ClosedSurface.{Triple, IsClosed}
+use Rattle.qh_model.specs.{contract.ClosedSurface.Triple, contract.ClosedSurface.IsClosed, headline.Vector.Vector}
+use Rattle.qh_model.specs.headline.{Predicates.cross, Predicates.vol, Sets.In, Sets.Once, Sets.BeginsWithLeast, Polygon.Follows, Polygon.TurnsLeft}
 use Rattle.qh_model.specs.laws.ClosedSurfaceLaws.{IsCornerOf}
 
 -- the triangle is u, v, w, beginning at any of its corners

@@ -1,14 +1,8 @@
 -- Parts of a set, each with a finished surface and a seam to the others, and the faces that they contribute.
 -- This project's own.
 use Rattle.std.specs.Prelude.{ℕ, ◌≡◌, ◌⊎◌, List, Bool, true, pos}
-use Rattle.qh_model.specs.headline.Vector.{Vector}
-use Rattle.qh_model.specs.headline.Sets.{In, Members}
-use Rattle.qh_model.specs.headline.Extreme.{Extreme}
-use Rattle.qh_model.specs.headline.SupportingPlane.{OnPlane}
-use Rattle.qh_model.specs.headline.Polygons.{IsFacePolygon}
-use Rattle.qh_model.specs.contract.Surface.{Surface, IsCorner}
-use Rattle.qh_model.specs.contract.FinishedSurface.{IsFinished}
-use Rattle.qh_model.specs.contract.ClosedPolygons.{IsFace, AreClosed}
+use Rattle.qh_model.specs.contract.{Surface.Surface, Surface.IsCorner, FinishedSurface.IsFinished, ClosedPolygons.IsFace, ClosedPolygons.AreClosed}
+use Rattle.qh_model.specs.headline.{Vector.Vector, Sets.In, Sets.Members, Extreme.Extreme, SupportingPlane.OnPlane, Polygons.IsFacePolygon}
 use Rattle.qh_laws.specs.contract.Seam.{height_over, IsBelowAll, IsRing, IsSeam}
 
 -- the kept ids are some of all ids, and include all extreme ids

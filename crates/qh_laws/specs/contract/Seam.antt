@@ -1,11 +1,8 @@
 -- Seams: the facets of the finished surface of a part of a set that stay when the other points are added.
 -- This project's own.
 use Rattle.std.specs.Prelude.{ℕ, ◌≡◌, ◌⊎◌, List, Bool, true, false, ℤ, pos, ◌≤ℤ◌, ◌<ℤ◌}
-use Rattle.qh_model.specs.headline.Vector.{Vector}
-use Rattle.qh_model.specs.headline.Predicates.{vol}
-use Rattle.qh_model.specs.headline.Sets.{In}
+use Rattle.qh_model.specs.{contract.Surface.Side, contract.Surface.Surface, headline.Vector.Vector, headline.Predicates.vol, headline.Sets.In}
 use Rattle.qh_model.specs.headline.SupportingPlane.{Supports}
-use Rattle.qh_model.specs.contract.Surface.{Side, Surface}
 
 -- the height of a point above the plane of facet f
 abbrev pub height_over : (ℕ → Vector) → Surface → ℕ → Vector → ℤ

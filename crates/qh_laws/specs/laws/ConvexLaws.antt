@@ -1,19 +1,10 @@
 -- The laws of locally convex surfaces.
 -- Source: Mehlhorn, Naeher, Seel, Seidel, Schilz, Schirra and Uhrig 1999 (checking geometric programs).
 use Rattle.std.specs.Prelude.{ℕ, ◌↔◌, List, [], ◌∷◌, ◌<◌, pos, ◌≤ℤ◌}
-use Rattle.qh_model.specs.headline.Vector.{Vector}
-use Rattle.qh_model.specs.headline.Predicates.{vol}
-use Rattle.qh_model.specs.headline.Sets.{In, Members}
-use Rattle.qh_model.specs.headline.Polygons.{IsFacePolygon, RiseStrictly, AreFaces}
-use Rattle.qh_model.specs.headline.Extreme.{Extreme}
-use Rattle.qh_model.specs.headline.Dimension.{IsDimension}
-use Rattle.qh_model.specs.contract.ClosedPolygons.{AreClosed}
-use Rattle.qh_model.specs.contract.IdSets.{HasDistinctPoints}
-use Rattle.qh_model.specs.contract.ClosedSurface.{Triple, IsClosedSurface}
-use Rattle.qh_model.specs.laws.ClosedSurfaceLaws.{IsCornerOf}
-use Rattle.qh_model.specs.laws.ClosedFaceLaws.{AreSupporting}
-use Rattle.qh_laws.specs.contract.LocallyConvex.{IsRound, IsSharpAround, IsSharpPolygon, IsLocallyConvex, IsUnder, HasAllUnder}
-use Rattle.qh_laws.specs.contract.LocallyConvex.{AreSharpPolygons, ArePolygonsOf}
+use Rattle.qh_model.specs.contract.{ClosedPolygons.AreClosed, IdSets.HasDistinctPoints, ClosedSurface.Triple, ClosedSurface.IsClosedSurface}
+use Rattle.qh_model.specs.headline.{Vector.Vector, Predicates.vol, Sets.In, Sets.Members, Polygons.IsFacePolygon, Polygons.RiseStrictly, Polygons.AreFaces}
+use Rattle.qh_model.specs.{headline.Extreme.Extreme, headline.Dimension.IsDimension, laws.ClosedSurfaceLaws.IsCornerOf, laws.ClosedFaceLaws.AreSupporting}
+use Rattle.qh_laws.specs.contract.LocallyConvex.{IsRound, IsSharpAround, IsSharpPolygon, IsLocallyConvex, IsUnder, HasAllUnder, AreSharpPolygons, ArePolygonsOf}
 
 -- no corner of a locally convex surface is above a triangle of it
 abbrev pub LocalIsConvex : Type 0

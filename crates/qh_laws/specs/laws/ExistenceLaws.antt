@@ -1,9 +1,6 @@
 -- Laws of existence: the definitions can always be satisfied.
 use Rattle.std.specs.Prelude.{ℕ, ◌<◌, List, length}
-use Rattle.qh_model.specs.declared.out.Out.{Out}
-use Rattle.qh_model.specs.headline.Vector.{Vector}
-use Rattle.qh_model.specs.headline.Hull.{HullValue, IsHull}
-use Rattle.qh_model.specs.headline.Text.{IsText}
+use Rattle.qh_model.specs.{declared.out.Out.Out, headline.Vector.Vector, headline.Hull.HullValue, headline.Hull.IsHull, headline.Text.IsText}
 
 -- each list of points that is not empty has a hull
 abbrev pub EveryListHasAHull : Type 0

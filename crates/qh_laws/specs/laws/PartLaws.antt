@@ -1,16 +1,8 @@
 -- The facets that stay are faces of the whole set, and faces of parts that close up are its hull.
 use Rattle.std.specs.Prelude.{ℕ, ◌≡◌, ◌⊎◌, ◌↔◌, List, Bool, true}
-use Rattle.qh_model.specs.headline.Vector.{Vector}
-use Rattle.qh_model.specs.headline.Sets.{In, Members}
-use Rattle.qh_model.specs.headline.Dimension.{IsDimension}
-use Rattle.qh_model.specs.headline.Extreme.{Extreme}
-use Rattle.qh_model.specs.headline.SupportingPlane.{IsSupportingTriple}
-use Rattle.qh_model.specs.headline.Polygons.{RiseStrictly, IsFacePolygon, AreFaces}
-use Rattle.qh_model.specs.contract.IdSets.{HasDistinctPoints}
-use Rattle.qh_model.specs.contract.Surface.{Surface}
-use Rattle.qh_model.specs.contract.FinishedSurface.{IsFinished}
-use Rattle.qh_model.specs.contract.ClosedPolygons.{IsFace}
-use Rattle.qh_model.specs.laws.CompletenessLaws.{IsLiveCorner}
+use Rattle.qh_model.specs.contract.{IdSets.HasDistinctPoints, Surface.Surface, FinishedSurface.IsFinished, ClosedPolygons.IsFace}
+use Rattle.qh_model.specs.headline.{Vector.Vector, Sets.In, Sets.Members, Dimension.IsDimension, Extreme.Extreme, SupportingPlane.IsSupportingTriple}
+use Rattle.qh_model.specs.{headline.Polygons.RiseStrictly, headline.Polygons.IsFacePolygon, headline.Polygons.AreFaces, laws.CompletenessLaws.IsLiveCorner}
 use Rattle.qh_laws.specs.contract.Seam.{IsSeam, IsStrictRing}
 use Rattle.qh_laws.specs.contract.Parts.{AreKept, IsPart, IsClear, AreJoined}
 

@@ -1,16 +1,9 @@
 -- The facets below one point, determined by a test of few facets.
 use Rattle.std.specs.Prelude.{ℕ, ◌≡◌, List, Bool, true, ℤ, pos, ◌+ℤ◌, ◌-ℤ◌, ◌*ℤ◌, ◌≤ℤ◌, ◌<ℤ◌}
-use Rattle.qh_model.specs.headline.Vector.{Vector, dot}
-use Rattle.qh_model.specs.headline.Predicates.{vol}
-use Rattle.qh_model.specs.headline.Sets.{In, Members}
-use Rattle.qh_model.specs.headline.Combination.{Combination}
-use Rattle.qh_model.specs.headline.SupportingPlane.{OnPlane}
-use Rattle.qh_model.specs.contract.Weighted.{Weighted}
-use Rattle.qh_model.specs.contract.Surface.{Side, Surface}
-use Rattle.qh_model.specs.contract.SoundSurface.{IsInner}
+use Rattle.qh_model.specs.contract.{Weighted.Weighted, Surface.Side, Surface.Surface, SoundSurface.IsInner}
 use Rattle.qh_model.specs.contract.FinishedSurface.{weighted_at, middle_at, IsFinished}
-use Rattle.qh_model.specs.laws.UnseenPoints.{IsUnseen}
-use Rattle.qh_model.specs.laws.FacetPlanes.{IsLevelFacet}
+use Rattle.qh_model.specs.headline.{Vector.Vector, Vector.dot, Predicates.vol, Sets.In, Sets.Members, Combination.Combination, SupportingPlane.OnPlane}
+use Rattle.qh_model.specs.laws.{UnseenPoints.IsUnseen, FacetPlanes.IsLevelFacet}
 use Rattle.qh_laws.specs.contract.Seam.{height_over, IsBelowAll, SeesGone, IsRing}
 use Rattle.qh_laws.specs.contract.Between.{IsWithin, IsBetween, IsBetweenFour}
 

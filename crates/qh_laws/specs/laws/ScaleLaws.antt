@@ -1,14 +1,8 @@
 -- Laws of scales: facts about points at a larger scale, at which a middle is a whole vector, hold for the points.
 use Rattle.std.specs.Prelude.{ℕ, ◌≡◌, ◌<◌, ◌↔◌, List, pos, ◌*ℤ◌}
-use Rattle.qh_model.specs.headline.Vector.{Vector}
-use Rattle.qh_model.specs.headline.Predicates.{vol}
-use Rattle.qh_model.specs.headline.Sets.{Members}
-use Rattle.qh_model.specs.headline.Extreme.{Extreme}
-use Rattle.qh_model.specs.headline.Polygons.{AreFaces}
-use Rattle.qh_model.specs.contract.IdSets.{HasDistinctPoints}
-use Rattle.qh_model.specs.contract.ClosedSurface.{Triple}
-use Rattle.qh_laws.specs.contract.LocallyConvex.{IsConvexAround, ArePolygonsOf}
-use Rattle.qh_laws.specs.contract.Scaled.{at_scale}
+use Rattle.qh_model.specs.{contract.IdSets.HasDistinctPoints, contract.ClosedSurface.Triple, headline.Vector.Vector, headline.Predicates.vol}
+use Rattle.qh_model.specs.headline.{Sets.Members, Extreme.Extreme, Polygons.AreFaces}
+use Rattle.qh_laws.specs.contract.{LocallyConvex.IsConvexAround, LocallyConvex.ArePolygonsOf, Scaled.at_scale}
 
 -- volumes keep their signs
 abbrev pub ScaledVolume : Type 0

@@ -1,9 +1,7 @@
 -- Trees by which parts of a list of points are joined, and their results.
 use Rattle.std.specs.Prelude.{ℕ, ◌≡◌, ◌<◌, ◌⊎◌, ◌↔◌, List, length, get_or, map}
 use Rattle.std.specs.List.Sorted.{IsStrictlyIncreasing}
-use Rattle.qh_model.specs.headline.Vector.{Vector}
-use Rattle.qh_model.specs.headline.Predicates.{place}
-use Rattle.qh_model.specs.headline.Sets.{In, Members}
+use Rattle.qh_model.specs.headline.{Vector.Vector, Predicates.place, Sets.In, Sets.Members}
 use Rattle.qh_model.specs.headline.Hull.{BodyValue, HullValue, IsBody, IsHull}
 
 -- a part, as the ids of its points in the whole list; the union of two trees; the extreme points of the result of a tree

@@ -1,11 +1,9 @@
 -- Spots, which are points of space with rational coordinates, and the polygons that cover them. This project's own.
 use Rattle.std.specs.Prelude.{ℕ, ◌≡◌, ◌≢◌, ◌<◌, ℤ, pos, ◌-ℤ◌, ◌*ℤ◌, List, ◌∷◌, Bool, false, not, ◌&&◌, int_lt}
-use Rattle.std.specs.List.{list_all}
-use Rattle.std.specs.Ordering.{int_eq}
-use Rattle.qh_model.specs.headline.Vector.{Vector, origin, minus, cross_product, dot}
-use Rattle.qh_model.specs.headline.Predicates.{cross}
-use Rattle.qh_model.specs.headline.Sets.{In}
+use Rattle.std.specs.{List.list_all, Ordering.int_eq}
 use Rattle.qh_model.specs.contract.ClosedPolygons.{steps_round}
+use Rattle.qh_model.specs.headline.Vector.{Vector, origin, minus, cross_product, dot}
+use Rattle.qh_model.specs.headline.{Predicates.cross, Sets.In}
 
 -- a point of space with rational coordinates: each coordinate of `point` divided by `scale`
 pub record Spot : Type 0 where

@@ -1,10 +1,8 @@
 -- The pieces in a plane, and the measures of polygons: doubled areas as vectors, and six times the volumes of cones.
 -- Source: any textbook (a polygon's area vector; the divergence theorem).
 use Rattle.std.specs.Prelude.{ℕ, ℤ, pos, ◌+ℤ◌, List, [], ◌∷◌, Bool}
-use Rattle.std.specs.List.{list_all}
-use Rattle.std.specs.Ordering.{int_eq}
-use Rattle.qh_model.specs.headline.Vector.{Vector, origin}
-use Rattle.qh_model.specs.headline.Predicates.{cross, vol}
+use Rattle.std.specs.{List.list_all, Ordering.int_eq}
+use Rattle.qh_model.specs.headline.{Vector.Vector, Vector.origin, Predicates.cross, Predicates.vol}
 
 -- does each corner of the polygon lie in the plane of i, j and k?
 abbrev pub lies_in : (ℕ → Vector) → ℕ → ℕ → ℕ → List ℕ → Bool

@@ -1,12 +1,8 @@
 -- Laws of surfaces in pieces: a surface covers each face of a solid once, and pieces that cover each face once are a surface.
 -- This project's own.
 use Rattle.std.specs.Prelude.{ℕ, ◌≡◌, ◌≤◌, List, count_by, true}
-use Rattle.qh_model.specs.headline.Vector.{Vector}
-use Rattle.qh_model.specs.headline.Sets.{In, Members}
-use Rattle.qh_model.specs.headline.Dimension.{IsDimension}
-use Rattle.qh_model.specs.headline.Hull.{BodyValue, IsBody}
-use Rattle.qh_model.specs.contract.ClosedPolygons.{IsFace}
-use Rattle.qh_model.specs.contract.IdSets.{HasDistinctPoints}
+use Rattle.qh_model.specs.{contract.ClosedPolygons.IsFace, contract.IdSets.HasDistinctPoints, headline.Vector.Vector, headline.Sets.In, headline.Sets.Members}
+use Rattle.qh_model.specs.headline.{Dimension.IsDimension, Hull.BodyValue, Hull.IsBody}
 use Rattle.qh_check.specs.contract.{Pieces.IsPiece, Surfaces.IsHullSurface}
 use Rattle.qh_laws_surface.specs.contract.Covering.{Spot, covers, reaches, IsOffLines}
 

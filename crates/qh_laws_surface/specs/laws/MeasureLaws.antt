@@ -1,12 +1,8 @@
 -- Laws of surfaces in pieces: the pieces have the same measures as the faces.
 -- This project's own.
 use Rattle.std.specs.Prelude.{ℕ, ◌≡◌, List, filter}
-use Rattle.qh_model.specs.headline.Vector.{Vector}
-use Rattle.qh_model.specs.headline.Sets.{Members}
-use Rattle.qh_model.specs.headline.Dimension.{IsDimension}
-use Rattle.qh_model.specs.headline.SupportingPlane.{IsSupportingTriple}
-use Rattle.qh_model.specs.headline.Polygons.{AreFaces, IsFacePolygon}
-use Rattle.qh_model.specs.contract.IdSets.{HasDistinctPoints}
+use Rattle.qh_model.specs.{contract.IdSets.HasDistinctPoints, headline.Vector.Vector, headline.Sets.Members, headline.Dimension.IsDimension}
+use Rattle.qh_model.specs.headline.{SupportingPlane.IsSupportingTriple, Polygons.AreFaces, Polygons.IsFacePolygon}
 use Rattle.qh_check.specs.contract.Surfaces.{IsHullSurface}
 use Rattle.qh_laws_surface.specs.contract.Measures.{lies_in, doubled_area, doubled_areas, cone_volumes}
 

@@ -1,12 +1,8 @@
 -- Laws of surfaces in pieces: the polygons of a right body are a surface of its hull, and so are their fans.
 -- This project's own.
 use Rattle.std.specs.Prelude.{ℕ, List}
-use Rattle.qh_model.specs.headline.Vector.{Vector}
-use Rattle.qh_model.specs.headline.Sets.{Members}
-use Rattle.qh_model.specs.headline.Dimension.{IsDimension}
-use Rattle.qh_model.specs.headline.Hull.{BodyValue, IsBody}
-use Rattle.qh_model.specs.headline.Fan.{fans}
-use Rattle.qh_model.specs.contract.IdSets.{HasDistinctPoints}
+use Rattle.qh_model.specs.{contract.IdSets.HasDistinctPoints, headline.Vector.Vector, headline.Sets.Members, headline.Dimension.IsDimension}
+use Rattle.qh_model.specs.headline.{Hull.BodyValue, Hull.IsBody, Fan.fans}
 use Rattle.qh_check.specs.contract.Surfaces.{IsHullSurface}
 
 -- the polygons of a right body are a surface of the hull, in every dimension

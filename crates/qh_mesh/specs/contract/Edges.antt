@@ -1,9 +1,8 @@
 -- The sides of facets by their numbers: facet f has the edges 3 f, 3 f + 1 and 3 f + 2.
 use Rattle.std.specs.Prelude.{ℕ, ◌+◌, ◌*◌, ◌/◌, ◌%◌, List}
-use Rattle.qh_model.specs.contract.Simplex.{one_of, by_side}
-use Rattle.qh_model.specs.contract.Surface.{Side, start, end}
-use Rattle.qh_model.specs.contract.Surface.Side.{first, second, third}
+use Rattle.qh_model.specs.contract.{Simplex.one_of, Simplex.by_side, Surface.Side, Surface.start, Surface.end}
 use Rattle.qh_model.specs.contract.StoredSurface.{StoredFacet, facet_at, surface_of}
+use Rattle.qh_model.specs.contract.Surface.Side.{first, second, third}
 
 -- side 0, 1 or 2
 abbrev pub nth_side : ℕ → Side

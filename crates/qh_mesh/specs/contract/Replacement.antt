@@ -1,9 +1,8 @@
 -- The result of `replace` on a stored surface, place by place.
 -- Source: Barber, Dobkin and Huhdanpaa 1996 (the cone of new facets over the horizon).
 use Rattle.std.specs.Prelude.{◌≡◌, ℕ, ◌<◌, ◌⊎◌, List, All, [], ◌∷◌, length, slice_index, filter, not, Bool, true, false, cond, nat_eq}
+use Rattle.qh_model.specs.contract.{StoredSurface.StoredFacet, StoredSurface.facet_at, Surface.Side.first, Surface.Side.second, Surface.Side.third}
 use Rattle.qh_model.specs.headline.Sets.{In, Once}
-use Rattle.qh_model.specs.contract.Surface.Side.{first, second, third}
-use Rattle.qh_model.specs.contract.StoredSurface.{StoredFacet, facet_at}
 use Rattle.qh_mesh.specs.contract.Edges.{edge_end, edge_of, edge_start, facet_of, twin_of}
 
 -- f is the number of a live facet

@@ -1,13 +1,9 @@
 -- The invariant of a mesh for the points of a call, and the precondition of its steps.
 use Rattle.std.specs.Prelude.{◌≡◌, ℕ, ◌<◌, List, [], ◌∷◌, length, true, false, ℤ, pos, ◌<ℤ◌, ◌≤ℤ◌}
-use Rattle.qh_model.specs.headline.Vector.{Vector}
-use Rattle.qh_model.specs.headline.Predicates.{vol}
-use Rattle.qh_model.specs.contract.Weighted.{Weighted}
-use Rattle.qh_model.specs.contract.FinishedSurface.{weighted_at}
-use Rattle.qh_model.specs.contract.Surface.{IsWhole}
-use Rattle.qh_model.specs.contract.SoundSurface.{IsSound}
+use Rattle.qh_model.specs.contract.{Weighted.Weighted, FinishedSurface.weighted_at, Surface.IsWhole, SoundSurface.IsSound}
 use Rattle.qh_model.specs.contract.StoredSurface.{StoredFacet, facet_at, surface_of}
 use Rattle.qh_model.specs.contract.ClosedSurface.{IsClosedSurface, signed_volume, triples_of}
+use Rattle.qh_model.specs.headline.{Vector.Vector, Predicates.vol}
 use Rattle.qh_mesh.specs.contract.Replacement.{IsLive, is_listed}
 
 -- six times the volume of facet f and p: above 0 if the facet strictly sees p

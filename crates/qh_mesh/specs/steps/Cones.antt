@@ -1,14 +1,10 @@
 -- The writes of the steps of a replacement: the twins across the horizon, and the facets of the cone.
 use Rattle.std.specs.Prelude.{◌≡◌, ◌≢◌, ℕ, ◌<◌, List, length, slice_index}
-use Rattle.qh_model.specs.contract.Surface.Side.{first, second, third}
 use Rattle.qh_model.specs.contract.StoredSurface.{StoredFacet, facet_at, no_facet}
-use Rattle.qh_mesh.specs.declared.facets.FacetSide.{FacetSide}
-use Rattle.qh_mesh.specs.declared.slots.End.TheVariants.{Start, Finish}
-use Rattle.qh_mesh.specs.contract.Edges.{edge_of, twin_of}
-use Rattle.qh_mesh.specs.steps.Kept.{facet_from}
-use Rattle.qh_mesh.specs.steps.Horizons.{side_at, IsMate}
-use Rattle.qh_mesh.specs.steps.Places.{live_count}
-use Rattle.qh_mesh.specs.steps.Writes.{Scattered}
+use Rattle.qh_model.specs.contract.Surface.Side.{first, second, third}
+use Rattle.qh_mesh.specs.{contract.Edges.edge_of, contract.Edges.twin_of, declared.facets.FacetSide.FacetSide}
+use Rattle.qh_mesh.specs.{declared.slots.End.TheVariants.Start, declared.slots.End.TheVariants.Finish, steps.Kept.facet_from}
+use Rattle.qh_mesh.specs.steps.{Horizons.side_at, Horizons.IsMate, Places.live_count, Writes.Scattered}
 
 -- the facet without the half-edges across its sides
 abbrev pub bare : StoredFacet → StoredFacet

@@ -1,13 +1,8 @@
 -- The horizon as it is collected, and the order of its sides.
-use Rattle.std.specs.Prelude.{◌≡◌, ℕ, ◌<◌, List, [], ◌∷◌, Bool, nat_eq, length, take, filter, slice_index_or}
-use Rattle.std.specs.Prelude.{count_by, flat_map}
-use Rattle.qh_model.specs.contract.Surface.Side.{first, second, third}
-use Rattle.qh_model.specs.contract.StoredSurface.{StoredFacet, facet_at}
-use Rattle.qh_mesh.specs.declared.facets.FacetSide.{FacetSide}
-use Rattle.qh_mesh.specs.declared.slots.End.{End}
-use Rattle.qh_mesh.specs.declared.slots.End.TheVariants.{Start, Finish}
-use Rattle.qh_mesh.specs.declared.slots.Slot.{Slot}
+use Rattle.std.specs.Prelude.{◌≡◌, ℕ, ◌<◌, List, [], ◌∷◌, Bool, nat_eq, length, take, filter, slice_index_or, count_by, flat_map}
+use Rattle.qh_model.specs.contract.{StoredSurface.StoredFacet, StoredSurface.facet_at, Surface.Side.first, Surface.Side.second, Surface.Side.third}
 use Rattle.qh_mesh.specs.contract.Edges.{edge_end, edge_start, facet_of, twin_of}
+use Rattle.qh_mesh.specs.declared.{facets.FacetSide.FacetSide, slots.End.End, slots.Slot.Slot, slots.End.TheVariants.Start, slots.End.TheVariants.Finish}
 use Rattle.qh_mesh.specs.steps.Kept.{side_of}
 
 -- facet f and those across its sides are in the mesh

@@ -1,8 +1,6 @@
 -- A facet as a mesh stores it, its sides, and the effect of the steps on it.
 use Rattle.std.specs.Prelude.{ℕ, Bool, true, false}
-use Rattle.qh_model.specs.contract.Simplex.{by_side}
-use Rattle.qh_model.specs.contract.Surface.{Side}
-use Rattle.qh_model.specs.contract.StoredSurface.{StoredFacet}
+use Rattle.qh_model.specs.contract.{Simplex.by_side, Surface.Side, StoredSurface.StoredFacet}
 use Rattle.qh_mesh.specs.declared.facets.FacetSide.{FacetSide}
 
 -- a live facet of three corners and the half-edges across its sides

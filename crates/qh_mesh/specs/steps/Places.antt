@@ -1,9 +1,8 @@
 -- The places of removed facets, and the free places.
 use Rattle.std.specs.Prelude.{slice_index, ◌≡◌, ℕ, ◌+◌, ◌<◌, List, length, false, count_by}
-use Rattle.qh_model.specs.headline.Sets.{In, Once}
 use Rattle.qh_model.specs.contract.StoredSurface.{StoredFacet, facet_at, no_facet}
-use Rattle.qh_mesh.specs.steps.Kept.{is_live, removed}
-use Rattle.qh_mesh.specs.steps.Writes.{Scattered}
+use Rattle.qh_model.specs.headline.Sets.{In, Once}
+use Rattle.qh_mesh.specs.steps.{Kept.is_live, Kept.removed, Writes.Scattered}
 
 -- the first k facets of the list are no longer live, and nothing else changed
 abbrev pub Removed : List StoredFacet → List StoredFacet → List ℕ → ℕ → Type 0

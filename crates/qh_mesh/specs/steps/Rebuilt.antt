@@ -1,19 +1,12 @@
 -- The results of the steps of a replacement, one after the other.
 use Rattle.std.specs.Prelude.{All, ◌≡◌, ◌≢◌, ℕ, ◌*◌, ◌<◌, ◌≤◌, ◌^◌, List, ◌++◌, length, reverse, map, max, ◌<ℤ◌}
-use Rattle.qh_model.specs.headline.Sets.{Once}
+use Rattle.qh_model.specs.contract.{Weighted.Weighted, ClosedSurface.signed_volume, ClosedSurface.triples_of}
+use Rattle.qh_model.specs.contract.{FinishedSurface.weighted_at, FinishedSurface.middle_at, Rewired.IsRewired}
+use Rattle.qh_model.specs.{contract.StoredSurface.StoredFacet, contract.StoredSurface.facet_at, contract.StoredSurface.surface_of, headline.Sets.Once}
 use Rattle.qh_model.specs.headline.Vector.{Vector}
-use Rattle.qh_model.specs.contract.Weighted.{Weighted}
-use Rattle.qh_model.specs.contract.ClosedSurface.{signed_volume, triples_of}
-use Rattle.qh_model.specs.contract.FinishedSurface.{weighted_at, middle_at}
-use Rattle.qh_model.specs.contract.Rewired.{IsRewired}
-use Rattle.qh_model.specs.contract.StoredSurface.{StoredFacet, facet_at, surface_of}
-use Rattle.qh_mesh.specs.declared.facets.FacetSide.{FacetSide}
-use Rattle.qh_mesh.specs.contract.Edges.{facet_of}
-use Rattle.qh_mesh.specs.contract.Replacement.{horizon, IsReplacement}
-use Rattle.qh_mesh.specs.contract.SoundMesh.{IsSoundMesh, IsClosedMesh, AreVisible}
-use Rattle.qh_mesh.specs.steps.Cones.{Joined, Written}
-use Rattle.qh_mesh.specs.steps.Horizons.{edge_side, side_at, IsBalanced}
-use Rattle.qh_mesh.specs.steps.Places.{IsPool, Removed}
+use Rattle.qh_mesh.specs.contract.{Edges.facet_of, Replacement.horizon, Replacement.IsReplacement}
+use Rattle.qh_mesh.specs.{contract.SoundMesh.IsSoundMesh, contract.SoundMesh.IsClosedMesh, contract.SoundMesh.AreVisible, declared.facets.FacetSide.FacetSide}
+use Rattle.qh_mesh.specs.steps.{Cones.Joined, Cones.Written, Horizons.edge_side, Horizons.side_at, Horizons.IsBalanced, Places.IsPool, Places.Removed}
 use Rattle.qh_mesh.specs.steps.Surfaces.{IsSurface}
 
 -- the listed facets are removed, and their horizon is recorded

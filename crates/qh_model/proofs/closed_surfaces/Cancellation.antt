@@ -3,9 +3,8 @@
 use Rattle.std.proofs.Common.{◌≡◌, ℕ, ◌<◌, arith, sym, ◌∙◌, refl, List, [], ◌∷◌, Bool, true, false, cond, eqb, inl, inr}
 use Rattle.std.proofs.lemmas.{Bool.eqb-true, Int.ints}
 use Rattle.std.specs.{List.AllByRecursion as Each, Prelude.ℤ, Prelude.pos, Prelude.◌+ℤ◌, Prelude.◌*ℤ◌, Prelude.neg_ℤ, Prelude.◌≤ℤ◌, Prelude.◌<ℤ◌}
-use Rattle.qh_model.specs.contract.ClosedSurface.{Triple, edges, IsClosed}
-use Rattle.qh_model.specs.headline.{Predicates.vol, Vector.Vector, Vector.dot}
-use Rattle.qh_model.specs.laws.ClosedSurfaceLaws.{IsCornerOf, NoneBelowAndBeyond}
+use Rattle.qh_model.specs.{contract.ClosedSurface.Triple, contract.ClosedSurface.edges, contract.ClosedSurface.IsClosed, headline.Predicates.vol}
+use Rattle.qh_model.specs.{headline.Vector.Vector, headline.Vector.dot, laws.ClosedSurfaceLaws.IsCornerOf, laws.ClosedSurfaceLaws.NoneBelowAndBeyond}
 use Rattle.qh_model.proofs.{Members.every_map, Members.every_of, algebra.Integers.mul_swap, algebra.Order.mul-pos, algebra.Order.mul-neg_pos, algebra.Ring.ring}
 use Rattle.qh_model.proofs.algebra.Signs.{gap_positive}
 use Rattle.qh_model.proofs.algebra.Ring.Expr.{var, add, sub as less, mul, neg}

@@ -1,11 +1,10 @@
 -- The edges of a solid: at most one face has a given step.
-use Rattle.std.proofs.{Common.◌≡◌, Common.ℕ, Common.arith, Common.sym, Common.◌∙◌, Common.List, lemmas.Int.ints}
+use Rattle.std.proofs.Common.{◌≡◌, ℕ, arith, sym, ◌∙◌, List}
+use Rattle.std.proofs.lemmas.Int.{ints}
 use Rattle.std.specs.Prelude.{pos, ◌*ℤ◌, ◌≤ℤ◌}
-use Rattle.qh_model.specs.contract.IdSets.{HasDistinctPoints}
-use Rattle.qh_model.specs.headline.{Extreme.Extreme, Polygon.Follows, Polygons.AreFaces, Polygons.IsFacePolygon, Predicates.cross, Predicates.vol}
-use Rattle.qh_model.specs.headline.{Predicates.left}
-use Rattle.qh_model.specs.{headline.Sets.In, headline.Sets.Members, headline.SupportingPlane.OnPlane, headline.Vector.Vector}
-use Rattle.qh_model.specs.{laws.EdgeLaws.OneFaceEachWay, laws.FaceLaws.IsAlong}
+use Rattle.qh_model.specs.{contract.IdSets.HasDistinctPoints, headline.Extreme.Extreme, headline.Polygon.Follows}
+use Rattle.qh_model.specs.headline.{Polygons.AreFaces, Polygons.IsFacePolygon, Predicates.cross, Predicates.vol, Predicates.left, Sets.In, Sets.Members}
+use Rattle.qh_model.specs.{headline.SupportingPlane.OnPlane, headline.Vector.Vector, laws.EdgeLaws.OneFaceEachWay, laws.FaceLaws.IsAlong}
 use Rattle.qh_model.proofs.algebra.{Order.cancel-zero, Order.positive_le, Order.product_zero, VectorIdentities.vol-swap_last}
 use Rattle.qh_model.proofs.{extremes.Directions.vol_along, extremes.Directions.zero_along, polygons.Direction.polygon_as}
 use Rattle.qh_model.proofs.polygons.LeftOfEdge.{at_most, Way, Third, has_u, has_v, to_left, third, square, over}

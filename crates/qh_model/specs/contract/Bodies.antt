@@ -1,6 +1,5 @@
 -- The invariant of the type of a hull.
-use Rattle.std.specs.Prelude.{ℕ, List}
-use Rattle.std.specs.List.Sorted.{IsStrictlyIncreasing}
+use Rattle.std.specs.{Prelude.ℕ, Prelude.List, List.Sorted.IsStrictlyIncreasing}
 use Rattle.qh_model.specs.headline.Sets.{In}
 
 -- the extreme ids rise, and the polygons have no other ids

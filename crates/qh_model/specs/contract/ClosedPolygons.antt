@@ -2,11 +2,8 @@
 -- This project's own.
 use Rattle.std.specs.Prelude.{ℕ, ◌≡◌, List, [], ◌∷◌, count_by}
 use Rattle.std.specs.List.{flat_map}
-use Rattle.qh_model.specs.headline.Sets.{In}
-use Rattle.qh_model.specs.headline.Vector.{Vector}
-use Rattle.qh_model.specs.headline.SupportingPlane.{IsSupportingTriple}
+use Rattle.qh_model.specs.{contract.ClosedSurface.is_edge, headline.Sets.In, headline.Vector.Vector, headline.SupportingPlane.IsSupportingTriple}
 use Rattle.qh_model.specs.headline.Polygons.{IsFacePolygon}
-use Rattle.qh_model.specs.contract.ClosedSurface.{is_edge}
 
 -- the steps along the path from t through the list to e
 abbrev pub steps_along : ℕ → List ℕ → ℕ → List (ℕ × ℕ)

@@ -1,9 +1,6 @@
 -- Closed surfaces: lists of triangles in which each edge has the same number of triangles in either direction.
 use Rattle.std.specs.Prelude.{ℕ, ◌≡◌, ◌≤◌, ◌==◌, ◌&&◌, Bool, List, [], ◌∷◌, length, count_by, ℤ, pos, ◌+ℤ◌}
-use Rattle.qh_model.specs.headline.Vector.{Vector}
-use Rattle.qh_model.specs.headline.Predicates.{vol, AreInLine}
-use Rattle.qh_model.specs.headline.Sets.{In}
-use Rattle.qh_model.specs.contract.Surface.{Surface}
+use Rattle.qh_model.specs.{contract.Surface.Surface, headline.Vector.Vector, headline.Predicates.vol, headline.Predicates.AreInLine, headline.Sets.In}
 
 -- three ids in order
 pub record Triple : Type 0 where

@@ -1,12 +1,8 @@
 -- A finished surface: the state of Quickhull when no facet sees a point.
 -- Source: Barber, Dobkin and Huhdanpaa 1996 (no facet has an outside set left).
 use Rattle.std.specs.Prelude.{ℕ, List, pos, ◌≤ℤ◌, ◌<ℤ◌}
-use Rattle.qh_model.specs.headline.Vector.{Vector}
-use Rattle.qh_model.specs.headline.Predicates.{vol}
-use Rattle.qh_model.specs.headline.Sets.{In, Members}
-use Rattle.qh_model.specs.contract.Weighted.{Weighted, weighted, middle_of}
-use Rattle.qh_model.specs.contract.Surface.{Surface, IsCorner, IsWhole}
-use Rattle.qh_model.specs.contract.SoundSurface.{IsSound}
+use Rattle.qh_model.specs.contract.{Weighted.Weighted, Weighted.weighted, Weighted.middle_of, Surface.Surface, Surface.IsCorner, Surface.IsWhole}
+use Rattle.qh_model.specs.{contract.SoundSurface.IsSound, headline.Vector.Vector, headline.Predicates.vol, headline.Sets.In, headline.Sets.Members}
 
 -- the points of ids, with weight 1
 abbrev pub weighted_at : (ℕ → Vector) → ℕ → Weighted

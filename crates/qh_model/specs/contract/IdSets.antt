@@ -1,9 +1,7 @@
 -- Ids as indices of points, and sets of them.
 use Rattle.std.specs.Prelude.{ℕ, ◌≡◌, ◌<◌, List, All, length}
 use Rattle.std.specs.List.Sorted.{IsStrictlyIncreasing}
-use Rattle.qh_model.specs.headline.Vector.{Vector}
-use Rattle.qh_model.specs.headline.Sets.{In}
-use Rattle.qh_model.specs.headline.Predicates.{place}
+use Rattle.qh_model.specs.headline.{Vector.Vector, Sets.In, Predicates.place}
 
 -- each of the ids is the index of a point
 abbrev pub AreIndices : List Vector → List ℕ → Type 0

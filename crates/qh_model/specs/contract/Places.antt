@@ -1,6 +1,5 @@
 -- The invariant of the type of a point: a vector within the limit, which can be data of the program.
-use Rattle.qh_model.specs.headline.Vector.{Vector}
-use Rattle.qh_model.specs.headline.Limits.{IsCoordinate}
+use Rattle.qh_model.specs.headline.{Vector.Vector, Limits.IsCoordinate}
 use Rattle.std.specs.Prelude.{ℤ, refl}
 use Rattle.std.specs.Coded.{Coded, code_by, coded×, coded_ℤ}
 

@@ -1,10 +1,8 @@
 -- One step of Quickhull: the facets that see a point are replaced by its cone over their horizon.
 -- Source: Barber, Dobkin and Huhdanpaa 1996, the Beneath-Beyond step.
 use Rattle.std.specs.Prelude.{◌≡◌, ℕ, ◌⊎◌}
-use Rattle.qh_model.specs.headline.Sets.{In}
 use Rattle.qh_model.specs.contract.Surface.{Side, Surface, start, end, Sees, IsBlindTo}
-use Rattle.qh_model.specs.contract.Weighted.{Weighted}
-use Rattle.qh_model.specs.contract.Surface.Side.{first, second, third}
+use Rattle.qh_model.specs.{contract.Weighted.Weighted, contract.Surface.Side.first, contract.Surface.Side.second, contract.Surface.Side.third, headline.Sets.In}
 
 -- a horizon side: its facet sees p, and the neighbour across it does not
 pub record IsHorizonSide (m : Surface) (home : ℕ → Weighted) (p : Weighted) (f : ℕ) (s : Side) : Type 0 where

@@ -1,10 +1,7 @@
 -- The list of ids that is right for a set of blocks of a cut.
 -- Source: Preparata and Hong 1977 (the hull of a set from the hulls of its parts).
 use Rattle.std.specs.Prelude.{ℕ, ◌+◌, ◌-◌, ◌<◌, List, take, drop}
-use Rattle.qh_model.specs.headline.Vector.{Vector}
-use Rattle.qh_model.specs.headline.Predicates.{place}
-use Rattle.qh_model.specs.headline.Sets.{In}
-use Rattle.qh_model.specs.contract.Cut.{bound, block_count}
+use Rattle.qh_model.specs.{contract.Cut.bound, contract.Cut.block_count, headline.Vector.Vector, headline.Predicates.place, headline.Sets.In}
 use Rattle.qh_model.specs.headline.Hull.{AreExtremes}
 
 -- the ids at the positions of block k

@@ -1,7 +1,6 @@
 -- Choices by a number or by a side.
 use Rattle.std.specs.Prelude.{ℕ, zero, suc}
-use Rattle.qh_model.specs.contract.Surface.{Side}
-use Rattle.qh_model.specs.contract.Surface.Side.{first, second, third}
+use Rattle.qh_model.specs.contract.Surface.{Side, Side.first, Side.second, Side.third}
 
 -- one of four, by number
 abbrev pub one_of : {X : Type 0} → X → X → X → X → ℕ → X

@@ -2,9 +2,7 @@
 -- need no special case.
 -- Source: simulation of simplicity, Edelsbrunner and Mücke 1990, here along lines to one inner point.
 use Rattle.std.specs.Prelude.{◌≡◌, ℕ, ◌≤◌, ℤ, pos, ◌+ℤ◌, ◌*ℤ◌, ◌<ℤ◌}
-use Rattle.qh_model.specs.headline.Sets.{In}
-use Rattle.qh_model.specs.contract.Surface.{Surface, IsCorner, rise}
-use Rattle.qh_model.specs.contract.Weighted.{Weighted}
+use Rattle.qh_model.specs.{contract.Surface.Surface, contract.Surface.IsCorner, contract.Surface.rise, contract.Weighted.Weighted, headline.Sets.In}
 
 -- each corner of the surface that is no corner of a facet is strictly below that facet
 abbrev pub IsStrict : Surface → (ℕ → Weighted) → Type 0

@@ -1,8 +1,6 @@
 -- The storage of a surface in a list: a place for each facet, numbered half-edges, and marks of the live places.
 use Rattle.std.specs.Prelude.{ℕ, ◌+◌, ◌/◌, ◌%◌, List, [], ◌∷◌, Bool, false, cond, slice_index_or}
-use Rattle.qh_model.specs.contract.Simplex.{one_of, by_side}
-use Rattle.qh_model.specs.contract.Surface.{Surface}
-use Rattle.qh_model.specs.contract.Surface.Side.{first, second, third}
+use Rattle.qh_model.specs.contract.{Simplex.one_of, Simplex.by_side, Surface.Surface, Surface.Side.first, Surface.Side.second, Surface.Side.third}
 
 -- three ids, the half-edges across the three sides (3 f + s for side s of facet f), and a mark that is set if the facet is live
 pub record StoredFacet : Type 0 where

@@ -1,8 +1,7 @@
 -- Surfaces: triangular facets, each with a neighbour across each of its three sides.
 -- Source: Barber, Dobkin and Huhdanpaa 1996 (facets with neighbours over ridges).
 use Rattle.std.specs.Prelude.{◌≡◌, ℕ, ◌⊎◌, List, ℤ, pos, ◌≤ℤ◌, ◌<ℤ◌}
-use Rattle.qh_model.specs.headline.Sets.{In}
-use Rattle.qh_model.specs.contract.Weighted.{Weighted, above}
+use Rattle.qh_model.specs.{contract.Weighted.Weighted, contract.Weighted.above, headline.Sets.In}
 
 -- a side of a facet i, j, k: from i to j, from j to k, from k to i
 pub data Side : Type 0 where

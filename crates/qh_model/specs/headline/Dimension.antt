@@ -1,7 +1,6 @@
 -- The dimension of a set of ids of distinct points.
 use Rattle.std.specs.Prelude.{ℕ, pos, ◌≡◌, ◌≢◌, ◌⊎◌}
-use Rattle.qh_model.specs.headline.Vector.{Vector}
-use Rattle.qh_model.specs.headline.Predicates.{vol, AreInLine}
+use Rattle.qh_model.specs.headline.{Vector.Vector, Predicates.vol, Predicates.AreInLine}
 
 -- some four members are not in one plane
 pub record HasTetrahedron (at : ℕ → Vector) (A : ℕ → Type 0) : Type 0 where

@@ -1,9 +1,7 @@
 -- The distinct points of a list: of equal points the lowest id represents all.
 use Rattle.std.specs.Prelude.{ℕ, ◌≢◌, ◌<◌, ◌↔◌, List, length}
 use Rattle.std.specs.List.Sorted.{IsStrictlyIncreasing}
-use Rattle.qh_model.specs.headline.Vector.{Vector}
-use Rattle.qh_model.specs.headline.Sets.{In}
-use Rattle.qh_model.specs.headline.Predicates.{place}
+use Rattle.qh_model.specs.headline.{Vector.Vector, Sets.In, Predicates.place}
 
 -- i is the id of a point, and no lower id has the same point
 abbrev pub IsDistinctId : List Vector → ℕ → Type 0

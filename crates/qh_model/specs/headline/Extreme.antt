@@ -1,8 +1,7 @@
 -- Extreme points: the corners of the convex hull.
 -- Source: Barber, Dobkin and Huhdanpaa 1996; Carathéodory's theorem.
 use Rattle.std.specs.Prelude.{◌≢◌, ℕ}
-use Rattle.qh_model.specs.headline.Vector.{Vector}
-use Rattle.qh_model.specs.headline.Combination.{Combination}
+use Rattle.qh_model.specs.headline.{Vector.Vector, Combination.Combination}
 
 -- the members of A other than i
 abbrev pub Others : (ℕ → Type 0) → ℕ → ℕ → Type 0

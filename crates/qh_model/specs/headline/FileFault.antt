@@ -1,13 +1,9 @@
 -- The first fault of a byte string that is no point file. The order of the faults is this project's profile.
-use Rattle.std.specs.Prelude.{ℕ, ℤ, pos, negsuc, List, [], ◌∷◌, ◌*◌, ◌==◌, ◌&&◌, nat_le, nat_lt, length, Option, Some, None}
-use Rattle.std.specs.Prelude.{Bool, false, if◌then◌else◌, zero, suc}
-use Rattle.std.specs.Option.{option_or}
-use Rattle.qh_model.specs.declared.limits.TheConstants.{POINT_LIMIT, BYTE_LIMIT}
-use Rattle.qh_model.specs.declared.read_fault.ReadFault.{ReadFault}
+use Rattle.std.specs.Prelude.{ℕ, ℤ, pos, negsuc, List, [], ◌∷◌, ◌*◌, ◌==◌, ◌&&◌, nat_le, nat_lt, length, Option, Some, None, Bool, false, if◌then◌else◌, zero}
+use Rattle.std.specs.{Prelude.suc, Option.option_or}
+use Rattle.qh_model.specs.declared.{limits.TheConstants.POINT_LIMIT, limits.TheConstants.BYTE_LIMIT, read_fault.ReadFault.ReadFault}
 use Rattle.qh_model.specs.declared.read_fault.ReadFault.TheVariants.{NoHeader, BadNumber, NotThree, Count, Range, Long, Short, Big}
-use Rattle.qh_model.specs.headline.Limits.{is_coordinate}
-use Rattle.qh_model.specs.headline.Words.{data_words, Word}
-use Rattle.qh_model.specs.headline.Numbers.{number_of}
+use Rattle.qh_model.specs.headline.{Limits.is_coordinate, Words.data_words, Words.Word, Numbers.number_of}
 
 -- the fault of a coordinate on this line
 abbrev pub coordinate_fault : Option ℤ → ℕ → Option ReadFault

@@ -1,13 +1,7 @@
 -- The meaning of a byte string in each form.
 use Rattle.std.specs.Prelude.{ℕ, ◌≡◌, List, Option, Some}
-use Rattle.qh_model.specs.declared.form.Form.{Form}
-use Rattle.qh_model.specs.declared.form.Form.TheVariants.{Qhull, Off}
-use Rattle.qh_model.specs.declared.read_fault.ReadFault.{ReadFault}
-use Rattle.qh_model.specs.headline.Vector.{Vector}
-use Rattle.qh_model.specs.headline.PointFile.{Reads}
-use Rattle.qh_model.specs.headline.FileFault.{first_fault}
-use Rattle.qh_model.specs.headline.OffFile.{ReadsOff}
-use Rattle.qh_model.specs.headline.OffFault.{first_off_fault}
+use Rattle.qh_model.specs.declared.{form.Form.Form, form.Form.TheVariants.Qhull, form.Form.TheVariants.Off, read_fault.ReadFault.ReadFault}
+use Rattle.qh_model.specs.headline.{Vector.Vector, PointFile.Reads, FileFault.first_fault, OffFile.ReadsOff, OffFault.first_off_fault}
 
 -- the bytes are a file of these points
 abbrev pub ReadsIn : Form → List ℕ → List Vector → Type 0

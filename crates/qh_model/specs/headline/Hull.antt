@@ -1,12 +1,7 @@
 -- Definitions of the right hull of a set of ids, and of a list of points.
 use Rattle.std.specs.Prelude.{◌≡◌, ℕ, ◌↔◌, List, length}
 use Rattle.std.specs.List.Sorted.{IsStrictlyIncreasing}
-use Rattle.qh_model.specs.headline.Vector.{Vector}
-use Rattle.qh_model.specs.headline.Predicates.{place}
-use Rattle.qh_model.specs.headline.Sets.{In, Members}
-use Rattle.qh_model.specs.headline.DistinctIds.{AreDistinctIds}
-use Rattle.qh_model.specs.headline.Dimension.{IsDimension}
-use Rattle.qh_model.specs.headline.Extreme.{Extreme}
+use Rattle.qh_model.specs.headline.{Vector.Vector, Predicates.place, Sets.In, Sets.Members, DistinctIds.AreDistinctIds, Dimension.IsDimension, Extreme.Extreme}
 use Rattle.qh_model.specs.headline.Polygons.{ArePolygons, IsEdgeCount}
 
 -- a hull as a contract sees it

@@ -1,12 +1,9 @@
 -- The first fault of a byte string that is no OFF file. The order of the faults is this project's profile.
 use Rattle.std.specs.Prelude.{ℕ, List, [], ◌∷◌, nat_lt, length, codes, Option, Some, None, if◌then◌else◌}
 use Rattle.std.specs.Str.{bytes_eq}
-use Rattle.qh_model.specs.declared.limits.TheConstants.{BYTE_LIMIT}
-use Rattle.qh_model.specs.declared.read_fault.ReadFault.{ReadFault}
+use Rattle.qh_model.specs.declared.{limits.TheConstants.BYTE_LIMIT, read_fault.ReadFault.ReadFault}
 use Rattle.qh_model.specs.declared.read_fault.ReadFault.TheVariants.{NoHeader, Big, NotOff}
-use Rattle.qh_model.specs.headline.Words.{Word}
-use Rattle.qh_model.specs.headline.FileFault.{counted_fault, next_number_fault}
-use Rattle.qh_model.specs.headline.OffFile.{off_words}
+use Rattle.qh_model.specs.headline.{Words.Word, FileFault.counted_fault, FileFault.next_number_fault, OffFile.off_words}
 
 -- the first fault of the numbers of vertices, faces and edges, all of which are required, and then of the coordinates of the vertices; only the first number is
 -- used, and any words may follow

@@ -3,12 +3,10 @@
 -- comment begins at any byte `#`, and faces are not read.
 use Rattle.std.specs.Prelude.{ℕ, ℤ, pos, List, [], ◌∷◌, ◌++◌, ◌≡◌, ◌≤◌, ◌==◌, if◌then◌else◌, map, length, codes, Some}
 use Rattle.std.specs.List.{AllByRecursion}
-use Rattle.qh_model.specs.declared.limits.TheConstants.{POINT_LIMIT, BYTE_LIMIT}
-use Rattle.qh_model.specs.headline.Vector.{Vector}
+use Rattle.qh_model.specs.{declared.limits.TheConstants.POINT_LIMIT, declared.limits.TheConstants.BYTE_LIMIT, headline.Vector.Vector}
 use Rattle.qh_model.specs.headline.Limits.{IsCoordinate}
 use Rattle.qh_model.specs.headline.Words.{Word, lines_of, words_of, words_from}
-use Rattle.qh_model.specs.headline.Numbers.{number_of}
-use Rattle.qh_model.specs.headline.PointFile.{coordinates}
+use Rattle.qh_model.specs.headline.{Numbers.number_of, PointFile.coordinates}
 
 -- a comment begins at the first byte `#`, and runs to the end of the line
 abbrev pub before_hash : List ℕ → List ℕ

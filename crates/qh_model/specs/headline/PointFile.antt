@@ -3,11 +3,8 @@
 -- This project's profile: the two numbers of the header may have either order.
 use Rattle.std.specs.Prelude.{ℕ, ℤ, pos, List, [], ◌∷◌, ◌≡◌, ◌≢◌, ◌≤◌, ◌⊎◌, map, length, Some}
 use Rattle.std.specs.List.{AllByRecursion}
-use Rattle.qh_model.specs.declared.limits.TheConstants.{POINT_LIMIT, BYTE_LIMIT}
-use Rattle.qh_model.specs.headline.Vector.{Vector}
-use Rattle.qh_model.specs.headline.Limits.{IsCoordinate}
-use Rattle.qh_model.specs.headline.Words.{data_words}
-use Rattle.qh_model.specs.headline.Numbers.{number_of}
+use Rattle.qh_model.specs.{declared.limits.TheConstants.POINT_LIMIT, declared.limits.TheConstants.BYTE_LIMIT, headline.Vector.Vector}
+use Rattle.qh_model.specs.headline.{Limits.IsCoordinate, Words.data_words, Numbers.number_of}
 
 -- x, y and z of each point in turn
 abbrev pub coordinates : List Vector → List ℤ

@@ -1,8 +1,6 @@
 -- The polygon of a set of ids whose points lie in one plane.
 use Rattle.std.specs.Prelude.{◌≡◌, ◌≢◌, ℕ, ◌⊎◌, List, [], ◌∷◌, pos, ◌<ℤ◌, ◌↔◌}
-use Rattle.qh_model.specs.headline.Vector.{Vector}
-use Rattle.qh_model.specs.headline.Predicates.{left}
-use Rattle.qh_model.specs.headline.Sets.{In, Once, BeginsWithLeast}
+use Rattle.qh_model.specs.headline.{Vector.Vector, Predicates.left, Sets.In, Sets.Once, Sets.BeginsWithLeast}
 
 -- v follows u along the path from t through the list to e
 abbrev pub FollowsAlong : ℕ → ℕ → ℕ → List ℕ → ℕ → Type 0

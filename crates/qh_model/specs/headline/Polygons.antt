@@ -1,12 +1,8 @@
 -- The faces of a hull, as polygons, and its edges.
 -- Source: Geomview OFF (a face is the list of its vertices, counterclockwise from outside).
 use Rattle.std.specs.Prelude.{◌≡◌, ℕ, ◌<◌, ◌⊎◌, ◌↔◌, List, [], ◌∷◌, length, pos, ◌<ℤ◌}
-use Rattle.qh_model.specs.headline.Vector.{Vector}
-use Rattle.qh_model.specs.headline.Predicates.{cross}
-use Rattle.qh_model.specs.headline.Sets.{In, Once}
-use Rattle.qh_model.specs.headline.Extreme.{Extreme}
-use Rattle.qh_model.specs.headline.SupportingPlane.{IsSupportingTriple, OnPlane}
-use Rattle.qh_model.specs.headline.Polygon.{Follows, IsPolygon}
+use Rattle.qh_model.specs.headline.{Vector.Vector, Predicates.cross, Sets.In, Sets.Once, Extreme.Extreme}
+use Rattle.qh_model.specs.headline.{SupportingPlane.IsSupportingTriple, SupportingPlane.OnPlane, Polygon.Follows, Polygon.IsPolygon}
 
 -- lexicographic order of lists: at the first difference p has the lower number, or p ends there
 abbrev pub ComesBefore : List ℕ → List ℕ → Type 0

@@ -1,8 +1,7 @@
 -- Supporting planes: planes through members with no member outside.
 -- Source: Preparata and Hong 1977; Barber, Dobkin and Huhdanpaa 1996.
 use Rattle.std.specs.Prelude.{◌≡◌, ℕ, pos, ◌≤ℤ◌}
-use Rattle.qh_model.specs.headline.Vector.{Vector}
-use Rattle.qh_model.specs.headline.Predicates.{vol, AreInLine}
+use Rattle.qh_model.specs.headline.{Vector.Vector, Predicates.vol, Predicates.AreInLine}
 
 -- no member is above the plane of i, j, k
 abbrev pub Supports : (ℕ → Vector) → (ℕ → Type 0) → ℕ → ℕ → ℕ → Type 0

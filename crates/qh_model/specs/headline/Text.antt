@@ -2,14 +2,10 @@
 -- Sources: Qhull manual, `s` (the summary; its wording is this project's own) and `Fx` (the number of extreme points
 -- and their indices from 0); Geomview OFF (`OFF`, the counts, the vertices, the faces by vertex numbers from 0).
 use Rattle.std.specs.Prelude.{◌≡◌, ℕ, suc, List, [], ◌∷◌, ◌++◌, ◌==◌, if◌then◌else◌, length, codes, decimal}
-use Rattle.std.specs.Fmt.{signed_decimal}
-use Rattle.std.specs.List.{flat_map}
+use Rattle.std.specs.{Fmt.signed_decimal, List.flat_map}
 use Rattle.qh_model.specs.declared.out.Out.{Out}
 use Rattle.qh_model.specs.declared.out.Out.TheVariants.{Rank, Summary, Fx, Off, OffTriangles}
-use Rattle.qh_model.specs.headline.Vector.{Vector}
-use Rattle.qh_model.specs.headline.Predicates.{place}
-use Rattle.qh_model.specs.headline.Fan.{fans, edge_count}
-use Rattle.qh_model.specs.headline.Hull.{HullValue, BodyValue, IsHull}
+use Rattle.qh_model.specs.headline.{Vector.Vector, Predicates.place, Fan.fans, Fan.edge_count, Hull.HullValue, Hull.BodyValue, Hull.IsHull}
 
 -- a text followed by byte 10, which ends the line
 abbrev pub line : List ℕ → List ℕ

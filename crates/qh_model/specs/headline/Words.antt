@@ -1,8 +1,7 @@
 -- The data words of a byte string, each with its line.
 -- Source: Qhull manual, "Qhull input: point coordinates"; lines, blanks and comments are this project's profile.
 use Rattle.std.specs.Prelude.{ℕ, Bool, true, false, List, [], ◌∷◌, ◌++◌, ◌==◌, ◌||◌, ◌+◌, map, filter, if◌then◌else◌}
-use Rattle.std.specs.Char.{is_ascii_digit}
-use Rattle.std.specs.List.{slice_split}
+use Rattle.std.specs.{Char.is_ascii_digit, List.slice_split}
 
 -- tab, vertical tab, form feed, carriage return or space
 abbrev pub is_blank : ℕ → Bool

@@ -1,16 +1,9 @@
 -- Laws of supporting triangles and of faces that close up: they include all of the hull.
 use Rattle.std.specs.Prelude.{ℕ, ◌≡◌, ◌↔◌, List, pos}
-use Rattle.qh_model.specs.headline.Vector.{Vector}
-use Rattle.qh_model.specs.headline.Predicates.{cross, vol}
-use Rattle.qh_model.specs.headline.Sets.{In, Members}
-use Rattle.qh_model.specs.contract.IdSets.{HasDistinctPoints}
-use Rattle.qh_model.specs.headline.Dimension.{IsDimension}
-use Rattle.qh_model.specs.headline.Extreme.{Extreme}
-use Rattle.qh_model.specs.headline.SupportingPlane.{IsSupportingTriple}
-use Rattle.qh_model.specs.headline.Polygons.{RiseStrictly, AreFaces}
-use Rattle.qh_model.specs.contract.ClosedSurface.{Triple, IsClosedSurface}
-use Rattle.qh_model.specs.contract.ClosedPolygons.{AreClosed, AreClosedFaces}
-use Rattle.qh_model.specs.laws.FaceLaws.{IsAlong}
+use Rattle.qh_model.specs.contract.{IdSets.HasDistinctPoints, ClosedSurface.Triple, ClosedSurface.IsClosedSurface}
+use Rattle.qh_model.specs.{contract.ClosedPolygons.AreClosed, contract.ClosedPolygons.AreClosedFaces, headline.Vector.Vector}
+use Rattle.qh_model.specs.headline.{Predicates.cross, Predicates.vol, Sets.In, Sets.Members, Dimension.IsDimension, Extreme.Extreme}
+use Rattle.qh_model.specs.{headline.SupportingPlane.IsSupportingTriple, headline.Polygons.RiseStrictly, headline.Polygons.AreFaces, laws.FaceLaws.IsAlong}
 
 -- each triangle is a supporting triple
 abbrev pub AreSupporting : (ℕ → Vector) → (ℕ → Type 0) → List Triple → Type 0

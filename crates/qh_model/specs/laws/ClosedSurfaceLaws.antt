@@ -1,12 +1,8 @@
 -- Laws of closed surfaces: their volume, and that they leave no plane open.
 use Rattle.std.specs.Prelude.{ℕ, ◌≡◌, List, [], ◌∷◌, pos, ◌<ℤ◌}
-use Rattle.qh_model.specs.headline.Vector.{Vector, dot}
-use Rattle.qh_model.specs.headline.Predicates.{vol}
-use Rattle.qh_model.specs.headline.Sets.{In, Once}
-use Rattle.qh_model.specs.contract.Surface.{Surface, IsWhole}
-use Rattle.qh_model.specs.contract.SoundSurface.{IsSound}
-use Rattle.qh_model.specs.contract.FinishedSurface.{weighted_at, middle_at}
+use Rattle.qh_model.specs.contract.{Surface.Surface, Surface.IsWhole, SoundSurface.IsSound, FinishedSurface.weighted_at, FinishedSurface.middle_at}
 use Rattle.qh_model.specs.contract.ClosedSurface.{Triple, IsClosedSurface, signed_volume, triples_of}
+use Rattle.qh_model.specs.headline.{Vector.Vector, Vector.dot, Predicates.vol, Sets.In, Sets.Once}
 
 -- the signed volume does not depend on the fourth point
 abbrev pub VolumeIsConstant : Type 0

@@ -1,10 +1,7 @@
 -- Laws of convex combinations: a point is a convex combination of a set, or is separated from it.
 -- Source: Carathéodory's theorem and Farkas' lemma.
 use Rattle.std.specs.Prelude.{ℕ, ◌⊎◌, List}
-use Rattle.qh_model.specs.headline.Vector.{Vector}
-use Rattle.qh_model.specs.headline.Sets.{Members}
-use Rattle.qh_model.specs.headline.Combination.{Combination}
-use Rattle.qh_model.specs.laws.Separator.{Separator}
+use Rattle.qh_model.specs.{headline.Vector.Vector, headline.Sets.Members, headline.Combination.Combination, laws.Separator.Separator}
 
 -- a point is a convex combination of at most four members of the set, or some direction separates it
 abbrev pub CombinationOrSeparator : Type 0

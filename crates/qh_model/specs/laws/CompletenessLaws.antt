@@ -1,16 +1,9 @@
 -- Laws of finished surfaces: their facets support the set, and include all extreme ids and all supporting planes. So they determine the polygons.
 use Rattle.std.specs.Prelude.{ℕ, ◌≡◌, ◌↔◌, List, pos}
-use Rattle.qh_model.specs.headline.Vector.{Vector}
-use Rattle.qh_model.specs.headline.Predicates.{cross, vol}
-use Rattle.qh_model.specs.headline.Sets.{In, Members}
-use Rattle.qh_model.specs.contract.IdSets.{HasDistinctPoints}
-use Rattle.qh_model.specs.headline.Dimension.{IsDimension}
-use Rattle.qh_model.specs.headline.Extreme.{Extreme}
+use Rattle.qh_model.specs.contract.{IdSets.HasDistinctPoints, Surface.Surface, Surface.IsCorner, FinishedSurface.IsFinished}
+use Rattle.qh_model.specs.headline.{Vector.Vector, Predicates.cross, Predicates.vol, Sets.In, Sets.Members, Dimension.IsDimension, Extreme.Extreme}
 use Rattle.qh_model.specs.headline.SupportingPlane.{IsSupportingTriple, OnPlane}
-use Rattle.qh_model.specs.laws.FaceLaws.{IsAlong}
-use Rattle.qh_model.specs.headline.Polygons.{RiseStrictly, IsFacePolygon, AreFaces}
-use Rattle.qh_model.specs.contract.Surface.{Surface, IsCorner}
-use Rattle.qh_model.specs.contract.FinishedSurface.{IsFinished}
+use Rattle.qh_model.specs.{headline.Polygons.RiseStrictly, headline.Polygons.IsFacePolygon, headline.Polygons.AreFaces, laws.FaceLaws.IsAlong}
 
 -- the corners of each live facet are a supporting triple
 abbrev pub FacetsSupport : Type 0

@@ -1,7 +1,6 @@
 -- A law of large cones: no facet of a cone sees a point that lies between three rays of the cone.
 use Rattle.std.specs.Prelude.{pos, ◌≤ℤ◌, ◌<ℤ◌}
-use Rattle.qh_model.specs.headline.Vector.{Vector}
-use Rattle.qh_model.specs.headline.Predicates.{vol}
+use Rattle.qh_model.specs.headline.{Vector.Vector, Predicates.vol}
 
 -- a is the apex, x, y and z are corners that span a solid angle, and p lies in it; if a plane through a, b and c has none of the three outside, p is not
 -- outside either

@@ -1,11 +1,9 @@
 -- Laws of sound surfaces: a point that no facet sees is not outside, and the live facets cover each supporting plane.
 use Rattle.std.specs.Prelude.{◌≡◌, ℕ, pos, ◌≤ℤ◌, ◌<ℤ◌}
+use Rattle.qh_model.specs.contract.{SoundSurface.IsSound, Surface.Surface, Surface.IsWhole, Surface.IsBlindTo}
+use Rattle.qh_model.specs.{contract.Weighted.Weighted, contract.Weighted.weighted_dot, contract.Weighted.above, headline.Sets.In}
 use Rattle.qh_model.specs.laws.CoveredPoints.{FacetInPlane, CombinationWithInner, CombinationInPlane}
-use Rattle.qh_model.specs.headline.Sets.{In}
-use Rattle.qh_model.specs.contract.SoundSurface.{IsSound}
-use Rattle.qh_model.specs.contract.Surface.{Surface, IsWhole, IsBlindTo}
 use Rattle.qh_model.specs.laws.UnseenPoints.{IsUnseen, HoldsOfCorners}
-use Rattle.qh_model.specs.contract.Weighted.{Weighted, weighted_dot, above}
 
 -- no plane has the corners and o on one side and a point that no facet sees strictly on the other
 abbrev pub NothingOutside : Type 0

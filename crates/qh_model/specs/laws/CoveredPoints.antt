@@ -1,8 +1,7 @@
 -- Points as convex combinations of a facet's corners, determined by all linear functions at once.
 use Rattle.std.specs.Prelude.{◌≡◌, ℕ, ℤ, pos, ◌+ℤ◌, ◌*ℤ◌, ◌≤ℤ◌, ◌<ℤ◌}
-use Rattle.qh_model.specs.headline.Sets.{In}
 use Rattle.qh_model.specs.contract.Surface.{Side, Surface, start, end, IsCorner, rise}
-use Rattle.qh_model.specs.contract.Weighted.{Weighted, weighted_dot, above}
+use Rattle.qh_model.specs.{contract.Weighted.Weighted, contract.Weighted.weighted_dot, contract.Weighted.above, headline.Sets.In}
 
 -- a live facet in the plane of a, b, c; e is on it and beyond none of its sides
 pub record FacetInPlane (m : Surface) (home : ℕ → Weighted) (o a b c e : Weighted) : Type 0 where

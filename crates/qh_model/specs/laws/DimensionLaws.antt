@@ -1,9 +1,6 @@
 -- Laws of the dimension of a set of ids.
 use Rattle.std.specs.Prelude.{ℕ, ◌≡◌, ◌↔◌, List}
-use Rattle.qh_model.specs.headline.Vector.{Vector}
-use Rattle.qh_model.specs.headline.Sets.{Members}
-use Rattle.qh_model.specs.contract.IdSets.{HasDistinctPoints}
-use Rattle.qh_model.specs.headline.Dimension.{IsDimension}
+use Rattle.qh_model.specs.{contract.IdSets.HasDistinctPoints, headline.Vector.Vector, headline.Sets.Members, headline.Dimension.IsDimension}
 use Rattle.qh_model.specs.headline.Extreme.{Extreme}
 
 -- a set has at most one dimension

@@ -1,13 +1,8 @@
 -- Laws of the edges of a solid: one face runs along each edge in one direction, and another face in the opposite direction.
 -- Source: Preparata and Hong 1977 (gift wrapping: a plane is turned about an edge of a face to the next face).
 use Rattle.std.specs.Prelude.{ℕ, ◌≡◌, List}
-use Rattle.qh_model.specs.headline.Vector.{Vector}
-use Rattle.qh_model.specs.headline.Sets.{In, Members}
-use Rattle.qh_model.specs.contract.IdSets.{HasDistinctPoints}
-use Rattle.qh_model.specs.headline.Dimension.{IsDimension}
-use Rattle.qh_model.specs.headline.SupportingPlane.{IsSupportingTriple}
-use Rattle.qh_model.specs.headline.Polygon.{Follows}
-use Rattle.qh_model.specs.headline.Polygons.{IsFacePolygon, AreFaces}
+use Rattle.qh_model.specs.{contract.IdSets.HasDistinctPoints, headline.Vector.Vector, headline.Sets.In, headline.Sets.Members, headline.Dimension.IsDimension}
+use Rattle.qh_model.specs.headline.{SupportingPlane.IsSupportingTriple, Polygon.Follows, Polygons.IsFacePolygon, Polygons.AreFaces}
 
 -- two faces with the step from u to v are the same
 abbrev pub OneFaceEachWay : Type 0

@@ -1,10 +1,7 @@
 -- Laws of extreme ids: a member that is extreme, and the extremes of a union.
 use Rattle.std.specs.Prelude.{ℕ, ◌≡◌, ◌<◌, ◌⊎◌, ◌↔◌, List, ◌<ℤ◌}
-use Rattle.qh_model.specs.headline.Vector.{Vector, dot}
-use Rattle.qh_model.specs.headline.Sets.{Members}
-use Rattle.qh_model.specs.contract.IdSets.{HasDistinctPoints}
-use Rattle.qh_model.specs.headline.Combination.{Combination}
-use Rattle.qh_model.specs.headline.Extreme.{Others, Extreme}
+use Rattle.qh_model.specs.{contract.IdSets.HasDistinctPoints, headline.Vector.Vector, headline.Vector.dot, headline.Sets.Members}
+use Rattle.qh_model.specs.headline.{Combination.Combination, Extreme.Others, Extreme.Extreme}
 
 -- p is lower than q by (w . p, x, y, z), in lexicographic order
 abbrev pub IsLower : Vector → Vector → Vector → Type 0

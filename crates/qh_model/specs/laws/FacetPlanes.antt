@@ -1,11 +1,7 @@
 -- The live facets of a finished surface that lie in one plane.
 use Rattle.std.specs.Prelude.{ℕ, ◌≡◌, ◌↔◌, List, Bool, true, pos}
-use Rattle.qh_model.specs.headline.Vector.{Vector}
-use Rattle.qh_model.specs.headline.Predicates.{cross, vol}
-use Rattle.qh_model.specs.headline.Sets.{In}
-use Rattle.qh_model.specs.laws.FaceLaws.{IsAlong}
-use Rattle.qh_model.specs.contract.Surface.{Side, Surface, IsCorner}
-use Rattle.qh_model.specs.contract.FinishedSurface.{IsFinished}
+use Rattle.qh_model.specs.contract.{Surface.Side, Surface.Surface, Surface.IsCorner, FinishedSurface.IsFinished}
+use Rattle.qh_model.specs.{headline.Vector.Vector, headline.Predicates.cross, headline.Predicates.vol, headline.Sets.In, laws.FaceLaws.IsAlong}
 
 -- l is in the plane of facet f
 abbrev pub IsLevelWith : (ℕ → Vector) → Surface → ℕ → ℕ → Type 0

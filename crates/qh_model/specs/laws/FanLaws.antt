@@ -1,12 +1,8 @@
 -- Laws of fans: in a solid their triangles are supporting triples; and a function computes the number of edges of faces.
 -- Source: Preparata and Hong 1977 (supporting planes).
 use Rattle.std.specs.Prelude.{ℕ, ◌≡◌, ◌≢◌, List, [], ◌∷◌}
-use Rattle.qh_model.specs.headline.Vector.{Vector}
-use Rattle.qh_model.specs.headline.Sets.{In, Members}
-use Rattle.qh_model.specs.contract.IdSets.{HasDistinctPoints}
-use Rattle.qh_model.specs.headline.SupportingPlane.{IsSupportingTriple}
-use Rattle.qh_model.specs.headline.Polygon.{Follows}
-use Rattle.qh_model.specs.headline.Polygons.{IsFacePolygon, AreFaces, IsEdgeCount}
+use Rattle.qh_model.specs.{contract.IdSets.HasDistinctPoints, headline.Vector.Vector, headline.Sets.In, headline.Sets.Members}
+use Rattle.qh_model.specs.headline.{SupportingPlane.IsSupportingTriple, Polygon.Follows, Polygons.IsFacePolygon, Polygons.AreFaces, Polygons.IsEdgeCount}
 use Rattle.qh_model.specs.headline.Fan.{fans, edge_count}
 
 -- two neighbours and a third corner of the polygon of a supporting triple are a supporting triple

@@ -1,9 +1,7 @@
 -- The facets that a walk has found, and the horizon of the facets that a point sees.
 use Rattle.std.specs.Prelude.{◌≡◌, ℕ, Bool, true, pos, ◌≤ℤ◌}
-use Rattle.qh_model.specs.headline.Sets.{In}
 use Rattle.qh_model.specs.contract.Surface.{Side, Surface, start, end, Sees, IsBlindTo}
-use Rattle.qh_model.specs.contract.Weighted.{Weighted, above}
-use Rattle.qh_model.specs.contract.Rewired.{IsHorizonSide}
+use Rattle.qh_model.specs.{contract.Weighted.Weighted, contract.Weighted.above, contract.Rewired.IsHorizonSide, headline.Sets.In}
 
 -- a set c of facets that has one that p sees and, for each of its facets, every neighbour that p sees
 pub record IsWalked (m : Surface) (home : ℕ → Weighted) (p : Weighted) (c : ℕ → Bool) : Type 0 where

@@ -1,16 +1,9 @@
 -- Laws of hulls: a set and its extreme ids have the same hull, and each part of a hull is unique.
 use Rattle.std.specs.Prelude.{ℕ, ◌≡◌, ◌↔◌, List}
 use Rattle.std.specs.List.Sorted.{IsStrictlyIncreasing}
-use Rattle.qh_model.specs.declared.out.Out.{Out}
-use Rattle.qh_model.specs.headline.Vector.{Vector}
-use Rattle.qh_model.specs.headline.Predicates.{place}
-use Rattle.qh_model.specs.headline.Sets.{In, Members}
-use Rattle.qh_model.specs.contract.IdSets.{HasDistinctPoints}
-use Rattle.qh_model.specs.headline.DistinctIds.{AreDistinctIds}
-use Rattle.qh_model.specs.headline.Dimension.{IsDimension}
-use Rattle.qh_model.specs.headline.Extreme.{Extreme}
-use Rattle.qh_model.specs.headline.SupportingPlane.{IsSupportingTriple}
-use Rattle.qh_model.specs.headline.Polygons.{ArePolygons, IsEdgeCount}
+use Rattle.qh_model.specs.{contract.IdSets.HasDistinctPoints, declared.out.Out.Out, headline.Vector.Vector, headline.Predicates.place}
+use Rattle.qh_model.specs.headline.{Sets.In, Sets.Members, DistinctIds.AreDistinctIds, Dimension.IsDimension, Extreme.Extreme}
+use Rattle.qh_model.specs.headline.{SupportingPlane.IsSupportingTriple, Polygons.ArePolygons, Polygons.IsEdgeCount}
 use Rattle.qh_model.specs.headline.Hull.{BodyValue, HullValue, IsBody, IsHull}
 use Rattle.qh_model.specs.headline.Text.{IsText}
 

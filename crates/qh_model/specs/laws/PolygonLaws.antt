@@ -1,9 +1,6 @@
 -- Laws of a polygon: it is unique, and depends on the direction of its normal alone.
 use Rattle.std.specs.Prelude.{ℕ, ◌≡◌, List}
-use Rattle.qh_model.specs.headline.Vector.{Vector}
-use Rattle.qh_model.specs.headline.Sets.{Members}
-use Rattle.qh_model.specs.headline.Polygon.{IsPolygon}
-use Rattle.qh_model.specs.laws.FaceLaws.{IsAlong}
+use Rattle.qh_model.specs.{headline.Vector.Vector, headline.Sets.Members, headline.Polygon.IsPolygon, laws.FaceLaws.IsAlong}
 
 -- at most one list is the polygon of a set and a normal
 abbrev pub PolygonIsUnique : Type 0

@@ -1,8 +1,6 @@
 -- Laws of files: in each form, each byte string has exactly one list of points or exactly one first fault.
 use Rattle.std.specs.Prelude.{ℕ, ◌≡◌, ◌⊎◌, List, None}
-use Rattle.qh_model.specs.headline.Vector.{Vector}
-use Rattle.qh_model.specs.declared.form.Form.{Form}
-use Rattle.qh_model.specs.declared.read_fault.ReadFault.{ReadFault}
+use Rattle.qh_model.specs.{declared.form.Form.Form, declared.read_fault.ReadFault.ReadFault, headline.Vector.Vector}
 use Rattle.qh_model.specs.headline.Forms.{ReadsIn, first_fault_in, IsFirstFault}
 
 -- a byte string is the file of at most one list of points

@@ -1,13 +1,8 @@
 -- Laws of right values: the values of the nodes of a tree over the blocks, from the leaves to the root.
 use Rattle.std.specs.Prelude.{ℕ, ◌≡◌, ◌+◌, ◌*◌, ◌↔◌, ◌⊎◌, ◌<◌, List, length}
-use Rattle.qh_model.specs.headline.Vector.{Vector}
-use Rattle.qh_model.specs.headline.Predicates.{place}
-use Rattle.qh_model.specs.headline.Sets.{In, Members}
-use Rattle.qh_model.specs.contract.IdSets.{HasDistinctPoints}
-use Rattle.qh_model.specs.contract.Cut.{IsCut, block_count, positions}
-use Rattle.qh_model.specs.headline.Hull.{AreExtremes, BodyValue, IsBody}
-use Rattle.qh_model.specs.contract.BoardMachine.{InSpan}
-use Rattle.qh_model.specs.contract.RightValue.{RightValue, block_ids}
+use Rattle.qh_model.specs.contract.{IdSets.HasDistinctPoints, Cut.IsCut, Cut.block_count, Cut.positions, BoardMachine.InSpan}
+use Rattle.qh_model.specs.{contract.RightValue.RightValue, contract.RightValue.block_ids, headline.Vector.Vector, headline.Predicates.place}
+use Rattle.qh_model.specs.headline.{Sets.In, Sets.Members, Hull.AreExtremes, Hull.BodyValue, Hull.IsBody}
 
 -- the extreme ids of a block are right for its leaf
 abbrev pub RightOfLeaf : Type 0

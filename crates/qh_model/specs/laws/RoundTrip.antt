@@ -1,15 +1,9 @@
 -- Laws of the round trip: an OFF file that is written is read as the extreme points, which are written as the same bytes.
 use Rattle.std.specs.Prelude.{ℕ, ◌≤◌, List, [], ◌∷◌, length, map}
 use Rattle.std.specs.List.{AllByRecursion}
-use Rattle.qh_model.specs.declared.limits.TheConstants.{POINT_LIMIT, BYTE_LIMIT}
-use Rattle.qh_model.specs.declared.out.Out.{Out}
+use Rattle.qh_model.specs.declared.{limits.TheConstants.POINT_LIMIT, limits.TheConstants.BYTE_LIMIT, out.Out.Out}
 use Rattle.qh_model.specs.declared.out.Out.TheVariants.{Rank, Summary, Fx, Off, OffTriangles}
-use Rattle.qh_model.specs.headline.Vector.{Vector}
-use Rattle.qh_model.specs.headline.Predicates.{place}
-use Rattle.qh_model.specs.headline.Limits.{IsCoordinate}
-use Rattle.qh_model.specs.headline.PointFile.{coordinates}
-use Rattle.qh_model.specs.headline.OffFile.{ReadsOff}
-use Rattle.qh_model.specs.headline.Hull.{HullValue, IsHull}
+use Rattle.qh_model.specs.headline.{Vector.Vector, Predicates.place, Limits.IsCoordinate, PointFile.coordinates, OffFile.ReadsOff, Hull.HullValue, Hull.IsHull}
 use Rattle.qh_model.specs.headline.Text.{output_text, IsText}
 
 -- the points can be read: there are some, not too many, and each is in range

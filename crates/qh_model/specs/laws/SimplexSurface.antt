@@ -1,10 +1,7 @@
 -- The first surface: the four facets of a tetrahedron.
 use Rattle.std.specs.Prelude.{◌≡◌, ℕ, ◌⊎◌, [], ◌∷◌, pos, ◌<ℤ◌}
-use Rattle.qh_model.specs.headline.Sets.{In}
-use Rattle.qh_model.specs.contract.Surface.{Surface, IsCorner, rise}
-use Rattle.qh_model.specs.contract.Weighted.{Weighted}
-use Rattle.qh_model.specs.contract.Surface.Side.{first, second, third}
-use Rattle.qh_model.specs.contract.Simplex.{by_side, one_of}
+use Rattle.qh_model.specs.contract.{Surface.Surface, Surface.IsCorner, Surface.rise, Weighted.Weighted, Simplex.by_side, Simplex.one_of}
+use Rattle.qh_model.specs.{contract.Surface.Side.first, contract.Surface.Side.second, contract.Surface.Side.third, headline.Sets.In}
 
 -- each facet lacks one id, strictly below it, and has the others
 pub record IsSimplexBoundary (m : Surface) (home : ℕ → Weighted) : Type 0 where

@@ -1,15 +1,11 @@
 -- Laws of sound surfaces: the facets that a walk finds, and the facts that stay true if a cone replaces the facets that see a point.
 use Rattle.std.specs.Prelude.{◌≡◌, ℕ, ◌⊎◌, Bool, true, pos, ◌≤ℤ◌, ◌<ℤ◌}
-use Rattle.qh_model.specs.headline.Predicates.{vol}
-use Rattle.qh_model.specs.laws.Horizons.{IsWalked, HasHorizonSide, IsConeUnseen}
-use Rattle.qh_model.specs.contract.Rewired.{IsHorizonSide, IsRewired}
-use Rattle.qh_model.specs.headline.Sets.{In}
-use Rattle.qh_model.specs.laws.SimplexSurface.{IsSimplexBoundary, simplex_surface}
-use Rattle.qh_model.specs.contract.SoundSurface.{IsInner, IsSound}
+use Rattle.qh_model.specs.contract.{Rewired.IsHorizonSide, Rewired.IsRewired, SoundSurface.IsInner, SoundSurface.IsSound}
 use Rattle.qh_model.specs.contract.Surface.{Side, Surface, start, end, IsCorner, IsWhole, Sees, IsBlindTo}
-use Rattle.qh_model.specs.laws.UnseenPoints.{IsUnseen}
-use Rattle.qh_model.specs.headline.Vector.{Vector}
 use Rattle.qh_model.specs.contract.Weighted.{Weighted, weighted, middle_of, above}
+use Rattle.qh_model.specs.headline.{Predicates.vol, Sets.In, Vector.Vector}
+use Rattle.qh_model.specs.laws.Horizons.{IsWalked, HasHorizonSide, IsConeUnseen}
+use Rattle.qh_model.specs.laws.{SimplexSurface.IsSimplexBoundary, SimplexSurface.simplex_surface, UnseenPoints.IsUnseen}
 
 -- for points of space `above` is their volume
 abbrev pub RiseIsVol : Type 0

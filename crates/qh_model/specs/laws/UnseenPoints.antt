@@ -1,8 +1,6 @@
 -- Points that no facet sees, and facts about all corners.
 use Rattle.std.specs.Prelude.{ℕ}
-use Rattle.qh_model.specs.headline.Sets.{In}
-use Rattle.qh_model.specs.contract.Weighted.{Weighted}
-use Rattle.qh_model.specs.contract.Surface.{IsBlindTo, IsCorner, Surface}
+use Rattle.qh_model.specs.{contract.Weighted.Weighted, contract.Surface.IsBlindTo, contract.Surface.IsCorner, contract.Surface.Surface, headline.Sets.In}
 
 -- no live facet sees y
 abbrev pub IsUnseen : Surface → (ℕ → Weighted) → Weighted → Type 0

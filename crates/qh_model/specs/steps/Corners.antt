@@ -1,7 +1,6 @@
 -- The ids that a polygon stores.
 use Rattle.std.specs.Prelude.{ℕ, List}
-use Rattle.qh_model.specs.declared.polygon.Corners.{Corners}
-use Rattle.qh_model.specs.declared.polygon.Corners.TheVariants.{Three, Four, Listed}
+use Rattle.qh_model.specs.declared.polygon.Corners.{Corners, TheVariants.Three, TheVariants.Four, TheVariants.Listed}
 
 -- the ids in order
 abbrev pub ids_of : Corners → List ℕ

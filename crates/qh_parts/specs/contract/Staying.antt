@@ -2,16 +2,11 @@
 -- This project's own.
 use Rattle.std.specs.Prelude.{ℕ, ◌++◌, List, Bool}
 use Rattle.std.specs.List.{flat_map}
-use Rattle.qh_model.specs.headline.Vector.{Vector}
-use Rattle.qh_model.specs.headline.Predicates.{place}
-use Rattle.qh_model.specs.headline.Sets.{In, Members}
-use Rattle.qh_model.specs.contract.ClosedPolygons.{AreClosed}
-use Rattle.qh_model.specs.contract.IdSets.{HasDistinctPoints}
-use Rattle.qh_model.specs.contract.StoredSurface.{surface_of}
+use Rattle.qh_model.specs.{contract.ClosedPolygons.AreClosed, contract.IdSets.HasDistinctPoints, contract.StoredSurface.surface_of, headline.Vector.Vector}
+use Rattle.qh_model.specs.headline.{Predicates.place, Sets.In, Sets.Members}
 use Rattle.qh_surface.specs.contract.NamedMeshes.{named}
 use Rattle.qh_laws.specs.contract.Seam.{IsSeam, IsStrictRing}
-use Rattle.qh_parts_join.specs.declared.parts.Part.{Part}
-use Rattle.qh_parts_join.specs.contract.Parts.{ids_in, KeepsCorners}
+use Rattle.qh_parts_join.specs.{contract.Parts.ids_in, contract.Parts.KeepsCorners, declared.parts.Part.Part}
 
 -- a part whose marked facets stay when the corners of the other parts are added
 pub record IsStayingPart (pts : List Vector) (shared : List ℕ) (parts : List Part) (p : Part) (stay : ℕ → Bool) : Type 0 where

@@ -1,10 +1,7 @@
 -- The condition on a part, for one other part.
 -- This project's own.
 use Rattle.std.specs.Prelude.{ℕ, List, Bool}
-use Rattle.qh_model.specs.headline.Vector.{Vector}
-use Rattle.qh_model.specs.headline.Predicates.{place}
-use Rattle.qh_model.specs.headline.Sets.{Members}
-use Rattle.qh_model.specs.contract.StoredSurface.{surface_of}
+use Rattle.qh_model.specs.{contract.StoredSurface.surface_of, headline.Vector.Vector, headline.Predicates.place, headline.Sets.Members}
 use Rattle.qh_surface.specs.contract.NamedMeshes.{named}
 use Rattle.qh_laws.specs.contract.Seam.{IsSeam}
 use Rattle.qh_parts_join.specs.declared.parts.Part.{Part}

@@ -1,15 +1,10 @@
 -- Faces that the parts of a set contribute.
 -- This project's own.
-use Rattle.std.specs.Prelude.{ℕ, List}
-use Rattle.std.specs.List.{flat_map}
-use Rattle.qh_model.specs.headline.{Vector.Vector, Predicates.place, Sets.In, Sets.Members}
-use Rattle.qh_model.specs.contract.IdSets.{HasDistinctPoints}
+use Rattle.std.specs.{Prelude.ℕ, Prelude.List, List.flat_map}
+use Rattle.qh_model.specs.{contract.IdSets.HasDistinctPoints, headline.Vector.Vector, headline.Predicates.place, headline.Sets.In, headline.Sets.Members}
 use Rattle.qh_laws.specs.contract.Parts.{IsPartFace}
-use Rattle.qh_parts_join.specs.declared.parts.Part.{Part}
-use Rattle.qh_parts.specs.declared.given.Contribution.{Contribution}
-use Rattle.qh_parts.specs.declared.given.Given.{Given}
-use Rattle.qh_parts_join.specs.contract.Parts.{ids_in, KeepsCorners}
-use Rattle.qh_parts.specs.contract.Staying.{CloseUp}
+use Rattle.qh_parts_join.specs.{contract.Parts.ids_in, contract.Parts.KeepsCorners, declared.parts.Part.Part}
+use Rattle.qh_parts.specs.{contract.Staying.CloseUp, declared.given.Contribution.Contribution, declared.given.Given.Given}
 
 -- each polygon is that of a facet that stays in a part, for every set that has the ids of all parts
 abbrev pub AreGiven : List Vector → List ℕ → List Part → List (List ℕ) → Type 0

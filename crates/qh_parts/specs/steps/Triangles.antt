@@ -1,9 +1,7 @@
 -- Points between a triangle and the middle of four points.
 -- This project's own.
 use Rattle.std.specs.Prelude.{ℕ, ◌≡◌, List, ℤ, pos, ◌+ℤ◌, ◌≤ℤ◌, ◌<ℤ◌}
-use Rattle.qh_model.specs.headline.Vector.{Vector}
-use Rattle.qh_model.specs.headline.Predicates.{place, vol}
-use Rattle.qh_model.specs.headline.Sets.{In}
+use Rattle.qh_model.specs.headline.{Vector.Vector, Predicates.place, Predicates.vol, Sets.In}
 use Rattle.qh_parts.specs.declared.seam.triangles.Four.{Four}
 
 -- four times the volume of a tetrahedron with the middle of four points

@@ -1,13 +1,10 @@
 -- Facts about the points of other parts that witnesses and a tested ring show.
 -- This project's own.
 use Rattle.std.specs.Prelude.{ℕ, ◌≡◌, ◌⊎◌, List, Bool, pos, ◌<ℤ◌}
-use Rattle.qh_model.specs.headline.Vector.{Vector}
-use Rattle.qh_model.specs.headline.Sets.{In}
-use Rattle.qh_model.specs.contract.Surface.{Surface}
+use Rattle.qh_model.specs.{contract.Surface.Surface, headline.Vector.Vector, headline.Sets.In}
 use Rattle.qh_pred.specs.contract.Planes.{PlaneValue, height}
 use Rattle.qh_laws.specs.contract.Seam.{height_over, SeesGone, IsRing}
-use Rattle.qh_parts.specs.declared.seam.triangles.Four.{Four}
-use Rattle.qh_parts.specs.steps.Triangles.{IsInCone}
+use Rattle.qh_parts.specs.{declared.seam.triangles.Four.Four, steps.Triangles.IsInCone}
 
 -- p is above a facet that does not stay, or between a facet and the middle of four points
 abbrev pub IsAnswered : (ℕ → Vector) → Surface → (ℕ → Bool) → Four → Vector → Type 0

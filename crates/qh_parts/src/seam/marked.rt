@@ -1,7 +1,6 @@
 //! The finished mesh of a part, with marks of the facets that stay.
 ghost use Rattle.std.specs.Prelude.{◌≡◌, ◌<◌, length};
-ghost use Rattle.qh_model.specs.headline.Predicates.{place};
-ghost use Rattle.qh_model.specs.contract.StoredSurface.{facet_at};
+ghost use Rattle.qh_model.specs.{contract.StoredSurface.facet_at, headline.Predicates.place};
 ghost use Rattle.qh_mesh.specs.contract.Replacement.{IsLive};
 ghost use Rattle.qh_surface.specs.contract.NamedMeshes.{named, IsNamedMesh};
 

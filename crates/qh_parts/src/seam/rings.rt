@@ -1,16 +1,11 @@
 //! The ring: the facets that stay and have a removed neighbour.
 ghost use Rattle.std.specs.Prelude.{◌≡◌, ◌<◌, ◌↔◌, ◌⊎◌, ◌++◌, ◌∷◌, [], ℕ, List, map, IfOk, OnOk, IsTrue, false};
-ghost use Rattle.qh_model.specs.headline.Predicates.{place};
-ghost use Rattle.qh_model.specs.headline.Sets.{In};
-ghost use Rattle.qh_model.specs.contract.StoredSurface.{surface_of};
-ghost use Rattle.qh_mesh.specs.contract.Edges.{nth_side};
-ghost use Rattle.qh_mesh.specs.contract.Replacement.{IsLive};
+ghost use Rattle.qh_model.specs.{contract.StoredSurface.surface_of, headline.Predicates.place, headline.Sets.In};
+ghost use Rattle.qh_mesh.specs.contract.{Edges.nth_side, Replacement.IsLive};
 ghost use Rattle.qh_places.specs.contract.Places.{ArePlaces};
-ghost use Rattle.qh_surface.specs.contract.NamedMeshes.{named};
-ghost use Rattle.qh_surface.specs.contract.Walks.{mark_at};
+ghost use Rattle.qh_surface.specs.contract.{NamedMeshes.named, Walks.mark_at};
 ghost use Rattle.qh_laws.specs.contract.Seam.{IsRing};
-ghost use Rattle.qh_parts.specs.steps.RingKeys.{facet_in};
-ghost use Rattle.qh_parts.specs.steps.Witnesses.{AreUnder, HasPlane};
+ghost use Rattle.qh_parts.specs.steps.{RingKeys.facet_in, Witnesses.AreUnder, Witnesses.HasPlane};
 
 use crate::seam::marked::Marked;
 use qh_mesh::FacetNo;

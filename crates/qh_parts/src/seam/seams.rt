@@ -1,12 +1,9 @@
 //! Seams of a marked part to the corners of another.
 ghost use Rattle.std.specs.Prelude.{◌<◌, ℕ, List, IfOk, IsTrue};
-ghost use Rattle.qh_model.specs.headline.Predicates.{place};
-ghost use Rattle.qh_model.specs.headline.Sets.{In};
-ghost use Rattle.qh_model.specs.contract.StoredSurface.{surface_of};
+ghost use Rattle.qh_model.specs.{contract.StoredSurface.surface_of, headline.Predicates.place, headline.Sets.In};
 ghost use Rattle.qh_mesh.specs.contract.Replacement.{IsLive};
 ghost use Rattle.qh_places.specs.contract.Places.{ArePlaces};
-ghost use Rattle.qh_surface.specs.contract.NamedMeshes.{named};
-ghost use Rattle.qh_surface.specs.contract.Walks.{mark_at};
+ghost use Rattle.qh_surface.specs.contract.{NamedMeshes.named, Walks.mark_at};
 ghost use Rattle.qh_parts.specs.steps.Witnesses.{AreUnder, IsAnswered};
 
 use crate::seam::marked::Marked;

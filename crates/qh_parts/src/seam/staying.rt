@@ -1,13 +1,12 @@
 //! The faces that a part contributes: those of its facets that stay when the corners of the other parts are added.
 ghost use Rattle.std.specs.Prelude.{◌≡◌, ◌<◌, ℕ, List, IfOk, IfSome, IsTrue, length, slice_index_or};
 ghost use Rattle.std.specs.List.{All, flat_map};
-ghost use Rattle.qh_model.specs.headline.Predicates.{place};
+ghost use Rattle.qh_model.specs.{contract.IdSets.HasDistinctPoints, headline.Predicates.place};
 ghost use Rattle.qh_model.specs.headline.Sets.{In, Members};
-ghost use Rattle.qh_model.specs.contract.IdSets.{HasDistinctPoints};
 ghost use Rattle.qh_surface.specs.contract.Walks.{mark_at};
 ghost use Rattle.qh_laws.specs.contract.Parts.{IsPartFace};
-ghost use Rattle.qh_parts_join.specs.declared.parts.Part.{Part};
 ghost use Rattle.qh_parts_join.specs.contract.Parts.{ids_in, KeepsCorners, IsPartOf};
+ghost use Rattle.qh_parts_join.specs.declared.parts.Part.{Part};
 ghost use Rattle.qh_parts.specs.contract.Staying.{IsStayingPart, CloseUp};
 
 use crate::seam::marked::Marked;

@@ -1,8 +1,6 @@
 //! Triangles of points: their planes, and the space between a triangle and the middle of four points.
 ghost use Rattle.std.specs.Prelude.{◌≡◌, pos, ◌+ℤ◌, ◌≤ℤ◌, IfSome, IsTrue, false};
-ghost use Rattle.qh_model.specs.headline.Vector.{Vector};
-ghost use Rattle.qh_model.specs.headline.Predicates.{vol};
-ghost use Rattle.qh_model.specs.contract.IdSets.{AreIndices};
+ghost use Rattle.qh_model.specs.{contract.IdSets.AreIndices, headline.Vector.Vector, headline.Predicates.vol};
 ghost use Rattle.qh_pred.specs.contract.Planes.{height};
 ghost use Rattle.qh_parts.specs.steps.Triangles.{four_vols, IsFourOf, IsInCone};
 

@@ -1,14 +1,10 @@
 //! Witnesses: a facet for each point of the other parts, which shows that no facet that stays needs a test with it.
 ghost use Rattle.std.specs.Prelude.{◌≡◌, ◌<◌, ◌⊎◌, IsTrue, pos, ◌<ℤ◌, true, false};
-ghost use Rattle.qh_model.specs.headline.Vector.{Vector};
-ghost use Rattle.qh_model.specs.headline.Predicates.{place, vol};
-ghost use Rattle.qh_model.specs.headline.Sets.{In};
-ghost use Rattle.qh_model.specs.contract.StoredSurface.{surface_of};
-ghost use Rattle.qh_surface.specs.contract.NamedMeshes.{named};
-ghost use Rattle.qh_surface.specs.contract.Walks.{mark_at};
+ghost use Rattle.qh_model.specs.{contract.StoredSurface.surface_of, headline.Vector.Vector};
+ghost use Rattle.qh_model.specs.headline.{Predicates.place, Predicates.vol, Sets.In};
+ghost use Rattle.qh_surface.specs.contract.{NamedMeshes.named, Walks.mark_at};
 ghost use Rattle.qh_pred.specs.contract.Planes.{height};
-ghost use Rattle.qh_parts.specs.steps.Triangles.{IsInCone};
-ghost use Rattle.qh_parts.specs.steps.Witnesses.{IsAnswered};
+ghost use Rattle.qh_parts.specs.steps.{Triangles.IsInCone, Witnesses.IsAnswered};
 
 use crate::seam::marked::Marked;
 use crate::seam::triangles::{Four, Triangle};

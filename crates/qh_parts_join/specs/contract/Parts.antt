@@ -1,14 +1,9 @@
 -- Parts of a set, as the program stores them.
 -- This project's own.
 use Rattle.std.specs.Prelude.{ℕ, ◌⊎◌, ◌↔◌, ◌<◌, List, length}
-use Rattle.std.specs.List.{flat_map}
-use Rattle.std.specs.List.Sorted.{IsStrictlyIncreasing}
-use Rattle.qh_model.specs.headline.Vector.{Vector}
-use Rattle.qh_model.specs.headline.Predicates.{place}
-use Rattle.qh_model.specs.headline.Sets.{In}
-use Rattle.qh_model.specs.contract.FinishedSurface.{IsFinished}
-use Rattle.qh_model.specs.contract.Surface.{IsCorner}
-use Rattle.qh_model.specs.contract.StoredSurface.{surface_of}
+use Rattle.std.specs.List.{flat_map, Sorted.IsStrictlyIncreasing}
+use Rattle.qh_model.specs.{contract.FinishedSurface.IsFinished, contract.Surface.IsCorner, contract.StoredSurface.surface_of, headline.Vector.Vector}
+use Rattle.qh_model.specs.headline.{Predicates.place, Sets.In}
 use Rattle.qh_surface.specs.contract.NamedMeshes.{named, IsNamedMesh}
 use Rattle.qh_places.specs.contract.Places.{ArePlaces}
 use Rattle.qh_parts_join.specs.declared.parts.Part.{Part}

@@ -4,10 +4,8 @@
 //! A plane is tested against the own corners of each part by their blocks. The planes of consecutive polygons are
 //! tested together.
 ghost use Rattle.std.specs.Prelude.{◌≡◌, ◌++◌, ◌<◌, ◌↔◌, ℕ, List, IfOk, IfSome, IsTrue, Ok, length, map, pos, true};
-ghost use Rattle.std.specs.List.{All, flat_map};
-ghost use Rattle.std.specs.List.Sorted.{IsStrictlyIncreasing};
-ghost use Rattle.qh_model.specs.headline.Vector.{Vector};
-ghost use Rattle.qh_model.specs.contract.IdSets.{AreIndices};
+ghost use Rattle.std.specs.List.{All, flat_map, Sorted.IsStrictlyIncreasing};
+ghost use Rattle.qh_model.specs.{contract.IdSets.AreIndices, headline.Vector.Vector};
 ghost use Rattle.qh_places.specs.contract.Places.{AreLevel};
 ghost use Rattle.qh_pred.specs.contract.Planes.{height};
 ghost use Rattle.qh_parts_join.specs.contract.Kept.{held_in, ArePlaced, AreHeld};

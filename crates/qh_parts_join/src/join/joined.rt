@@ -3,8 +3,7 @@ ghost use Rattle.std.specs.Prelude.{◌≡◌, ◌↔◌, ◌++◌, IfOk, IfSome
 ghost use Rattle.std.specs.List.{All};
 ghost use Rattle.qh_model.specs.headline.Polygons.{RiseStrictly};
 ghost use Rattle.qh_bodies.specs.contract.Borders.{HaveOneBorder};
-ghost use Rattle.qh_parts_join.specs.contract.Joined.{IsBodyOfJoined};
-ghost use Rattle.qh_parts_join.specs.steps.Bridges.{IsBridge};
+ghost use Rattle.qh_parts_join.specs.{contract.Joined.IsBodyOfJoined, steps.Bridges.IsBridge};
 ghost use Rattle.qh_parts_join.specs.steps.JoinedFaces.{IsBodyOfFaces};
 
 use crate::join::bridges::are_bridges;

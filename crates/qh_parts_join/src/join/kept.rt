@@ -1,6 +1,5 @@
 //! The kept ids of a set in parts: the own corners of each part, and the ids that all parts share.
-ghost use Rattle.std.specs.Prelude.{◌≡◌, IfOk, map};
-ghost use Rattle.std.specs.List.{All};
+ghost use Rattle.std.specs.{Prelude.◌≡◌, Prelude.IfOk, Prelude.map, List.All};
 ghost use Rattle.qh_model.specs.contract.IdSets.{AreIndices};
 ghost use Rattle.qh_parts_join.specs.contract.Kept.{places_of, ArePlaced};
 

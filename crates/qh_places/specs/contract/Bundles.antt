@@ -2,8 +2,7 @@
 -- This project's own.
 use Rattle.std.specs.Prelude.{ℤ, pos, ◌+ℤ◌, ◌*ℤ◌, ◌≤ℤ◌, ◌<ℤ◌}
 use Rattle.qh_model.specs.headline.Vector.{Vector}
-use Rattle.qh_pred.specs.contract.Planes.{PlaneValue, height}
-use Rattle.qh_pred.specs.contract.Ranges.{IsBetween}
+use Rattle.qh_pred.specs.contract.{Planes.PlaneValue, Planes.height, Ranges.IsBetween}
 use Rattle.qh_places.specs.declared.bundles.Bundle.{Bundle}
 
 -- the components are within the spans of a bundle

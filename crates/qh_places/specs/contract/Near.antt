@@ -3,10 +3,7 @@
 use Rattle.std.specs.Prelude.{ℕ, ◌+◌, ◌<◌, ◌≤◌, List, length, ℤ, pos, ◌<ℤ◌, slice_index_or}
 use Rattle.qh_model.specs.headline.Vector.{Vector, origin}
 use Rattle.qh_pred.specs.contract.Planes.{PlaneValue, height}
-use Rattle.qh_places.specs.declared.bundles.Bundle.{Bundle}
-use Rattle.qh_places.specs.declared.places.TheConstants.{LEAF}
-use Rattle.qh_places.specs.declared.places.Near.{Near}
-use Rattle.qh_places.specs.contract.Bundles.{IsOfBundle}
+use Rattle.qh_places.specs.{contract.Bundles.IsOfBundle, declared.bundles.Bundle.Bundle, declared.places.TheConstants.LEAF, declared.places.Near.Near}
 
 -- the height of the point at a position above a plane
 abbrev pub rise_at : List Vector → PlaneValue → ℕ → ℤ

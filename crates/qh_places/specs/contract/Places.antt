@@ -1,8 +1,6 @@
 -- The ids of a set in some order with their points, and the ids that a plane finds among them.
 use Rattle.std.specs.Prelude.{ℕ, ◌≡◌, ◌↔◌, List, map, pos, ◌≤ℤ◌, ◌<ℤ◌}
-use Rattle.qh_model.specs.headline.Vector.{Vector}
-use Rattle.qh_model.specs.headline.Predicates.{place}
-use Rattle.qh_model.specs.headline.Sets.{In}
+use Rattle.qh_model.specs.headline.{Vector.Vector, Predicates.place, Sets.In}
 use Rattle.qh_pred.specs.contract.Planes.{PlaneValue, height}
 use Rattle.qh_places.specs.declared.places.Places.{Places}
 

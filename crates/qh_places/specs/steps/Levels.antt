@@ -1,14 +1,9 @@
 -- Blocks of consecutive positions of a list of points, and the results of testing blocks and points against a plane.
 use Rattle.std.specs.Prelude.{ℕ, ◌≡◌, ◌+◌, ◌-◌, ◌*◌, ◌^◌, ◌<◌, ◌≤◌, List, length, pos, ◌≤ℤ◌, ◌<ℤ◌, slice_index_or}
-use Rattle.qh_model.specs.headline.Vector.{Vector, origin}
-use Rattle.qh_model.specs.headline.Sets.{In}
+use Rattle.qh_model.specs.headline.{Vector.Vector, Vector.origin, Sets.In}
 use Rattle.qh_pred.specs.contract.Planes.{PlaneValue}
-use Rattle.qh_places.specs.declared.slabs.Block.{Block}
-use Rattle.qh_places.specs.declared.bundles.Bundle.{Bundle}
-use Rattle.qh_places.specs.declared.levels.Level.{Level}
-use Rattle.qh_places.specs.contract.Bundles.{IsOfBundle}
-use Rattle.qh_places.specs.contract.Near.{rise_at, IsBegun}
-use Rattle.qh_places.specs.steps.Slabs.{IsBlockOf}
+use Rattle.qh_places.specs.{contract.Bundles.IsOfBundle, contract.Near.rise_at, contract.Near.IsBegun, declared.bundles.Bundle.Bundle}
+use Rattle.qh_places.specs.{declared.levels.Level.Level, declared.slabs.Block.Block, steps.Slabs.IsBlockOf}
 
 -- each block has the points of its positions
 abbrev pub AreBlocks : List Vector → ℕ → List Block → Type 0

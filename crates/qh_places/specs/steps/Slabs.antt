@@ -1,9 +1,7 @@
 -- Blocks of points below a plane across a direction.
 use Rattle.std.specs.Prelude.{ℕ, ◌≤◌, ◌<◌, List, length, pos, ◌-ℤ◌, ◌*ℤ◌, ◌≤ℤ◌, slice_index_or}
 use Rattle.qh_model.specs.headline.Vector.{Vector, origin, dot}
-use Rattle.qh_places.specs.declared.slabs.Direction.{Direction}
-use Rattle.qh_places.specs.declared.slabs.Block.{Block}
-use Rattle.qh_places.specs.steps.Boxes.{IsWithin}
+use Rattle.qh_places.specs.{declared.slabs.Direction.Direction, declared.slabs.Block.Block, steps.Boxes.IsWithin}
 
 -- a direction as a vector
 abbrev pub vector_of : Direction → Vector

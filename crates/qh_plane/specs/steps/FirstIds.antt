@@ -1,18 +1,9 @@
 -- The first points in slots. Only private functions cite them.
 use Rattle.std.specs.Prelude.{ℕ, ◌≡◌, ◌+◌, ◌<◌, ◌⊎◌, ◌↔◌, List, Option, Result, Vec, IfOk, IfSome, length, slice_index_or}
-use Rattle.std.specs.List.{All}
-use Rattle.std.specs.List.Sorted.{IsStrictlyIncreasing}
-use Rattle.std.specs.declared.alloc.{AllocError.AllocError, Global.Global}
-use Rattle.qh_model.specs.headline.Vector.{Vector}
-use Rattle.qh_model.specs.headline.Predicates.{place}
-use Rattle.qh_model.specs.headline.Sets.{In}
-use Rattle.qh_model.specs.headline.DistinctIds.{IsDistinctId}
-use Rattle.qh_plane.specs.declared.close_points.CloseBox.{CloseBox}
-use Rattle.qh_plane.specs.declared.first_ids.FirstIds.{FirstIds}
-use Rattle.qh_plane.specs.declared.first_ids.TheConstants.{NO_ID}
-use Rattle.qh_plane.specs.steps.CloseBoxes.{slot_of}
-use Rattle.qh_plane.specs.steps.Pieces.{end_of}
-use Rattle.qh_plane.specs.steps.Repeats.{IsRepeatedId}
+use Rattle.std.specs.{List.All, List.Sorted.IsStrictlyIncreasing, declared.alloc.AllocError.AllocError, declared.alloc.Global.Global}
+use Rattle.qh_model.specs.headline.{Vector.Vector, Predicates.place, Sets.In, DistinctIds.IsDistinctId}
+use Rattle.qh_plane.specs.declared.{close_points.CloseBox.CloseBox, first_ids.FirstIds.FirstIds, first_ids.TheConstants.NO_ID}
+use Rattle.qh_plane.specs.steps.{CloseBoxes.slot_of, Pieces.end_of, Repeats.IsRepeatedId}
 
 -- the content of a slot
 abbrev pub slot_at : List ℕ → ℕ → ℕ

@@ -1,9 +1,7 @@
 -- Points that are equal to an earlier one in a list. Only private functions cite them.
 use Rattle.std.specs.Prelude.{ℕ, ◌≡◌, ◌<◌, List, Bool, true, false, Option, Result, Vec, IfOk, IfSome, length, slice_index_or}
 use Rattle.std.specs.declared.alloc.{AllocError.AllocError, Global.Global}
-use Rattle.qh_model.specs.headline.Predicates.{place}
-use Rattle.qh_model.specs.headline.Sets.{In}
-use Rattle.qh_model.specs.headline.Vector.{Vector}
+use Rattle.qh_model.specs.headline.{Predicates.place, Sets.In, Vector.Vector}
 use Rattle.qh_plane.specs.steps.HashedKeys.{AllHashes, PartHashes, WithHashes}
 
 -- a lower id has the same point

@@ -2,8 +2,7 @@
 use Rattle.std.specs.Prelude.{ℕ, pos, ◌≡◌, ◌⊎◌, List}
 use Rattle.qh_model.specs.contract.IdSets.{IsIdSet}
 use Rattle.qh_model.specs.headline.Predicates.{cross, vol, AreInLine, place}
-use Rattle.qh_model.specs.headline.Sets.{In}
-use Rattle.qh_model.specs.headline.Vector.{Vector, origin, minus}
+use Rattle.qh_model.specs.headline.{Sets.In, Vector.Vector, Vector.origin, Vector.minus}
 
 -- rising ids of distinct points in one plane and not in one line; n is the normal of three of them, or its opposite
 pub record IsPlanarSet (pts : List Vector) (ids : List ℕ) (n : Vector) : Type 0 where

@@ -1,7 +1,6 @@
 -- The shape of a list of ids: its first ids that are not all in one line, and not all in one plane.
 use Rattle.std.specs.Prelude.{◌≡◌, ℕ, ◌<◌, pos, List, length, slice_index}
-use Rattle.qh_model.specs.headline.Vector.{Vector}
-use Rattle.qh_model.specs.headline.Predicates.{vol, AreInLine, place}
+use Rattle.qh_model.specs.headline.{Vector.Vector, Predicates.vol, Predicates.AreInLine, Predicates.place}
 use Rattle.qh_polygon.specs.declared.shape.Shape.{Shape}
 use Rattle.qh_polygon.specs.declared.shape.Shape.TheVariants.{Point, Segment, Flat, Solid}
 

@@ -2,9 +2,7 @@
 -- Source: Andrew's monotone chain (1979), after Graham's scan.
 use Rattle.std.specs.Prelude.{◌≡◌, ℕ, ℤ, List, [], ◌∷◌, Bool, true, false, cond, not, ◌&&◌, ◌↔◌}
 use Rattle.std.specs.Ordering.{is_gt}
-use Rattle.qh_model.specs.headline.Predicates.{place, cross}
-use Rattle.qh_model.specs.headline.Sets.{In}
-use Rattle.qh_model.specs.headline.Vector.{Vector}
+use Rattle.qh_model.specs.headline.{Predicates.place, Predicates.cross, Sets.In, Vector.Vector}
 use Rattle.qh_pred.specs.contract.Turns.{sign, first_product}
 
 -- the turn of three ids about a normal, computed from one component of the normal

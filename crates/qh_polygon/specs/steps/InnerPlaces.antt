@@ -1,8 +1,6 @@
 -- Points that the interior filter finds inside a set in one plane, to the left of all sides of a cycle. Only private functions cite them.
 use Rattle.std.specs.Prelude.{◌≡◌, ◌<◌, ℕ, ℤ, pos, ◌<ℤ◌, List, [], ◌∷◌, Bool, false, not, ◌&&◌, length}
-use Rattle.qh_model.specs.contract.IdSets.{IsIdSet}
-use Rattle.qh_model.specs.headline.Predicates.{place}
-use Rattle.qh_model.specs.headline.Sets.{In}
+use Rattle.qh_model.specs.{contract.IdSets.IsIdSet, headline.Predicates.place, headline.Sets.In}
 use Rattle.qh_model.specs.headline.Vector.{Vector, minus, dot}
 use Rattle.qh_polygon.specs.steps.Chains.{is_left}
 

@@ -2,8 +2,7 @@
 use Rattle.std.specs.Prelude.{ℕ, ◌%◌, ◌≡◌, List, map, IsPermutation}
 use Rattle.std.specs.List.Sorted.{IsNonDecreasing}
 use Rattle.qh_model.specs.headline.Vector.{Vector}
-use Rattle.qh_polygon.specs.contract.PlaceKeys.{key_at}
-use Rattle.qh_polygon.specs.declared.place_keys.TheConstants.{ROOM}
+use Rattle.qh_polygon.specs.{contract.PlaceKeys.key_at, declared.place_keys.TheConstants.ROOM}
 
 -- the ids in keys
 abbrev pub ids_in : List ℕ → List ℕ

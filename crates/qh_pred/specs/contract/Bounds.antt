@@ -1,7 +1,6 @@
 -- The greatest sizes of a difference and a cross product of points. They follow from the limit of coordinates.
 use Rattle.std.specs.Prelude.{ℕ, ◌*◌, ◌≤◌, unsigned_abs}
-use Rattle.qh_model.specs.declared.limits.TheConstants.{COORDINATE_LIMIT}
-use Rattle.qh_model.specs.headline.Vector.{Vector}
+use Rattle.qh_model.specs.{declared.limits.TheConstants.COORDINATE_LIMIT, headline.Vector.Vector}
 
 -- the greatest absolute value of a difference of two coordinates
 abbrev pub difference_limit : ℕ

@@ -1,7 +1,6 @@
 -- Turns in a plane, determined by one component of its normal.
 use Rattle.std.specs.Prelude.{ℤ, pos, ◌≡◌, ◌≢◌, ◌*ℤ◌, if◌then◌else◌}
-use Rattle.std.specs.Ordering.{int_cmp, int_eq}
-use Rattle.std.specs.declared.cmp.Ordering.{Ordering}
+use Rattle.std.specs.{Ordering.int_cmp, Ordering.int_eq, declared.cmp.Ordering.Ordering}
 use Rattle.qh_model.specs.headline.Vector.{Vector, origin, minus, dot}
 
 -- the order of a number relative to 0

@@ -1,11 +1,8 @@
 -- The invariant of a plane of the program.
 use Rattle.std.specs.Prelude.{ℤ, ◌≤◌, unsigned_abs, refl}
 use Rattle.std.specs.Coded.{Coded, code_by, coded×, coded_ℤ}
-use Rattle.qh_model.specs.headline.Vector.{Vector}
-use Rattle.qh_model.specs.contract.Places.{vector_code}
-use Rattle.qh_pred.specs.steps.Differences.{offset_limit}
-use Rattle.qh_pred.specs.contract.Bounds.{IsNormal}
-use Rattle.qh_pred.specs.contract.Planes.{PlaneValue}
+use Rattle.qh_model.specs.{contract.Places.vector_code, headline.Vector.Vector}
+use Rattle.qh_pred.specs.{contract.Bounds.IsNormal, contract.Planes.PlaneValue, steps.Differences.offset_limit}
 
 -- the plane is within the limits of normals and offsets
 pub record IsPlane (plane : PlaneValue) : Type 0 where

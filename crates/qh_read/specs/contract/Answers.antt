@@ -1,14 +1,10 @@
 -- The answer of a call that reads a whole input.
 use Rattle.std.specs.Prelude.{ℕ, ◌≡◌, ◌≢◌, ◌≤◌, ◌<◌, ◌+◌, List, Option, Result, Err, Vec, IfOk, IfErr, length}
 use Rattle.std.specs.declared.alloc.Global.{Global}
-use Rattle.qh_model.specs.declared.form.Form.{Form}
-use Rattle.qh_model.specs.declared.limits.TheConstants.{BYTE_LIMIT}
-use Rattle.qh_model.specs.declared.read_fault.ReadFault.{ReadFault}
+use Rattle.qh_model.specs.declared.{form.Form.Form, limits.TheConstants.BYTE_LIMIT, read_fault.ReadFault.ReadFault}
 use Rattle.qh_model.specs.declared.read_fault.ReadFault.TheVariants.{Memory, Device, Big}
-use Rattle.qh_model.specs.headline.Forms.{ReadsIn, IsFirstFault}
-use Rattle.qh_model.specs.headline.Vector.{Vector}
-use Rattle.qh_read.specs.contract.ReadFaults.{IsFaultOf, IsTextFault}
-use Rattle.qh_read.specs.declared.whole.TheConstants.{PIECE_LENGTH}
+use Rattle.qh_model.specs.headline.{Forms.ReadsIn, Forms.IsFirstFault, Vector.Vector}
+use Rattle.qh_read.specs.{contract.ReadFaults.IsFaultOf, contract.ReadFaults.IsTextFault, declared.whole.TheConstants.PIECE_LENGTH}
 use Rattle.qh_read.specs.headline.SourceBytes.{Gives, GivesAll}
 
 -- the answer to these bytes in this form is their points or their first fault, or `Big` if there are too many

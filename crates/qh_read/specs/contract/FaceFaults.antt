@@ -1,11 +1,9 @@
 -- The first fault of words that are not faces. The order of the faults is this project's profile.
 use Rattle.std.specs.Prelude.{ℕ, ◌==◌, List, [], ◌∷◌, Option, Some, None, if◌then◌else◌, zero, suc}
-use Rattle.qh_model.specs.declared.read_fault.ReadFault.{ReadFault}
-use Rattle.qh_model.specs.declared.read_fault.ReadFault.TheVariants.{BadNumber, Long, Short}
-use Rattle.qh_read.specs.declared.numerals.Numeral.{Numeral}
-use Rattle.qh_read.specs.declared.faces.reading.Layout.{Layout}
+use Rattle.qh_model.specs.declared.read_fault.ReadFault.{ReadFault, TheVariants.BadNumber, TheVariants.Long, TheVariants.Short}
+use Rattle.qh_read.specs.{contract.FaceWords.after_line, declared.faces.reading.Layout.Layout}
 use Rattle.qh_read.specs.declared.faces.reading.Layout.TheVariants.{Off, Counted, Lines}
-use Rattle.qh_read.specs.contract.FaceWords.{after_line}
+use Rattle.qh_read.specs.declared.numerals.Numeral.{Numeral}
 
 -- the fault of a word that is not a number, or of the words after a number and its line
 abbrev pub value_fault : (ℕ → ℕ → List Numeral → Option ReadFault) → Option ℕ → ℕ → List Numeral → Option ReadFault

@@ -4,17 +4,11 @@
 use Rattle.std.specs.Prelude.{ℕ, ◌≡◌, ◌≤◌, ◌<◌, ◌*◌, ◌⊎◌, List, [], ◌∷◌, ◌++◌, length, Some}
 use Rattle.qh_model.specs.declared.limits.TheConstants.{BYTE_LIMIT}
 use Rattle.qh_model.specs.declared.form.Form.TheVariants as forms
-use Rattle.qh_model.specs.declared.read_fault.ReadFault.{ReadFault}
-use Rattle.qh_model.specs.declared.read_fault.ReadFault.TheVariants.{Big, Memory}
-use Rattle.qh_model.specs.headline.Vector.{Vector}
-use Rattle.qh_model.specs.headline.Forms.{ReadsIn, IsFirstFault}
-use Rattle.qh_read.specs.contract.Numerals.{numerals_in}
+use Rattle.qh_model.specs.declared.read_fault.ReadFault.{ReadFault, TheVariants.Big, TheVariants.Memory}
+use Rattle.qh_model.specs.headline.{Vector.Vector, Forms.ReadsIn, Forms.IsFirstFault}
+use Rattle.qh_read.specs.{contract.Numerals.numerals_in, contract.FaceFaults.list_fault, contract.FaceWords.IsList, declared.faces.reading.Layout.Layout}
+use Rattle.qh_read.specs.declared.faces.reading.{Reading.Reading, Layout.TheVariants.Off, Layout.TheVariants.Counted, Layout.TheVariants.Lines}
 use Rattle.qh_read.specs.declared.numerals.Numeral.{Numeral}
-use Rattle.qh_read.specs.declared.faces.reading.Layout.{Layout}
-use Rattle.qh_read.specs.declared.faces.reading.Layout.TheVariants.{Off, Counted, Lines}
-use Rattle.qh_read.specs.declared.faces.reading.Reading.{Reading}
-use Rattle.qh_read.specs.contract.FaceFaults.{list_fault}
-use Rattle.qh_read.specs.contract.FaceWords.{IsList}
 
 -- the list of faces of an OFF file with these vertices: its number is the third word, and the faces follow the coordinates
 pub record IsOffList (bytes : List ℕ) (vertices : List Vector) (ws : List Numeral) : Type 0 where

@@ -2,11 +2,8 @@
 -- Source: Geomview OFF (a face is its number of corners, their indices from 0, and an optional colour up to the end of the line); Qhull's options `Fv` (such
 -- faces) and `i` (a face is a line of indices, without their number).
 use Rattle.std.specs.Prelude.{ℕ, ◌≡◌, ◌==◌, List, [], ◌∷◌, ◌++◌, map, reverse, length, Some, if◌then◌else◌}
-use Rattle.qh_read.specs.declared.numerals.Numeral.{Numeral}
-use Rattle.qh_read.specs.declared.faces.reading.Layout.{Layout}
-use Rattle.qh_read.specs.declared.faces.reading.Layout.TheVariants.{Off, Counted, Lines}
-use Rattle.qh_read.specs.declared.faces.reading.Turn.{Turn}
-use Rattle.qh_read.specs.declared.faces.reading.Turn.TheVariants.{Counterclockwise, Clockwise}
+use Rattle.qh_read.specs.declared.faces.reading.{Layout.Layout, Turn.Turn, Layout.TheVariants.Off, Layout.TheVariants.Counted, Layout.TheVariants.Lines}
+use Rattle.qh_read.specs.declared.{faces.reading.Turn.TheVariants.Counterclockwise, faces.reading.Turn.TheVariants.Clockwise, numerals.Numeral.Numeral}
 
 -- the leading words that are on this line
 abbrev pub on_line : ℕ → List Numeral → List Numeral

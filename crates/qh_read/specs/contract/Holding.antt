@@ -1,11 +1,9 @@
 -- The state of a reader after the bytes so far.
 use Rattle.std.specs.Prelude.{ℕ, ◌≡◌, ◌+◌, Bool, true, false, List, [], ◌∷◌, ◌==◌, if◌then◌else◌, length}
-use Rattle.qh_model.specs.headline.Words.{is_blank, is_data}
 use Rattle.std.specs.Char.{is_ascii_digit}
-use Rattle.qh_model.specs.declared.form.Form.{Form}
-use Rattle.qh_model.specs.declared.form.Form.TheVariants.{Qhull, Off}
-use Rattle.qh_read.specs.contract.Tokens.{grown, value_of, is_keyword}
-use Rattle.qh_read.specs.contract.Progress.{Progress, started, after}
+use Rattle.qh_model.specs.declared.form.Form.{Form, TheVariants.Qhull, TheVariants.Off}
+use Rattle.qh_model.specs.headline.Words.{is_blank, is_data}
+use Rattle.qh_read.specs.contract.{Tokens.grown, Tokens.value_of, Tokens.is_keyword, Progress.Progress, Progress.started, Progress.after}
 use Rattle.qh_read.specs.declared.token.Token.{Token}
 use Rattle.qh_read.specs.declared.token.Token.TheVariants.{Empty, Sign, Digits, Keyword, Other}
 

@@ -1,10 +1,7 @@
 -- The words of a text as numbers: those of an OFF file, outside comments.
 -- Source: as for OFF files (Geomview OFF; a comment begins at any byte `#`), whose faces consist of such numbers.
 use Rattle.std.specs.Prelude.{ℕ, ℤ, pos, negsuc, List, [], ◌∷◌, ◌≢◌, map, nat_le, if◌then◌else◌, Option, Some, None}
-use Rattle.qh_model.specs.declared.limits.TheConstants.{COORDINATE_LIMIT}
-use Rattle.qh_model.specs.headline.Words.{Word}
-use Rattle.qh_model.specs.headline.Numbers.{number_of}
-use Rattle.qh_model.specs.headline.OffFile.{off_words}
+use Rattle.qh_model.specs.{declared.limits.TheConstants.COORDINATE_LIMIT, headline.Words.Word, headline.Numbers.number_of, headline.OffFile.off_words}
 use Rattle.qh_read.specs.declared.numerals.Numeral.{Numeral}
 
 -- a number from 0 to the limit

@@ -1,14 +1,9 @@
 -- The progress of the words through the file.
 use Rattle.std.specs.Prelude.{ℕ, ℤ, pos, negsuc, Bool, true, false, List, [], ◌∷◌, ◌++◌, ◌*◌, ◌&&◌, if◌then◌else◌, nat_le, zero, suc, Option, Some, None}
-use Rattle.qh_model.specs.declared.limits.TheConstants.{POINT_LIMIT}
-use Rattle.qh_model.specs.headline.Limits.{is_coordinate}
-use Rattle.qh_model.specs.headline.FileFault.{is_three}
-use Rattle.qh_model.specs.declared.form.Form.{Form}
-use Rattle.qh_model.specs.declared.form.Form.TheVariants.{Qhull, Off}
-use Rattle.qh_model.specs.declared.read_fault.ReadFault.{ReadFault}
+use Rattle.qh_model.specs.declared.{form.Form.Form, form.Form.TheVariants.Qhull, form.Form.TheVariants.Off, limits.TheConstants.POINT_LIMIT}
+use Rattle.qh_model.specs.{declared.read_fault.ReadFault.ReadFault, headline.Limits.is_coordinate, headline.FileFault.is_three}
 use Rattle.qh_model.specs.declared.read_fault.ReadFault.TheVariants as faults
-use Rattle.qh_read.specs.declared.builder.Trailing.{Trailing}
-use Rattle.qh_read.specs.declared.builder.Trailing.TheVariants.{Refused, Ignored}
+use Rattle.qh_read.specs.declared.builder.Trailing.{Trailing, TheVariants.Refused, TheVariants.Ignored}
 
 -- the kind of the next word; `wants` has the treatment of words after the coordinates, the number of coordinates to come and the coordinates so far; the counts
 -- of an OFF file have the number of vertices, once it is known

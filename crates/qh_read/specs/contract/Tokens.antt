@@ -1,8 +1,7 @@
 -- The token of an unfinished word: a sign, and digits with their value up to a cap; or letters of the keyword `OFF`.
 use Rattle.std.specs.Prelude.{ℕ, ℤ, pos, neg_ℤ, Bool, true, false, ◌==◌, ◌+◌, ◌-◌, ◌*◌, min, if◌then◌else◌, Option, Some, None}
 use Rattle.std.specs.Char.{is_ascii_digit}
-use Rattle.qh_read.specs.declared.token.TheConstants.{MAGNITUDE_CAP}
-use Rattle.qh_read.specs.declared.token.Token.{Token}
+use Rattle.qh_read.specs.declared.token.{TheConstants.MAGNITUDE_CAP, Token.Token}
 use Rattle.qh_read.specs.declared.token.Token.TheVariants.{Empty, Sign, Digits, Keyword, Other}
 
 -- a magnitude up to the cap, above which magnitudes are not distinguished

@@ -1,6 +1,5 @@
 -- The bytes that are read from a source in a call.
-use Rattle.std.specs.Prelude.{ℕ, List, Option}
-use Rattle.std.specs.Io.KnownBytes.{Consumes, IsAtEnd}
+use Rattle.std.specs.{Prelude.ℕ, Prelude.List, Prelude.Option, Io.KnownBytes.Consumes, Io.KnownBytes.IsAtEnd}
 
 -- some bytes were read from the source, and they have this property; if the source specifies its bytes, they are the next ones
 abbrev pub Gives : Option (List ℕ) → Option (List ℕ) → (List ℕ → Type 0) → Type 0

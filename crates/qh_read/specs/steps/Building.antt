@@ -1,14 +1,10 @@
 -- The state of a builder for the file so far.
 use Rattle.std.specs.Prelude.{ℕ, ℤ, ◌≡◌, ◌+◌, ◌*◌, List, ◌++◌, zero, suc, Option, None, Some, vec_len}
-use Rattle.qh_model.specs.headline.Vector.{Vector}
-use Rattle.qh_model.specs.headline.PointFile.{coordinates}
-use Rattle.qh_model.specs.declared.read_fault.ReadFault.{ReadFault}
-use Rattle.qh_model.specs.declared.read_fault.ReadFault.TheVariants.{NoHeader, Short}
-use Rattle.qh_read.specs.contract.Progress.{Progress, wants_first, wants_second, wants, wants_keyword, wants_vertex_count}
-use Rattle.qh_read.specs.contract.Progress.{wants_face_count, wants_edge_count, fails}
+use Rattle.qh_model.specs.declared.read_fault.ReadFault.{ReadFault, TheVariants.NoHeader, TheVariants.Short}
+use Rattle.qh_model.specs.headline.{Vector.Vector, PointFile.coordinates}
+use Rattle.qh_read.specs.contract.Progress.{Progress, wants_first, wants_second, wants, wants_keyword, wants_vertex_count, wants_face_count, wants_edge_count}
+use Rattle.qh_read.specs.{contract.Progress.fails, declared.builder.Pending.Pending, declared.builder.Builder.Builder}
 use Rattle.qh_read.specs.steps.Stages.{stage_shown, pending_list, pending_count}
-use Rattle.qh_read.specs.declared.builder.Pending.{Pending}
-use Rattle.qh_read.specs.declared.builder.Builder.{Builder}
 
 -- all coordinates so far
 abbrev pub taken : Builder → List ℤ

@@ -1,11 +1,8 @@
 -- Corners of a face that are taken from words.
 use Rattle.std.specs.Prelude.{ℕ, ◌≡◌, ◌⊎◌, List, ◌++◌, Option, Some}
-use Rattle.qh_model.specs.declared.read_fault.ReadFault.{ReadFault}
-use Rattle.qh_model.specs.declared.read_fault.ReadFault.TheVariants.{Memory}
-use Rattle.qh_read.specs.declared.numerals.Numeral.{Numeral}
-use Rattle.qh_read.specs.declared.faces.reading.Layout.{Layout}
-use Rattle.qh_read.specs.declared.faces.reading.Turn.{Turn}
+use Rattle.qh_model.specs.declared.read_fault.ReadFault.{ReadFault, TheVariants.Memory}
 use Rattle.qh_read.specs.contract.FaceWords.{AreNumbers, IsFace, last_line, turned}
+use Rattle.qh_read.specs.declared.{faces.reading.Layout.Layout, faces.reading.Turn.Turn, numerals.Numeral.Numeral}
 
 -- the corners are the words that were taken, the last of which is on this line
 pub record AreTaken (line : ℕ) (old : List Numeral) (corners : List ℕ) (last : ℕ) (new : List Numeral) : Type 0 where

@@ -1,13 +1,8 @@
 -- The bytes that a cursor passes.
 use Rattle.std.specs.Prelude.{ℕ, ℤ, ◌≡◌, ◌≤◌, ◌+◌, ◌*◌, ◌++◌, false, List, Some, drop, length}
-use Rattle.qh_model.specs.headline.Vector.{Vector}
-use Rattle.qh_model.specs.declared.form.Form.{Form}
-use Rattle.qh_read.specs.contract.Holding.{Held, held_by}
-use Rattle.qh_read.specs.contract.Progress.{Progress, after}
-use Rattle.qh_read.specs.steps.Numbers.{quiet, ArePoints}
-use Rattle.qh_read.specs.declared.cursor.Cursor.{Cursor}
-use Rattle.qh_read.specs.declared.numbers.TheConstants.{LONGEST}
-use Rattle.qh_read.specs.declared.token.Token.TheVariants.{Empty}
+use Rattle.qh_model.specs.{declared.form.Form.Form, headline.Vector.Vector}
+use Rattle.qh_read.specs.{contract.Holding.Held, contract.Holding.held_by, contract.Progress.Progress, contract.Progress.after, declared.cursor.Cursor.Cursor}
+use Rattle.qh_read.specs.{declared.numbers.TheConstants.LONGEST, declared.token.Token.TheVariants.Empty, steps.Numbers.quiet, steps.Numbers.ArePoints}
 
 -- the bytes from a cursor on
 abbrev pub ahead : Cursor → List ℕ

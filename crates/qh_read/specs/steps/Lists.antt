@@ -1,16 +1,9 @@
 -- Lists of faces that are taken from words.
 use Rattle.std.specs.Prelude.{ℕ, ◌≡◌, ◌≤◌, ◌<◌, ◌⊎◌, List, [], ◌∷◌, drop, length, Some}
-use Rattle.qh_model.specs.declared.limits.TheConstants.{BYTE_LIMIT}
-use Rattle.qh_model.specs.declared.read_fault.ReadFault.{ReadFault}
-use Rattle.qh_model.specs.declared.read_fault.ReadFault.TheVariants.{Big, Memory}
-use Rattle.qh_model.specs.headline.Vector.{Vector}
-use Rattle.qh_read.specs.contract.Numerals.{numerals_in}
-use Rattle.qh_read.specs.declared.numerals.Numeral.{Numeral}
-use Rattle.qh_read.specs.declared.faces.reading.Layout.{Layout}
-use Rattle.qh_read.specs.declared.faces.reading.Reading.{Reading}
-use Rattle.qh_read.specs.contract.FaceFaults.{list_fault}
-use Rattle.qh_read.specs.contract.FaceFiles.{IsOffList, IsWholeList}
-use Rattle.qh_read.specs.contract.FaceWords.{IsList}
+use Rattle.qh_model.specs.declared.{limits.TheConstants.BYTE_LIMIT, read_fault.ReadFault.ReadFault}
+use Rattle.qh_model.specs.{declared.read_fault.ReadFault.TheVariants.Big, declared.read_fault.ReadFault.TheVariants.Memory, headline.Vector.Vector}
+use Rattle.qh_read.specs.contract.{Numerals.numerals_in, FaceFaults.list_fault, FaceFiles.IsOffList, FaceFiles.IsWholeList, FaceWords.IsList}
+use Rattle.qh_read.specs.declared.{faces.reading.Layout.Layout, faces.reading.Reading.Reading, numerals.Numeral.Numeral}
 
 -- the words without the skipped ones, which follow the first word
 abbrev pub behind : ℕ → List Numeral → List Numeral

@@ -1,18 +1,11 @@
 -- Whole numbers that are parsed as a whole.
 use Rattle.std.specs.Prelude.{ℕ, ℤ, ◌≡◌, ◌+◌, ◌*◌, ◌++◌, Bool, false, List, Some, length}
-use Rattle.qh_model.specs.headline.Vector.{Vector}
-use Rattle.qh_model.specs.headline.PointFile.{coordinates}
-use Rattle.qh_model.specs.declared.form.Form.{Form}
-use Rattle.qh_read.specs.contract.Holding.{Held, held_by, next_held}
-use Rattle.qh_read.specs.contract.Progress.{Progress, wants, after}
-use Rattle.qh_read.specs.contract.Tokens.{signed}
+use Rattle.qh_model.specs.{declared.form.Form.Form, headline.Vector.Vector, headline.PointFile.coordinates}
+use Rattle.qh_read.specs.contract.{Holding.Held, Holding.held_by, Holding.next_held, Progress.Progress, Progress.wants, Progress.after, Tokens.signed}
+use Rattle.qh_read.specs.declared.builder.{Stage.Stage, Trailing.Trailing, Builder.Builder}
 use Rattle.qh_read.specs.steps.Stages.{stage_shown, is_header, HasTextFault}
-use Rattle.qh_read.specs.declared.builder.Stage.{Stage}
-use Rattle.qh_read.specs.declared.builder.Trailing.{Trailing}
-use Rattle.qh_read.specs.declared.builder.Builder.{Builder}
 use Rattle.qh_read.specs.declared.builder.Pending.TheVariants as pendings
-use Rattle.qh_read.specs.declared.token.Token.{Token}
-use Rattle.qh_read.specs.declared.token.Token.TheVariants.{Empty, Digits}
+use Rattle.qh_read.specs.declared.token.Token.{Token, TheVariants.Empty, TheVariants.Digits}
 
 -- the state outside comments
 abbrev pub quiet : Form → Progress → ℕ → Token → Held

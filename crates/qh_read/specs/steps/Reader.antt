@@ -1,10 +1,8 @@
 -- The state of a reader, and its invariant.
 use Rattle.std.specs.Prelude.{◌≤◌, ◌+◌}
 use Rattle.qh_model.specs.declared.limits.TheConstants.{BYTE_LIMIT}
-use Rattle.qh_read.specs.steps.SmallTokens.{IsSmall}
-use Rattle.qh_read.specs.contract.Holding.{Reading}
+use Rattle.qh_read.specs.{contract.Holding.Reading, declared.reader.Reader.TheInside.Inside, steps.SmallTokens.IsSmall}
 use Rattle.qh_read.specs.steps.Scanning.{held, HasRoom}
-use Rattle.qh_read.specs.declared.reader.Reader.TheInside.{Inside}
 
 abbrev pub reading_shown : Inside → Reading
 reading_shown r = record { held = held r.scanner r.token; count = r.count }

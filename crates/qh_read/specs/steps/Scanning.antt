@@ -1,10 +1,8 @@
 -- The state of a scanner, and its room.
 use Rattle.std.specs.Prelude.{ℕ, ◌≤◌, ◌+◌, ◌*◌, vec_capacity}
-use Rattle.qh_read.specs.steps.Building.{shown, taken_count}
-use Rattle.qh_read.specs.contract.Holding.{Held}
-use Rattle.qh_read.specs.declared.token.Token.{Token}
+use Rattle.qh_read.specs.{contract.Holding.Held, declared.scanner.Scanner.Scanner, declared.token.Token.Token}
 use Rattle.qh_read.specs.declared.token.Token.TheVariants.{Empty, Sign, Digits, Keyword, Other}
-use Rattle.qh_read.specs.declared.scanner.Scanner.{Scanner}
+use Rattle.qh_read.specs.steps.Building.{shown, taken_count}
 
 -- the state of a scanner, with the unfinished word
 abbrev pub held : Scanner → Token → Held

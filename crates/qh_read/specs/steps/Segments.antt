@@ -1,12 +1,8 @@
 -- Segments of bytes that are parsed in parallel, and batches of them.
 use Rattle.std.specs.Prelude.{ℕ, ◌≡◌, ◌≤◌, ◌<◌, ◌+◌, ◌*◌, ◌/◌, ◌++◌, List, Option, drop, take, length, vec_len, slice_index_or}
 use Rattle.std.specs.Io.KnownBytes.{Consumes}
-use Rattle.qh_model.specs.declared.form.Form.{Form}
-use Rattle.qh_model.specs.declared.limits.TheConstants.{BYTE_LIMIT}
-use Rattle.qh_read.specs.contract.Holding.{Reading, Fed}
-use Rattle.qh_read.specs.declared.segment.Segment.{Segment}
-use Rattle.qh_read.specs.declared.batch.Batch.{Batch}
-use Rattle.qh_read.specs.steps.Numbers.{ArePoints}
+use Rattle.qh_model.specs.declared.{form.Form.Form, limits.TheConstants.BYTE_LIMIT}
+use Rattle.qh_read.specs.{contract.Holding.Reading, contract.Holding.Fed, declared.batch.Batch.Batch, declared.segment.Segment.Segment, steps.Numbers.ArePoints}
 
 -- the points of these bytes, if a point begins after the first line
 pub record IsSegment (s : Segment) (text : List ℕ) : Type 0 where

@@ -1,7 +1,6 @@
 -- The sign of a number that is parsed as a whole.
 use Rattle.std.specs.Prelude.{Bool, true, false}
-use Rattle.qh_read.specs.declared.numbers.Sign.{Sign}
-use Rattle.qh_read.specs.declared.numbers.Sign.TheVariants.{Plus, Minus}
+use Rattle.qh_read.specs.declared.numbers.Sign.{Sign, TheVariants.Plus, TheVariants.Minus}
 
 -- the sign is a minus
 abbrev pub is_minus : Sign → Bool

@@ -1,10 +1,8 @@
 -- Words whose magnitude is within the cap.
 use Rattle.std.specs.Prelude.{ℤ, pos, negsuc, ◌≤◌, min}
 use Rattle.qh_model.specs.declared.limits.TheConstants.{COORDINATE_LIMIT}
-use Rattle.qh_read.specs.declared.token.TheConstants.{MAGNITUDE_CAP}
-use Rattle.qh_read.specs.declared.token.Token.{Token}
+use Rattle.qh_read.specs.{contract.Tokens.cap, declared.token.TheConstants.MAGNITUDE_CAP, declared.token.Token.Token}
 use Rattle.qh_read.specs.declared.token.Token.TheVariants.{Empty, Sign, Digits, Keyword, Other}
-use Rattle.qh_read.specs.contract.Tokens.{cap}
 
 -- a number up to the cap, above which numbers are not distinguished
 abbrev pub capped : ℤ → ℤ

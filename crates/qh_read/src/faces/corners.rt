@@ -1,10 +1,9 @@
 //! Parses corners of faces from the words of a text.
 ghost use Rattle.std.specs.Prelude.{◌≡◌, ◌∷◌, ℕ, List, Option, Some, IfOk, IfErr, length};
 ghost use Rattle.qh_model.specs.declared.read_fault.ReadFault.{ReadFault};
-ghost use Rattle.qh_read.specs.declared.numerals.Numeral.{Numeral};
 ghost use Rattle.qh_read.specs.contract.FaceFaults.{corners_fault, line_face_fault, number_fault};
 ghost use Rattle.qh_read.specs.contract.FaceWords.{IsLineFace, after_line};
-ghost use Rattle.qh_read.specs.steps.Corners.{AreTaken, IsFaultFor};
+ghost use Rattle.qh_read.specs.{declared.numerals.Numeral.Numeral, steps.Corners.AreTaken, steps.Corners.IsFaultFor};
 
 use crate::{Numeral, Numerals};
 use qh_model::{Id, ReadFault};

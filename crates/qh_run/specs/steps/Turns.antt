@@ -2,12 +2,10 @@
 -- Source: this project's own.
 use Rattle.std.specs.Prelude.{◌≡◌, ℕ, ◌+◌, ◌*◌, ◌<◌, true, Some}
 use Rattle.qh_board.specs.declared.view.Mark.TheVariants as marks
-use Rattle.qh_board.specs.declared.view.Record.{Record}
-use Rattle.qh_board.specs.declared.calls.Delivered.{Delivered}
-use Rattle.qh_board.specs.declared.calls.Delivered.TheVariants.{Parked, Both, Root}
 use Rattle.qh_board.specs.contract.Tokens.{BoardValue, Token, IsOf, IsRightAt, task_node}
-use Rattle.qh_run.specs.declared.turn.Turn.{Turn}
-use Rattle.qh_run.specs.declared.turn.Turn.TheVariants.{Ended, GaveUp}
+use Rattle.qh_board.specs.declared.calls.Delivered.{Delivered, TheVariants.Parked, TheVariants.Both, TheVariants.Root}
+use Rattle.qh_board.specs.declared.view.Record.{Record}
+use Rattle.qh_run.specs.declared.turn.Turn.{Turn, TheVariants.Ended, TheVariants.GaveUp}
 
 -- the record belongs to the same pass, which has claimed nothing since
 pub record SinceClaim (r r' : Record) : Type 0 where

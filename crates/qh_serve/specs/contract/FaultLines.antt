@@ -1,8 +1,7 @@
 -- The line on standard error for a fault, without the line end, and the exit status.
 use Rattle.std.specs.Prelude.{ℕ, List, ◌++◌, codes, decimal}
 use Rattle.qh_model.specs.declared.read_fault.ReadFault.TheVariants as read
-use Rattle.qh_serve.specs.declared.fault.Fault.{Fault}
-use Rattle.qh_serve.specs.declared.fault.Fault.TheVariants.{Read, Send, Usage}
+use Rattle.qh_serve.specs.declared.fault.Fault.{Fault, TheVariants.Read, TheVariants.Send, TheVariants.Usage}
 
 abbrev pub fault_line : Fault → List ℕ
 fault_line (Read read.NoHeader) = codes "qconvex: 1: NoHeader"

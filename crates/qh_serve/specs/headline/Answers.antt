@@ -1,10 +1,7 @@
 -- The right answer to an input.
 use Rattle.std.specs.Prelude.{ℕ, ◌≡◌, ◌⊎◌, List}
-use Rattle.qh_model.specs.headline.Vector.{Vector}
-use Rattle.qh_model.specs.headline.Forms.{ReadsIn, IsFirstFault}
+use Rattle.qh_model.specs.{declared.form.Form.Form, declared.out.Out.Out, headline.Vector.Vector, headline.Forms.ReadsIn, headline.Forms.IsFirstFault}
 use Rattle.qh_model.specs.headline.Text.{IsText}
-use Rattle.qh_model.specs.declared.form.Form.{Form}
-use Rattle.qh_model.specs.declared.out.Out.{Out}
 use Rattle.qh_model.specs.declared.read_fault.ReadFault.TheVariants as reads
 use Rattle.qh_serve.specs.declared.fault.Fault.{Fault}
 use Rattle.qh_serve.specs.declared.fault.Fault.TheVariants as faults

@@ -1,19 +1,13 @@
 -- The state of the devices after `serve`.
 use Rattle.std.specs.Prelude.{ℕ, ◌≡◌, ◌+◌, ◌<◌, ◌≤◌, List, Bool, true, Option, length}
 use Rattle.std.specs.Io.KnownBytes.{Appends, Keeps}
-use Rattle.qh_model.specs.declared.limits.TheConstants.{BYTE_LIMIT}
-use Rattle.qh_model.specs.declared.form.Form.{Form}
-use Rattle.qh_model.specs.declared.out.Out.{Out}
+use Rattle.qh_model.specs.declared.{form.Form.Form, limits.TheConstants.BYTE_LIMIT, out.Out.Out, read_fault.ReadFault.ReadFault}
 use Rattle.qh_write.specs.headline.Sinks.{AppendsBeginning}
-use Rattle.qh_model.specs.declared.read_fault.ReadFault.{ReadFault}
 use Rattle.qh_model.specs.declared.read_fault.ReadFault.TheVariants as reads
-use Rattle.qh_read.specs.declared.whole.TheConstants.{PIECE_LENGTH}
-use Rattle.qh_model.specs.headline.Forms.{IsFirstFault}
-use Rattle.qh_read.specs.headline.SourceBytes.{Gives, GivesAll}
-use Rattle.qh_model.specs.headline.Text.{IsText}
+use Rattle.qh_read.specs.{declared.whole.TheConstants.PIECE_LENGTH, headline.SourceBytes.Gives, headline.SourceBytes.GivesAll}
+use Rattle.qh_model.specs.headline.{Forms.IsFirstFault, Text.IsText}
+use Rattle.qh_serve.specs.declared.fault.Fault.{Fault, TheVariants.Read, TheVariants.Send, TheVariants.Usage}
 use Rattle.qh_serve.specs.headline.Answers.{ReadsAs}
-use Rattle.qh_serve.specs.declared.fault.Fault.{Fault}
-use Rattle.qh_serve.specs.declared.fault.Fault.TheVariants.{Read, Send, Usage}
 
 -- the remaining bytes of the source and the bytes that the sink received, if the devices specify them, the number of failed calls of each, and whether the sink
 -- buffers nothing

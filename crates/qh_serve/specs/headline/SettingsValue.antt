@@ -1,7 +1,6 @@
 -- The contract view of settings.
 use Rattle.std.specs.Prelude.{ℕ, List}
-use Rattle.qh_model.specs.declared.form.Form.{Form}
-use Rattle.qh_model.specs.declared.out.Out.{Out}
+use Rattle.qh_model.specs.declared.{form.Form.Form, out.Out.Out}
 
 pub record SettingsValue : Type 0 where
   pub workers : ℕ

@@ -1,16 +1,14 @@
 -- From new facets to the next round, and from the last round to a finished surface.
 use Rattle.std.proofs.Common.{All, ◌≡◌, ℕ, ◌<◌, ◌≤◌, sym, ◌∙◌, refl, inl, inr, List, [], ◌∷◌, length, subst, pos, ◌<ℤ◌}
-use Rattle.qh_model.specs.headline.{Vector.Vector, Vector.origin, Predicates.place, Sets.In}
 use Rattle.qh_model.specs.contract.{FinishedSurface.IsFinished, StoredSurface.StoredFacet, StoredSurface.surface_of}
-use Rattle.qh_model.specs.contract.ClosedSurface.{signed_volume, triples_from}
+use Rattle.qh_model.specs.{contract.ClosedSurface.signed_volume, contract.ClosedSurface.triples_from, headline.Vector.Vector, headline.Vector.origin}
+use Rattle.qh_model.specs.headline.{Predicates.place, Sets.In}
 use Rattle.std.specs.List.{range_with_len}
-use Rattle.qh_model.proofs.lists.Ranges.{range_has, range_below}
-use Rattle.qh_model.proofs.algebra.Signs.{less_one_way}
+use Rattle.qh_model.proofs.{algebra.Signs.less_one_way, lists.Ranges.range_has, lists.Ranges.range_below}
 use Rattle.qh_pred.specs.contract.Planes.{PlaneValue}
 use Rattle.qh_mesh.specs.contract.SoundMesh.{IsClosedMesh}
 use Rattle.qh_mesh.proofs.Rewiring.{live_in}
-use Rattle.qh_surface.specs.contract.OutsideSets.{OutsideValue, set_of}
-use Rattle.qh_surface.specs.steps.{Planes.ArePlanes}
+use Rattle.qh_surface.specs.{contract.OutsideSets.OutsideValue, contract.OutsideSets.set_of, steps.Planes.ArePlanes}
 use Rattle.qh_surface.specs.steps.Runs.{AreDone, IsGrown, RunState, IsUnderWay, IsSettling, IsRemade}
 
 -- after all orphans are settled and the facets with outside sets wait, the next round can begin

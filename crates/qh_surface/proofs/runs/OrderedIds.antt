@@ -1,23 +1,18 @@
 -- Ids of a run in another order, and by their positions.
-use Rattle.std.proofs.Common.{◌≡◌, ◌∙◌, ℕ, ◌<◌, List, [], ◌∷◌, length, map, ap, sym, subst, refl, inl, inr, false, arith, eqb, eq-eqb}
-use Rattle.std.proofs.Common.{slice_index, IsPermutation}
-use Rattle.std.specs.List.{IsDistinct, range_with_len}
-use Rattle.std.proofs.lemmas.Bool.Decides.{nat_tests}
-use Rattle.std.proofs.lemmas.List.{get_or-map, get_or_default, length-map}
-use Rattle.std.proofs.lemmas.Map.Keys.{IsDistinct-IsPermutation, IsDistinct-cons, IsDistinct-head, IsDistinct-tail}
+use Rattle.std.proofs.Common.{◌≡◌, ◌∙◌, ℕ, ◌<◌, List, [], ◌∷◌, length, map, ap, sym, subst, refl, inl, inr, false, arith, eqb, eq-eqb, slice_index}
+use Rattle.std.proofs.{Common.IsPermutation, lemmas.List.get_or-map, lemmas.List.get_or_default, lemmas.List.length-map, lemmas.Bool.Decides.nat_tests}
 use Rattle.std.proofs.lemmas.List.Sorted.{IsPermutation-sym}
-use Rattle.qh_model.specs.headline.{Vector.Vector, Vector.origin, Predicates.place, Predicates.vol, Sets.In, Sets.Once, Sets.Members}
+use Rattle.std.proofs.lemmas.Map.Keys.{IsDistinct-IsPermutation, IsDistinct-cons, IsDistinct-head, IsDistinct-tail}
+use Rattle.std.specs.List.{IsDistinct, range_with_len}
 use Rattle.qh_model.specs.contract.{FinishedSurface.IsFinished, Surface.Surface, Surface.IsCorner}
-use Rattle.qh_model.proofs.surfaces.{Named.IsNamed, Named.stored_named, Stored.live_is_marked}
 use Rattle.qh_model.specs.contract.{StoredSurface.StoredFacet, StoredSurface.named_facet, StoredSurface.surface_of, IdSets.AreIndices}
-use Rattle.qh_model.proofs.lists.Ranges.{range_below}
-use Rattle.qh_mesh.specs.contract.{Names.name_in, Replacement.IsLive}
-use Rattle.qh_surface.specs.contract.Corners.{AreCornersBelow}
+use Rattle.qh_model.specs.headline.{Vector.Vector, Vector.origin, Predicates.place, Predicates.vol, Sets.In, Sets.Once, Sets.Members}
 use Rattle.qh_model.proofs.Members.{All-In, All-of, In-get_or, every_of, every_at, in_permutation}
-use Rattle.qh_polygon.proofs.KeyOrder.{eqb_flips}
-use Rattle.qh_surface.specs.declared.starts.initial_simplex.Simplex.{Simplex}
-use Rattle.qh_surface.specs.contract.Simplexes.{IsSimplexOf}
+use Rattle.qh_model.proofs.{lists.Ranges.range_below, surfaces.Named.IsNamed, surfaces.Named.stored_named, surfaces.Stored.live_is_marked}
+use Rattle.qh_mesh.specs.contract.{Names.name_in, Replacement.IsLive}
+use Rattle.qh_surface.specs.{contract.Corners.AreCornersBelow, contract.Simplexes.IsSimplexOf, declared.starts.initial_simplex.Simplex.Simplex}
 use Rattle.qh_surface.specs.steps.Positions.{IsSimplexIn, IsPositionOf, ArePositionsOf}
+use Rattle.qh_polygon.proofs.KeyOrder.{eqb_flips}
 
 module _ {ids near : List ℕ} (p : IsPermutation ids near) where
   back : (i : ℕ) → Members near i → Members ids i

@@ -1,7 +1,6 @@
 -- Members of outside sets after one of them is written.
-use Rattle.std.proofs.Common.{◌≡◌, ℕ, ◌<◌, arith, refl, Bool, true, false, ◌⊎◌, inl, inr, List, [], ◌∷◌, ◌++◌, length, get_or, replicate}
-use Rattle.std.proofs.Common.{set, get_or-set_same, get_or-set_other}
-use Rattle.std.proofs.lemmas.{Bool.cases_eq, Grind.common_steps, List.set_past, List.get_or_past}
+use Rattle.std.proofs.Common.{◌≡◌, ℕ, ◌<◌, arith, refl, Bool, true, false, ◌⊎◌, inl, inr, List, [], ◌∷◌, ◌++◌, length, get_or, replicate, set, get_or-set_same}
+use Rattle.std.proofs.{Common.get_or-set_other, lemmas.Bool.cases_eq, lemmas.Grind.common_steps, lemmas.List.set_past, lemmas.List.get_or_past}
 use Rattle.qh_model.specs.headline.Sets.{In}
 use Rattle.qh_surface.specs.contract.OutsideSets.{joined}
 

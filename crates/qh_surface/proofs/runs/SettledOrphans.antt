@@ -1,15 +1,12 @@
 -- How orphans are released and settled.
-use Rattle.std.proofs.Common.{All, ◌≡◌, ℕ, ◌<◌, ap, sym, refl, ◌⊎◌, inl, inr, List, [], ◌∷◌, ◌++◌, length, drop, subst, slice_set}
-use Rattle.std.proofs.Common.{slice_index, slice_index_or, pos, ◌<ℤ◌}
-use Rattle.std.proofs.lemmas.Bool.{cases_eq}
-use Rattle.qh_model.specs.headline.{Vector.Vector, Vector.origin, Predicates.place, Sets.In}
-use Rattle.qh_model.specs.contract.StoredSurface.{StoredFacet}
-use Rattle.qh_model.proofs.Members.{All-In}
-use Rattle.qh_model.proofs.lists.Joined.{of_append, in_append}
+use Rattle.std.proofs.Common.{All, ◌≡◌, ℕ, ◌<◌, ap, sym, refl, ◌⊎◌, inl, inr, List, [], ◌∷◌, ◌++◌, length, drop, subst, slice_set, slice_index, slice_index_or}
+use Rattle.std.proofs.{Common.pos, Common.◌<ℤ◌, lemmas.Bool.cases_eq}
+use Rattle.qh_model.specs.{contract.StoredSurface.StoredFacet, headline.Vector.Vector, headline.Vector.origin, headline.Predicates.place, headline.Sets.In}
+use Rattle.qh_model.proofs.{Members.All-In, lists.Joined.of_append, lists.Joined.in_append}
 use Rattle.qh_pred.specs.contract.Planes.{PlaneValue, height}
 use Rattle.qh_mesh.specs.contract.Replacement.{IsLive}
 use Rattle.qh_surface.specs.contract.OutsideSets.{OutsideValue, set_of, joined}
-use Rattle.qh_surface.specs.steps.{Planes.plane_at, Planes.ArePlanes}
+use Rattle.qh_surface.specs.steps.Planes.{plane_at, ArePlanes}
 use Rattle.qh_surface.specs.steps.Runs.{height_at, IsDone, IsOutside, IsSettling}
 use Rattle.qh_surface.specs.steps.Settling.{IsDropped, IsAssigned, IsOneSettled, AreReleased}
 use Rattle.qh_surface.proofs.runs.SetWrites.{of_write, write_keeps, write_empty, of_join, join_has, join_keeps}

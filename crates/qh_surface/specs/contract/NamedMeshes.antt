@@ -1,11 +1,8 @@
 -- A mesh over positions of a list of ids, and the same mesh over the ids.
 use Rattle.std.specs.Prelude.{◌≡◌, List, length, map}
-use Rattle.qh_model.specs.headline.Vector.{Vector}
-use Rattle.qh_model.specs.headline.Predicates.{place}
-use Rattle.qh_model.specs.contract.StoredSurface.{StoredFacet, named_facet}
+use Rattle.qh_model.specs.{contract.StoredSurface.StoredFacet, contract.StoredSurface.named_facet, headline.Vector.Vector, headline.Predicates.place}
 use Rattle.qh_mesh.specs.contract.Names.{name_in}
-use Rattle.qh_surface.specs.declared.named_mesh.NamedMesh.{NamedMesh}
-use Rattle.qh_surface.specs.contract.Corners.{AreCornersBelow}
+use Rattle.qh_surface.specs.{contract.Corners.AreCornersBelow, declared.named_mesh.NamedMesh.NamedMesh}
 
 -- the facets of the mesh, with ids as corners
 abbrev pub named : NamedMesh → List StoredFacet

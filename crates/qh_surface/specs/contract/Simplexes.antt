@@ -1,9 +1,7 @@
 -- Initial simplexes of runs.
 -- Source: Barber, Dobkin and Huhdanpaa 1996.
 use Rattle.std.specs.Prelude.{◌≢◌, ℕ, pos, List}
-use Rattle.qh_model.specs.headline.Vector.{Vector}
-use Rattle.qh_model.specs.headline.Predicates.{place, vol}
-use Rattle.qh_model.specs.headline.Sets.{Members}
+use Rattle.qh_model.specs.headline.{Vector.Vector, Predicates.place, Predicates.vol, Sets.Members}
 use Rattle.qh_surface.specs.declared.starts.initial_simplex.Simplex.{Simplex}
 
 -- four of the ids, with points that are not in one plane

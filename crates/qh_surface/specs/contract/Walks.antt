@@ -1,9 +1,7 @@
 -- Walks over twins, from facets that pass a test P, and their invariants.
 -- Source: Barber, Dobkin and Huhdanpaa 1996 (the visible set is found by a search over neighbours).
 use Rattle.std.specs.Prelude.{All, slice_index, ◌≡◌, ◌⊎◌, ℕ, ◌<◌, ◌≤◌, List, [], Bool, length, slice_index_or, true, false}
-use Rattle.qh_model.specs.headline.Sets.{In}
-use Rattle.qh_model.specs.contract.StoredSurface.{StoredFacet, surface_of}
-use Rattle.qh_model.specs.contract.Surface.{Side}
+use Rattle.qh_model.specs.{contract.StoredSurface.StoredFacet, contract.StoredSurface.surface_of, contract.Surface.Side, headline.Sets.In}
 use Rattle.qh_mesh.specs.contract.Replacement.{AreFacets}
 use Rattle.qh_surface.specs.declared.walk.Mark.{Mark}
 use Rattle.qh_surface.specs.declared.walk.Mark.TheVariants as marks

@@ -1,11 +1,9 @@
 -- The planes of a mesh, one for each place, so that a side test needs no corner.
 -- Source: Barber, Dobkin and Huhdanpaa 1996 (a facet keeps its hyperplane).
 use Rattle.std.specs.Prelude.{◌≡◌, ℕ, ◌≤◌, List, length, slice_index_or, pos}
-use Rattle.qh_model.specs.headline.Vector.{Vector, origin}
-use Rattle.qh_model.specs.contract.StoredSurface.{StoredFacet}
+use Rattle.qh_model.specs.{contract.StoredSurface.StoredFacet, headline.Vector.Vector, headline.Vector.origin}
 use Rattle.qh_pred.specs.contract.Planes.{PlaneValue, height}
-use Rattle.qh_mesh.specs.contract.Replacement.{IsLive}
-use Rattle.qh_mesh.specs.contract.SoundMesh.{facet_vol}
+use Rattle.qh_mesh.specs.contract.{Replacement.IsLive, SoundMesh.facet_vol}
 
 -- the value of a plane past the end
 abbrev pub no_plane : PlaneValue

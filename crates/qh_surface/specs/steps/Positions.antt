@@ -1,7 +1,6 @@
 -- Initial simplexes over positions of the ids.
 use Rattle.std.specs.Prelude.{◌≡◌, ◌≢◌, ℕ, ◌<◌, pos, List, length, slice_index}
-use Rattle.qh_model.specs.headline.Vector.{Vector}
-use Rattle.qh_model.specs.headline.Predicates.{place, vol}
+use Rattle.qh_model.specs.headline.{Vector.Vector, Predicates.place, Predicates.vol}
 use Rattle.qh_surface.specs.declared.starts.initial_simplex.Simplex.{Simplex}
 
 -- four positions of a list of points that are not in one plane

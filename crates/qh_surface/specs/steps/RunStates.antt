@@ -1,6 +1,5 @@
 -- The state of a run that the definitions use.
-use Rattle.qh_surface.specs.declared.quickhull.run.Run.{Run}
-use Rattle.qh_surface.specs.steps.Runs.{RunState}
+use Rattle.qh_surface.specs.{declared.quickhull.run.Run.Run, steps.Runs.RunState}
 
 -- the lists of a run, without those that are used within one round only
 abbrev pub state_of : Run → RunState

@@ -1,17 +1,12 @@
 -- A run of Quickhull over a list of points, each identified by its position: the invariants between two rounds, and within a round.
 -- Source: Barber, Dobkin and Huhdanpaa 1996 (outside sets, the horizon, the cone of new facets).
 use Rattle.std.specs.Prelude.{All, ◌≡◌, ℕ, ◌<◌, ◌≤◌, ◌⊎◌, List, [], ◌∷◌, length, slice_set, true, ℤ, pos, ◌≤ℤ◌, ◌<ℤ◌}
-use Rattle.qh_model.specs.headline.Vector.{Vector}
-use Rattle.qh_model.specs.headline.Predicates.{vol, place}
-use Rattle.qh_model.specs.headline.Sets.{In}
-use Rattle.qh_model.specs.contract.FinishedSurface.{middle_at}
-use Rattle.qh_model.specs.contract.StoredSurface.{StoredFacet}
+use Rattle.qh_model.specs.{contract.FinishedSurface.middle_at, contract.StoredSurface.StoredFacet, headline.Vector.Vector}
+use Rattle.qh_model.specs.headline.{Predicates.vol, Predicates.place, Sets.In}
 use Rattle.qh_pred.specs.contract.Planes.{PlaneValue, height}
-use Rattle.qh_mesh.specs.contract.Replacement.{IsLive}
-use Rattle.qh_mesh.specs.contract.SoundMesh.{facet_vol, IsSoundMesh, IsClosedMesh}
-use Rattle.qh_surface.specs.contract.Corners.{AreCornersBelow}
+use Rattle.qh_mesh.specs.contract.{Replacement.IsLive, SoundMesh.facet_vol, SoundMesh.IsSoundMesh, SoundMesh.IsClosedMesh}
+use Rattle.qh_surface.specs.contract.{Corners.AreCornersBelow, OutsideSets.OutsideValue, OutsideSets.set_of, OutsideSets.joined}
 use Rattle.qh_surface.specs.steps.Planes.{plane_at, ArePlanes}
-use Rattle.qh_surface.specs.contract.OutsideSets.{OutsideValue, set_of, joined}
 
 -- six times the volume of facet f and the point at position p: above 0 if the facet strictly sees it
 abbrev pub height_at : List Vector → List StoredFacet → ℕ → ℕ → ℤ

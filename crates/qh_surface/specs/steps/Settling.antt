@@ -1,11 +1,9 @@
 -- How one orphan gets its outside set, and which points are released when facets are removed.
 -- Source: Barber, Dobkin and Huhdanpaa 1996 (the points of removed facets are partitioned among the new ones).
 use Rattle.std.specs.Prelude.{All, ◌≡◌, ℕ, ◌⊎◌, Bool, List, [], drop, slice_index, slice_index_or, slice_set, pos, ◌≤ℤ◌, ◌<ℤ◌}
-use Rattle.qh_model.specs.headline.Vector.{Vector, origin}
-use Rattle.qh_model.specs.headline.Sets.{In}
+use Rattle.qh_model.specs.headline.{Vector.Vector, Vector.origin, Sets.In}
 use Rattle.qh_pred.specs.contract.Planes.{PlaneValue, height}
-use Rattle.qh_surface.specs.steps.Planes.{plane_at}
-use Rattle.qh_surface.specs.contract.OutsideSets.{OutsideValue, set_of, joined}
+use Rattle.qh_surface.specs.{contract.OutsideSets.OutsideValue, contract.OutsideSets.set_of, contract.OutsideSets.joined, steps.Planes.plane_at}
 
 -- the point at position p is above none of the facets
 abbrev pub IsAboveNone : List PlaneValue → List ℕ → Vector → Type 0

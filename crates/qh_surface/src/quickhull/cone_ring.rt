@@ -4,15 +4,10 @@
 //! order a search can find the one facet to test a point against (`cone_search`). The ring begins where the cone is
 //! strictly convex.
 ghost use Rattle.std.specs.Prelude.{All, ◌≡◌, ◌<◌, length, OnOk, []};
-ghost use Rattle.qh_model.specs.headline.Sets.{In};
+ghost use Rattle.qh_model.specs.{contract.StoredSurface.facet_at, contract.Surface.Side.second, headline.Sets.In};
 ghost use Rattle.qh_model.specs.headline.Predicates.{place};
-ghost use Rattle.qh_model.specs.contract.Surface.Side.{second};
-ghost use Rattle.qh_model.specs.contract.StoredSurface.{facet_at};
-ghost use Rattle.qh_mesh.specs.contract.Edges.{edge_of, facet_of, twin_of};
-ghost use Rattle.qh_mesh.specs.contract.Replacement.{IsLive};
-ghost use Rattle.qh_surface.specs.steps.Planes.{plane_at};
-ghost use Rattle.qh_surface.specs.contract.Corners.{AreCornersBelow};
-ghost use Rattle.qh_surface.specs.steps.Runs.{IsPlaneOf};
+ghost use Rattle.qh_mesh.specs.contract.{Edges.edge_of, Edges.facet_of, Edges.twin_of, Replacement.IsLive};
+ghost use Rattle.qh_surface.specs.{contract.Corners.AreCornersBelow, steps.Planes.plane_at, steps.Runs.IsPlaneOf};
 ghost use Rattle.qh_surface.specs.steps.Cones.{HasNoCornerAbove, IsFan, AreWedges, apex_of};
 
 use qh_mesh::{FacetNo, Mesh};

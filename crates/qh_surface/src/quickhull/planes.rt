@@ -1,14 +1,9 @@
 //! The planes of a mesh, by the places of its facets.
 ghost use Rattle.std.specs.Prelude.{All, ◌≡◌, ◌≤◌, ◌<◌, ◌⊎◌, ℕ, length, OnOk};
-ghost use Rattle.qh_model.specs.headline.Vector.{Vector};
-ghost use Rattle.qh_model.specs.headline.Sets.{In};
-ghost use Rattle.qh_model.specs.headline.Predicates.{place};
+ghost use Rattle.qh_model.specs.headline.{Vector.Vector, Sets.In, Predicates.place};
 ghost use Rattle.qh_pred.specs.contract.Planes.{height};
-ghost use Rattle.qh_mesh.specs.contract.Replacement.{IsLive};
-ghost use Rattle.qh_mesh.specs.contract.SoundMesh.{facet_vol};
-ghost use Rattle.qh_surface.specs.steps.Planes.{plane_at};
-ghost use Rattle.qh_surface.specs.contract.Corners.{AreCornersBelow};
-ghost use Rattle.qh_surface.specs.steps.Runs.{IsPlaneOf};
+ghost use Rattle.qh_mesh.specs.contract.{Replacement.IsLive, SoundMesh.facet_vol};
+ghost use Rattle.qh_surface.specs.{contract.Corners.AreCornersBelow, steps.Planes.plane_at, steps.Runs.IsPlaneOf};
 
 use qh_mesh::{FacetNo, Mesh};
 use qh_model::Point;

@@ -1,8 +1,6 @@
 //! A run of Quickhull. In each round one point becomes a corner.
 ghost use Rattle.std.specs.Prelude.{◌≡◌, ◌≤◌, ◌<◌, [], length, OnOk, IfOk};
-ghost use Rattle.qh_surface.specs.contract.OutsideSets.{listed};
-ghost use Rattle.qh_surface.specs.steps.Positions.{IsSimplexIn};
-ghost use Rattle.qh_surface.specs.steps.Cones.{IsFan};
+ghost use Rattle.qh_surface.specs.{contract.OutsideSets.listed, steps.Positions.IsSimplexIn, steps.Cones.IsFan};
 ghost use Rattle.qh_surface.specs.steps.Runs.{AreDone, IsGrown, IsUnderWay, IsPicked, IsRemade};
 ghost use Rattle.qh_surface.specs.steps.RunStates.{state_of};
 

@@ -1,12 +1,9 @@
 //! New outside sets for the points of removed facets.
 ghost use Rattle.std.specs.Prelude.{All, ◌≡◌, ◌≤◌, ◌<◌, ℕ, List, [], ◌∷◌, length, drop, pos, ◌<ℤ◌, IfNone, IfSome};
-ghost use Rattle.qh_model.specs.headline.Sets.{In};
-ghost use Rattle.qh_model.specs.headline.Predicates.{place};
-ghost use Rattle.qh_model.specs.contract.StoredSurface.{StoredFacet};
+ghost use Rattle.qh_model.specs.{contract.StoredSurface.StoredFacet, headline.Sets.In, headline.Predicates.place};
 ghost use Rattle.qh_pred.specs.contract.Planes.{height};
 ghost use Rattle.qh_mesh.specs.contract.Replacement.{IsLive};
-ghost use Rattle.qh_surface.specs.steps.Planes.{plane_at, ArePlanes};
-ghost use Rattle.qh_surface.specs.contract.OutsideSets.{listed};
+ghost use Rattle.qh_surface.specs.{contract.OutsideSets.listed, steps.Planes.plane_at, steps.Planes.ArePlanes};
 ghost use Rattle.qh_surface.specs.steps.Runs.{IsSettling};
 ghost use Rattle.qh_surface.specs.steps.Settling.{IsAboveNone, IsOneSettled, AreReleased};
 ghost use Rattle.qh_surface.specs.steps.Cones.{AreWedges};

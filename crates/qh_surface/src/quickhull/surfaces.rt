@@ -1,18 +1,12 @@
 //! The surface of a solid set.
 ghost use Rattle.std.specs.Prelude.{◌≡◌, ℕ, IfOk, length, map};
 ghost use Rattle.std.specs.List.{range_with_len};
-ghost use Rattle.qh_model.specs.headline.Predicates.{place};
-ghost use Rattle.qh_model.specs.headline.Sets.{Members, Once};
-ghost use Rattle.qh_model.specs.contract.IdSets.{IsIdSet};
-ghost use Rattle.qh_model.specs.headline.Dimension.{IsDimension};
-ghost use Rattle.qh_model.specs.headline.SupportingPlane.{IsSupportingTriple};
-ghost use Rattle.qh_model.specs.contract.FinishedSurface.{IsFinished};
+ghost use Rattle.qh_model.specs.contract.{IdSets.IsIdSet, IdSets.AreIndices, FinishedSurface.IsFinished};
 ghost use Rattle.qh_model.specs.contract.StoredSurface.{facet_at, surface_of};
-ghost use Rattle.qh_mesh.specs.contract.Replacement.{IsLive};
-ghost use Rattle.qh_mesh.specs.contract.SoundMesh.{IsClosedMesh};
-ghost use Rattle.qh_model.specs.contract.IdSets.{AreIndices};
-ghost use Rattle.qh_surface.specs.contract.NamedMeshes.{named, IsNamedMesh};
-ghost use Rattle.qh_surface.specs.contract.Simplexes.{IsSimplexOf};
+ghost use Rattle.qh_model.specs.headline.{Predicates.place, Sets.Members, Sets.Once, Dimension.IsDimension};
+ghost use Rattle.qh_model.specs.headline.SupportingPlane.{IsSupportingTriple};
+ghost use Rattle.qh_mesh.specs.contract.{Replacement.IsLive, SoundMesh.IsClosedMesh};
+ghost use Rattle.qh_surface.specs.contract.{NamedMeshes.named, NamedMeshes.IsNamedMesh, Simplexes.IsSimplexOf};
 ghost use Rattle.qh_surface.specs.steps.Positions.{IsPositionOf, ArePositionsOf};
 
 use crate::named_mesh::NamedMesh;

@@ -1,13 +1,11 @@
 //! The facets that a point sees. They are connected, so a walk from one of them finds all.
 ghost use Rattle.std.specs.Prelude.{All, ◌≡◌, ◌≤◌, ◌<◌, ◌<ℤ◌, pos, ℕ, OnOk, length, [], true, false};
-ghost use Rattle.qh_model.specs.headline.Sets.{In};
-ghost use Rattle.qh_model.specs.headline.Vector.{Vector};
-ghost use Rattle.qh_model.specs.contract.Weighted.{Weighted};
+ghost use Rattle.qh_model.specs.{contract.Weighted.Weighted, headline.Sets.In, headline.Vector.Vector};
 ghost use Rattle.qh_mesh.specs.contract.Replacement.{IsLive, AreFacets};
 ghost use Rattle.qh_mesh.specs.contract.SoundMesh.{IsSoundMesh, AreVisible};
 ghost use Rattle.qh_pred.specs.contract.Planes.{height};
-ghost use Rattle.qh_surface.specs.steps.Planes.{plane_at, ArePlanes};
 ghost use Rattle.qh_surface.specs.contract.Walks.{IsMarked, mark_at};
+ghost use Rattle.qh_surface.specs.steps.Planes.{plane_at, ArePlanes};
 
 use crate::walk::{FacetPredicate, Mark, walk};
 use qh_mesh::{EdgeNo, FacetNo, Mesh};

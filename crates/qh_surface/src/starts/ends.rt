@@ -1,8 +1,7 @@
 //! The ends of a set along the three axes.
 ghost use Rattle.std.specs.Prelude.{◌<◌, ℕ, List, length};
 ghost use Rattle.std.specs.List.{All};
-ghost use Rattle.qh_model.specs.headline.Sets.{Members};
-ghost use Rattle.qh_model.specs.contract.IdSets.{AreIndices};
+ghost use Rattle.qh_model.specs.{contract.IdSets.AreIndices, headline.Sets.Members};
 
 use qh_model::{Id, Point};
 use qh_pred::point_at;

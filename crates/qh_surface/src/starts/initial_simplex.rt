@@ -5,11 +5,8 @@
 //!
 //! Source: Barber, Dobkin and Huhdanpaa 1996 (the initial simplex has points with the least and the
 //! greatest coordinates).
-ghost use Rattle.std.specs.Prelude.{◌<◌, length};
-ghost use Rattle.std.specs.List.{All};
-ghost use Rattle.qh_model.specs.headline.Predicates.{vol};
-ghost use Rattle.qh_model.specs.headline.Sets.{Members};
-ghost use Rattle.qh_model.specs.contract.IdSets.{AreIndices};
+ghost use Rattle.std.specs.{Prelude.◌<◌, Prelude.length, List.All};
+ghost use Rattle.qh_model.specs.{contract.IdSets.AreIndices, headline.Predicates.vol, headline.Sets.Members};
 ghost use Rattle.qh_surface.specs.contract.Simplexes.{IsSimplexOf};
 
 use qh_model::{Id, Point};

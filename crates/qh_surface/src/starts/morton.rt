@@ -3,8 +3,7 @@
 //! A run reads the points of a facet one after the other, and then those of its neighbours. If they are also near in
 //! memory, a large run seldom waits for memory. No answer depends on the order.
 ghost use Rattle.std.specs.Prelude.{◌≡◌, IfOk, map, IsPermutation};
-ghost use Rattle.qh_model.specs.contract.IdSets.{AreIndices};
-ghost use Rattle.qh_model.specs.contract.Halves.{low_of};
+ghost use Rattle.qh_model.specs.contract.{IdSets.AreIndices, Halves.low_of};
 
 use qh_model::keys::{Packed, morton_number};
 use qh_model::{Id, Memory, Point};

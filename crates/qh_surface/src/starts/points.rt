@@ -1,7 +1,6 @@
 //! The points of ids.
 ghost use Rattle.std.specs.Prelude.{◌≡◌, IfOk, map};
-ghost use Rattle.qh_model.specs.headline.Predicates.{place};
-ghost use Rattle.qh_model.specs.contract.IdSets.{AreIndices};
+ghost use Rattle.qh_model.specs.{contract.IdSets.AreIndices, headline.Predicates.place};
 
 use qh_model::{Id, Memory, Point};
 use qh_pred::point_at;

@@ -1,7 +1,6 @@
 //! A cube in two parts: four corners belong to both, and each part has two more. The square at x = 0 stays of one part,
 //! and the square at x = 1 of the other.
-ghost use Rattle.std.specs.Prelude.{IfOk, IfSome};
-ghost use Rattle.std.specs.List.{All};
+ghost use Rattle.std.specs.{Prelude.IfOk, Prelude.IfSome, List.All};
 ghost use Rattle.qh_model.specs.contract.IdSets.{AreIndices};
 ghost use Rattle.qh_parts_join.specs.contract.Parts.{IsPartOf};
 

@@ -1,8 +1,6 @@
 -- The results of the calls that threads claimed.
 use Rattle.std.specs.Prelude.{ℕ, ◌<◌, List, Option, Result, Vec, IfSome, IfOk, length, slice_index_or}
-use Rattle.std.specs.declared.alloc.{AllocError.AllocError, Global.Global}
-use Rattle.std.specs.List.{All}
-use Rattle.std.specs.Fn.{FnReturns}
+use Rattle.std.specs.{List.All, Fn.FnReturns, declared.alloc.AllocError.AllocError, declared.alloc.Global.Global}
 use denote.Param.Members.{Shared}
 use Rattle.qh_threads.specs.declared.claimed.Answer.{Answer}
 

@@ -1,8 +1,6 @@
 -- The observable state of the test devices.
 use Rattle.std.specs.Prelude.{ℕ, List}
-use Rattle.qh_write.specs.declared.mem_sink.MemSink.{MemSink}
-use Rattle.qh_write.specs.declared.fakes.FailSink.{FailSink}
-use Rattle.qh_write.specs.declared.fakes.SinkPlan.{SinkPlan}
+use Rattle.qh_write.specs.declared.{fakes.FailSink.FailSink, fakes.SinkPlan.SinkPlan, mem_sink.MemSink.MemSink}
 
 -- the bytes that the sink received
 abbrev pub kept : MemSink → List ℕ

@@ -1,8 +1,7 @@
 -- The bytes that are sent to a device of lines.
 use Rattle.std.specs.Prelude.{ℕ, ◌≡◌, ◌+◌, List, [], ◌∷◌, ◌++◌, Option, Result, MatchResult, is_ok, if◌then◌else◌}
 use Rattle.std.specs.Io.KnownBytes.{Appends}
-use Rattle.qh_write.specs.declared.sink.SinkFault.{SinkFault}
-use Rattle.qh_write.specs.headline.Sinks.{AppendsBeginning}
+use Rattle.qh_write.specs.{declared.sink.SinkFault.SinkFault, headline.Sinks.AppendsBeginning}
 
 -- a text and a line end were sent; or the device failed after a prefix of them
 abbrev pub SendsLine : Option (List ℕ) → Option (List ℕ) → List ℕ → Result (Unit {0}) SinkFault → Type 0

@@ -1,8 +1,7 @@
 -- The numbers of pairs of ids, by which the writer counts edges.
 use Rattle.std.specs.Prelude.{ℕ, ◌≡◌, ◌<◌, ◌==◌, List, [], ◌∷◌, ◌++◌, if◌then◌else◌}
 use Rattle.std.specs.List.{flat_map, AllByRecursion}
-use Rattle.qh_model.specs.{contract.Halves.packed, declared.keys.packed.TheConstants.HALF_ROOM}
-use Rattle.qh_model.specs.headline.Fan.{pairs_round}
+use Rattle.qh_model.specs.{contract.Halves.packed, declared.keys.packed.TheConstants.HALF_ROOM, headline.Fan.pairs_round}
 
 -- the number of a pair of two ids; a pair of equal ids has none
 abbrev pub pair_key : ℕ × ℕ → List ℕ

@@ -2,8 +2,7 @@
 -- Source: OpenGL (a fan of triangles goes out from its first vertex).
 use Rattle.std.specs.Prelude.{ℕ, List}
 use Rattle.qh_model.specs.headline.{Fan.fans, Fan.edge_count, Hull.BodyValue}
-use Rattle.qh_write.specs.declared.texts.forms.Form.{Form}
-use Rattle.qh_write.specs.declared.texts.forms.Form.TheVariants.{Whole, Fans}
+use Rattle.qh_write.specs.declared.texts.forms.Form.{Form, TheVariants.Whole, TheVariants.Fans}
 
 -- the faces in a form
 abbrev pub shown : Form → List (List ℕ) → List (List ℕ)

@@ -1,11 +1,8 @@
 -- The numbers of vertices, as the writer finds them: in a table with an entry for each id, or by a search among the extreme ids.
 use Rattle.std.specs.Prelude.{ℕ, suc, ◌≡◌, ◌<◌, List, [], ◌∷◌, ◌++◌, All, length, set, slice_index, decimal}
-use Rattle.std.specs.List.{flat_map}
-use Rattle.std.specs.List.Sorted.{IsStrictlyIncreasing}
-use Rattle.qh_model.specs.headline.Sets.{In}
-use Rattle.qh_model.specs.headline.Text.{line, spaced, vertex_number}
-use Rattle.qh_write.specs.declared.texts.numbering.VertexNumbers.{VertexNumbers}
-use Rattle.qh_write.specs.declared.texts.numbering.VertexNumbers.TheVariants.{Table, Search}
+use Rattle.std.specs.List.{flat_map, Sorted.IsStrictlyIncreasing}
+use Rattle.qh_model.specs.headline.{Sets.In, Text.line, Text.spaced, Text.vertex_number}
+use Rattle.qh_write.specs.declared.texts.numbering.VertexNumbers.{VertexNumbers, TheVariants.Table, TheVariants.Search}
 
 -- the table with the numbers from n on, set at the ids in turn
 abbrev pub numbered : List ℕ → ℕ → List ℕ → List ℕ

@@ -1,8 +1,7 @@
 //! Fans of triangles in place of the faces.
 ghost use Rattle.std.specs.Prelude.{◌≡◌, ◌++◌, ◌<◌, OnOk, IfOk, All, length, decimal};
 ghost use Rattle.std.specs.List.{flat_map};
-ghost use Rattle.qh_model.specs.headline.Fan.{fan, fans, edge_count};
-ghost use Rattle.qh_model.specs.headline.Text.{line, spaced};
+ghost use Rattle.qh_model.specs.headline.{Fan.fan, Fan.fans, Fan.edge_count, Text.line, Text.spaced};
 ghost use Rattle.qh_write.specs.steps.Numberings.{AreNumbered, face_by_numbers};
 
 use super::edges::fan_edges;

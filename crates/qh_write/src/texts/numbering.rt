@@ -1,8 +1,7 @@
 //! The numbers of vertices.
 ghost use Rattle.std.specs.Prelude.{◌≡◌, ◌<◌, IfOk, All, replicate};
 ghost use Rattle.std.specs.List.Sorted.{IsStrictlyIncreasing};
-ghost use Rattle.qh_model.specs.headline.Sets.{In};
-ghost use Rattle.qh_model.specs.headline.Text.{vertex_number};
+ghost use Rattle.qh_model.specs.headline.{Sets.In, Text.vertex_number};
 ghost use Rattle.qh_write.specs.steps.Numberings.{numbered, number_in, HasNumber, NumberExtremes};
 
 use qh_model::Id;

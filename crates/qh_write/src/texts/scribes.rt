@@ -1,11 +1,8 @@
 //! Scribes, which write the lines of vertices and faces: with the calling thread alone, or with several threads.
 ghost use Rattle.std.specs.Prelude.{◌≡◌, ◌++◌, ◌*◌, ◌<◌, IfOk, OnOk, All, length, take, drop};
-ghost use Rattle.std.specs.List.{flat_map};
-ghost use Rattle.std.specs.Thread.{IsSync};
-ghost use Rattle.qh_model.specs.headline.Predicates.{place};
-ghost use Rattle.qh_model.specs.headline.Text.{vertex_text};
-ghost use Rattle.qh_write.specs.contract.Pieces.{bytes_in};
-ghost use Rattle.qh_write.specs.steps.Forms.{shown};
+ghost use Rattle.std.specs.{List.flat_map, Thread.IsSync};
+ghost use Rattle.qh_model.specs.headline.{Predicates.place, Text.vertex_text};
+ghost use Rattle.qh_write.specs.{contract.Pieces.bytes_in, steps.Forms.shown};
 ghost use Rattle.qh_write.specs.steps.Numberings.{AreNumbered, face_by_numbers};
 
 use super::forms::Form;

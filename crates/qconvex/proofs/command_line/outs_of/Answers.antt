@@ -1,6 +1,5 @@
 -- The outputs so far are those of the words.
-use Rattle.std.proofs.Common.{◌≡◌, arith, map}
-use Rattle.std.proofs.lemmas.Grind.{common_steps}
+use Rattle.std.proofs.{Common.◌≡◌, Common.arith, Common.map, lemmas.Grind.common_steps}
 use Rattle.qconvex.specs.contract.CommandLine.{word_of}
 use Rattle.qconvex.proofs.CommandLines.{word_at}
 use Rattle.qconvex.proofs.command_line.outs_of.Goals as goal

@@ -1,7 +1,6 @@
 -- The corners so far, and the remaining triangles.
 use Rattle.std.proofs.Common.{◌≡◌, ◌++◌}
-use Rattle.qconvex_c.specs.contract.Flat.{corners_of}
-use Rattle.qconvex_c.specs.steps.FaceFans.{face_corners}
+use Rattle.qconvex_c.specs.{contract.Flat.corners_of, steps.FaceFans.face_corners}
 use Rattle.qconvex_c.proofs.fans.push_corners.Given as goal
 
 abbrev pub invariant-loop-u : goal.invariant-loop-u

@@ -1,6 +1,5 @@
 -- Three more components.
-use Rattle.std.proofs.Common.{arith}
-use Rattle.std.proofs.lemmas.Grind.{common_steps}
+use Rattle.std.proofs.{Common.arith, lemmas.Grind.common_steps}
 use Rattle.qconvex_c.proofs.fans.push_normal.Goals as goal
 
 pub returns : goal.returns

@@ -1,10 +1,8 @@
 -- The normals so far, and the remaining triangles.
 use Rattle.std.proofs.Common.{◌≡◌, ◌++◌, All}
 use Rattle.std.specs.List.{flat_map}
-use Rattle.qh_model.specs.contract.IdSets.{AreIndices}
-use Rattle.qh_model.specs.headline.Predicates.{place}
-use Rattle.qconvex_c.specs.contract.Triangles.{normal_of}
-use Rattle.qconvex_c.specs.steps.FaceFans.{face_normals}
+use Rattle.qh_model.specs.{contract.IdSets.AreIndices, headline.Predicates.place}
+use Rattle.qconvex_c.specs.{contract.Triangles.normal_of, steps.FaceFans.face_normals}
 use Rattle.qconvex_c.proofs.fans.push_normals.Given as goal
 
 abbrev pub invariant-loop-u : goal.invariant-loop-u

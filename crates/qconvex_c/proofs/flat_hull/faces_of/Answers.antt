@@ -1,6 +1,5 @@
 -- The corners and the offsets of the faces so far.
-use Rattle.std.proofs.Common.{arith}
-use Rattle.std.proofs.lemmas.Grind.{common_steps}
+use Rattle.std.proofs.{Common.arith, lemmas.Grind.common_steps}
 use Rattle.qconvex_c.proofs.flat_hull.faces_of.Goals as goal
 
 pub loop-face-init : goal.loop-face-init

@@ -1,15 +1,11 @@
 -- A walk has found live facets: their corners are ids of points, and the polygon of the corners is a new face.
-use Rattle.std.proofs.Common.{rules, ◌≡◌, length}
-use Rattle.std.proofs.lemmas.Result.{IfOk-weaker}
-use Rattle.std.proofs.lemmas.List.Elements.{All-weaker}
-use Rattle.qh_model.specs.headline.Predicates.{place}
-use Rattle.qh_model.specs.contract.StoredSurface.{surface_of}
+use Rattle.std.proofs.{Common.rules, Common.◌≡◌, Common.length, lemmas.Result.IfOk-weaker, lemmas.List.Elements.All-weaker}
+use Rattle.qh_model.specs.{contract.StoredSurface.surface_of, headline.Predicates.place}
 use Rattle.qh_mesh.specs.contract.Replacement.{IsLive}
 use Rattle.qh_surface.specs.contract.NamedMeshes.{named}
 use Rattle.qh_surface.proofs.NamedFacets.{named_live}
-use Rattle.qh_block.proofs.finished.{Corners.corners_in, NamedWalks.walk_named, NewFaces.new_face}
+use Rattle.qh_block.proofs.finished.{Corners.corners_in, NamedWalks.walk_named, NewFaces.new_face, LoneTriangles.lone_triangle}
 use Rattle.qh_model.proofs.surfaces.FacetPlanes.{level_itself}
-use Rattle.qh_block.proofs.finished.LoneTriangles.{lone_triangle}
 use Rattle.qh_block.proofs.faces.new_face.Goals as goal
 
 pub walk-requires-clause-passes : goal.walk-requires-clause-passes

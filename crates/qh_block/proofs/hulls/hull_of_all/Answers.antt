@@ -1,6 +1,5 @@
 -- The hull of a point, and that of a solid from its finished mesh.
-use Rattle.std.proofs.Common.{subst}
-use Rattle.std.proofs.lemmas.Result.{IfOk-weaker}
+use Rattle.std.proofs.{Common.subst, lemmas.Result.IfOk-weaker}
 use Rattle.qh_model.proofs.Members.{rising_once}
 use Rattle.qh_block.specs.steps.FlatBodies.{IsFlatBody}
 use Rattle.qh_block.proofs.flats.Bodies.{point_is_body}

@@ -1,6 +1,5 @@
 -- The keys are the same for both, or one of them occurs more often for one.
-use Rattle.qh_bodies.proofs.AbsentValues.{is_none_tells}
-use Rattle.qh_bodies.proofs.StepBorders.{one_border, other_border}
+use Rattle.qh_bodies.proofs.{AbsentValues.is_none_tells, StepBorders.one_border, StepBorders.other_border}
 use Rattle.qh_bodies.proofs.borders.have_one_border.Goals as goal
 
 pub returns : goal.returns

@@ -1,7 +1,6 @@
 -- The steps so far, and the remaining sides.
 use Rattle.std.proofs.Common.{◌≡◌, ◌++◌, map}
-use Rattle.qh_model.specs.contract.Halves.{halves}
-use Rattle.qh_model.specs.contract.ClosedPolygons.{steps_round}
+use Rattle.qh_model.specs.contract.{Halves.halves, ClosedPolygons.steps_round}
 use Rattle.qh_bodies.proofs.closed.list_steps.Given as goal
 
 abbrev pub invariant-loop-from : goal.invariant-loop-from

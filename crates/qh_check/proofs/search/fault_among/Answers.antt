@@ -2,9 +2,7 @@
 use Rattle.std.proofs.Common.{ℕ, [], arith, below_more, get_or, subst, List}
 use Rattle.std.proofs.lemmas.List.{get_or_default}
 use Rattle.std.specs.Prelude.{Option, MatchOption}
-use Rattle.qh_check.specs.declared.fault.FaceFault.{FaceFault}
-use Rattle.qh_check.specs.steps.Faces.{IsFaultOf}
-use Rattle.qh_check.specs.steps.Findings.{IsSeen}
+use Rattle.qh_check.specs.{declared.fault.FaceFault.FaceFault, steps.Faces.IsFaultOf, steps.Findings.IsSeen}
 use Rattle.qh_check.proofs.search.fault_among.Goals as goal
 
 pub loop-position-preserved : goal.loop-position-preserved

@@ -1,10 +1,9 @@
 -- The faces of one more part.
 use Rattle.std.proofs.Common.{inl, inr, refl, subst}
+use Rattle.std.proofs.lemmas.List.Sorted.{IsPermutation-sym}
 use Rattle.std.specs.Prelude.{IfOk, IfSome}
 use Rattle.qh_model.specs.headline.Sets.{In}
-use Rattle.std.proofs.lemmas.List.Sorted.{IsPermutation-sym}
-use Rattle.qh_model.proofs.Members.{in_permutation}
-use Rattle.qh_model.proofs.lists.Joined.{of_append}
+use Rattle.qh_model.proofs.{Members.in_permutation, lists.Joined.of_append}
 use Rattle.qh_bodies.proofs.StepCounts.{closed_of_both}
 use Rattle.qh_parts.specs.steps.Given.{IsContribution}
 use Rattle.qh_parts.proofs.Popped.{of_last, of_front}

@@ -1,6 +1,5 @@
 -- One shifted is a power of two.
-use Rattle.std.proofs.Common.{arith}
-use Rattle.std.proofs.lemmas.Nat.{one_shl}
+use Rattle.std.proofs.{Common.arith, lemmas.Nat.one_shl}
 use Rattle.qh_places.proofs.levels.positions.Goals as goal
 
 pub returns : goal.returns

@@ -1,6 +1,5 @@
 -- The size of a product is that of its factors, multiplied.
-use Rattle.std.proofs.Common.{◌∙◌, ◌^◌, lit<}
-use Rattle.std.proofs.lemmas.Int.{to_z-of_z}
+use Rattle.std.proofs.{Common.◌∙◌, Common.◌^◌, Common.lit<, lemmas.Int.to_z-of_z}
 use Rattle.qh_places.proofs.Products.{IsProduct, product, size_of}
 use Rattle.qh_places.proofs.slabs.component_product.Goals as goal
 use mir.Syntax.{w16, w32, w64}

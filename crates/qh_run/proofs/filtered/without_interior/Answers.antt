@@ -1,10 +1,7 @@
 -- The ids that remain after the filter have the hull of the set's ids, and are no more.
 use Rattle.std.proofs.Common.{◌≤◌, length, ap, subst, sym}
-use Rattle.qh_model.specs.contract.Cut.{positions}
-use Rattle.qh_model.specs.headline.Predicates.{place}
-use Rattle.qh_model.proofs.Members.{rising_once}
-use Rattle.qh_model.proofs.hulls.SameSets.{body_of_part}
-use Rattle.qh_model.proofs.lists.OnceEach.{once_within}
+use Rattle.qh_model.specs.{contract.Cut.positions, headline.Predicates.place}
+use Rattle.qh_model.proofs.{Members.rising_once, hulls.SameSets.body_of_part, lists.OnceEach.once_within}
 use Rattle.qh_run.proofs.filtered.without_interior.Goals as goal
 
 pub bounds_among-requires-clause-few : goal.bounds_among-requires-clause-few

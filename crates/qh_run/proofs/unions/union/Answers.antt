@@ -1,8 +1,6 @@
 use Rattle.std.proofs.Common.{◌≡◌, ◌++◌, ◌∙◌, eqb, sym, subst, ap, List}
-use Rattle.std.specs.Prelude.{◌↔◌, ℕ}
-use Rattle.std.proofs.lemmas.List.Filters.{dedup_is}
-use Rattle.std.proofs.lemmas.Map.Keys.{IsStrictlyIncreasing-dedup}
-use Rattle.std.specs.List.Sorted.{IsStrictlyIncreasing}
+use Rattle.std.proofs.lemmas.{List.Filters.dedup_is, Map.Keys.IsStrictlyIncreasing-dedup}
+use Rattle.std.specs.{Prelude.◌↔◌, Prelude.ℕ, List.Sorted.IsStrictlyIncreasing}
 use Rattle.qh_model.specs.headline.Sets.{In}
 use Rattle.qh_model.proofs.lists.Joined.{in_append, of_append}
 use Rattle.qh_polygon.proofs.KeptIds.{kept_members}

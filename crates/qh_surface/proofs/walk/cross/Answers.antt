@@ -4,8 +4,7 @@ use Rattle.qh_model.specs.contract.StoredSurface.{surface_of}
 use Rattle.qh_mesh.specs.contract.Edges.{facet_of, nth_side}
 use Rattle.qh_mesh.proofs.Rewiring.{over-twin}
 use Rattle.qh_surface.specs.contract.Walks.{mark_at, IsMet}
-use Rattle.qh_surface.proofs.{LiveFacets.live_below, WalkSteps.joined, WalkSteps.joined_further, WalkSteps.met}
-use Rattle.qh_surface.proofs.walk.cross.Given.{Over}
+use Rattle.qh_surface.proofs.{LiveFacets.live_below, WalkSteps.joined, WalkSteps.joined_further, WalkSteps.met, walk.cross.Given.Over}
 use Rattle.qh_surface.proofs.walk.cross.Goals as goal
 use Rattle.qh_surface.proofs.walk.cross.Goals.{After-push_reserved}
 

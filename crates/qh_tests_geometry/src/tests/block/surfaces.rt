@@ -1,7 +1,6 @@
 //! The surfaces of solid sets, checked by a simple checker: each edge has its opposite, each triangle supports all
 //! points, and the counts are Euler's.
-ghost use Rattle.qh_model.specs.contract.IdSets.{IsIdSet};
-ghost use Rattle.qh_model.specs.contract.IdSets.{AreIndices};
+ghost use Rattle.qh_model.specs.contract.IdSets.{IsIdSet, AreIndices};
 
 use qh_block::surface;
 use qh_fixtures::points::{LIMIT, lattice, octahedron, point, tetrahedron};

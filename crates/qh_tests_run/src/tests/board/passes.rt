@@ -1,8 +1,7 @@
 //! Runs passes, and records their events.
 ghost use Rattle.std.specs.Prelude.{◌≡◌, ◌+◌, ◌<◌, IfOk, IfSome, All, false, length};
 ghost use Rattle.qh_model.specs.contract.BoardMachine.{InSpan};
-ghost use Rattle.qh_board.specs.contract.Closings.{closed_setup};
-ghost use Rattle.qh_board.specs.contract.Tokens.{IsOf, task_node};
+ghost use Rattle.qh_board.specs.contract.{Closings.closed_setup, Tokens.IsOf, Tokens.task_node};
 ghost use Rattle.qh_tests_run.specs.Rising.{IsRisingListOf};
 
 use super::numbers::{Numbers, alone, merged};

@@ -1,7 +1,6 @@
 //! Many boards, whose passes run in parallel, some of which give up.
 ghost use Rattle.std.specs.Prelude.{◌≡◌, ◌<◌, ◌++◌, IfOk, All, false, length};
-ghost use Rattle.qh_board.specs.contract.Closings.{closed_setup};
-ghost use Rattle.qh_board.specs.contract.Tokens.{IsOf};
+ghost use Rattle.qh_board.specs.contract.{Closings.closed_setup, Tokens.IsOf};
 
 use super::numbers::Numbers;
 use super::passes::{Log, Met, work_but};

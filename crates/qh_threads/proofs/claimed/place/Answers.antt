@@ -1,6 +1,5 @@
 -- One more value in its slot.
-use Rattle.std.proofs.Common.{subst, All, length}
-use Rattle.std.proofs.lemmas.List.Elements.{All-tail}
+use Rattle.std.proofs.{Common.subst, Common.All, Common.length, lemmas.List.Elements.All-tail}
 use Rattle.std.specs.Vec.Iter.{into_iter_items}
 use Rattle.qh_threads.proofs.Placing.{answer_placed}
 use Rattle.qh_threads.specs.steps.Answers.{IsAnswer}

@@ -1,7 +1,5 @@
 -- The corners of the facets, sorted and without duplicates.
-use Rattle.std.proofs.Common.{eqb}
-use Rattle.std.proofs.lemmas.List.Filters.{dedup_is}
-use Rattle.std.proofs.lemmas.Map.Keys.{IsStrictlyIncreasing-dedup}
+use Rattle.std.proofs.{Common.eqb, lemmas.List.Filters.dedup_is, lemmas.Map.Keys.IsStrictlyIncreasing-dedup}
 use Rattle.qh_surface.specs.contract.NamedMeshes.{named}
 use Rattle.qh_block.proofs.finished.Corners.{in_corners}
 use Rattle.qh_polygon.proofs.KeptIds.{kept_members}

@@ -1,6 +1,5 @@
 -- The rest of a component after the steps.
-use Rattle.std.proofs.Common.{◌≡◌, arith}
-use Rattle.std.proofs.lemmas.Int.{ints}
+use Rattle.std.proofs.{Common.◌≡◌, Common.arith, lemmas.Int.ints}
 use Rattle.std.specs.Prelude.{◌+ℤ◌}
 use Rattle.qh_block.proofs.CoarsePlanes.{rest_is, same_product}
 use Rattle.qh_block.proofs.regions.coarse_planes.rest_of.Goals as goal

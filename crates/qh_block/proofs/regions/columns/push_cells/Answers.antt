@@ -1,8 +1,7 @@
 -- Three cells of the column, one after the other.
 use Rattle.std.proofs.Common.{List, All, ◌≡◌, [], ◌∷◌, ◌++◌}
 use Rattle.qh_model.proofs.Members.{all_and}
-use Rattle.qh_block.specs.declared.regions.cells.Cell.{Cell}
-use Rattle.qh_block.specs.contract.Cells.{IsCellOf}
+use Rattle.qh_block.specs.{contract.Cells.IsCellOf, declared.regions.cells.Cell.Cell}
 use Rattle.qh_block.proofs.regions.columns.push_cells.Goals as goal
 
 pub returns : goal.returns

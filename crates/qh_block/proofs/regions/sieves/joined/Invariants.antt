@@ -1,7 +1,6 @@
 -- The kept ids of the parts so far are kept of all their ids.
 use Rattle.std.proofs.Common.{◌*◌, take}
-use Rattle.qh_block.specs.contract.Cells.{HoldsPoint}
-use Rattle.qh_block.specs.contract.KeptIds.{KeepsExtremes}
+use Rattle.qh_block.specs.contract.{Cells.HoldsPoint, KeptIds.KeepsExtremes}
 use Rattle.qh_block.proofs.regions.sieves.joined.Given as goal
 
 abbrev pub invariant-loop-part : goal.invariant-loop-part

@@ -1,7 +1,6 @@
 -- Sorted keys have the same ids.
-use Rattle.std.proofs.Common.{IsPermutation, map, subst}
+use Rattle.std.proofs.Common.{IsPermutation, map, subst, List, ℕ}
 use Rattle.std.proofs.lemmas.List.Sorted.{IsPermutation-map}
-use Rattle.std.proofs.Common.{List, ℕ}
 use Rattle.qh_check.specs.steps.Hidden.{id_in}
 use Rattle.qh_check.proofs.convex.curve.keys_along.Goals as goal
 

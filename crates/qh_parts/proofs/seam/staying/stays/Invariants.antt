@@ -1,8 +1,7 @@
 -- The part was tested against the other parts so far.
 use Rattle.std.proofs.Common.{◌≡◌, ℕ, ◌<◌, ◌⊎◌, get_or}
 use Rattle.qh_surface.specs.contract.Walks.{mark_at}
-use Rattle.qh_parts_join.specs.declared.parts.Part.{Part}
-use Rattle.qh_parts_join.specs.contract.Parts.{own_in}
+use Rattle.qh_parts_join.specs.{contract.Parts.own_in, declared.parts.Part.Part}
 use Rattle.qh_parts.specs.steps.Apart.{IsApart}
 use Rattle.qh_parts.proofs.seam.staying.stays.Given as goal
 

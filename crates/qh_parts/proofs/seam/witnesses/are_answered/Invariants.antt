@@ -1,6 +1,5 @@
 -- The points that do not remain have witnesses.
-use Rattle.qh_model.specs.headline.{Predicates.place}
-use Rattle.qh_model.specs.contract.StoredSurface.{surface_of}
+use Rattle.qh_model.specs.{contract.StoredSurface.surface_of, headline.Predicates.place}
 use Rattle.qh_surface.specs.contract.{NamedMeshes.named, Walks.mark_at}
 use Rattle.qh_parts.specs.steps.Witnesses.{IsAnswered}
 use Rattle.qh_parts_join.proofs.Runs.{AreLeft}

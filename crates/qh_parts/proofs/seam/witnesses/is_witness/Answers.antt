@@ -1,9 +1,7 @@
 -- One more point is settled.
 use Rattle.std.proofs.Common.{◌≡◌, ◌<◌, ◌∙◌, inl, inr, length, get_or, arith, ap, sym, subst}
-use Rattle.std.proofs.lemmas.Bool.{cases_lt}
-use Rattle.std.proofs.lemmas.List.{get_or_default}
-use Rattle.qh_model.specs.headline.Predicates.{place}
-use Rattle.qh_model.specs.contract.StoredSurface.{surface_of}
+use Rattle.std.proofs.lemmas.{Bool.cases_lt, List.get_or_default}
+use Rattle.qh_model.specs.{contract.StoredSurface.surface_of, headline.Predicates.place}
 use Rattle.qh_model.proofs.Members.{to_contains}
 use Rattle.qh_surface.specs.contract.{NamedMeshes.named, Walks.mark_at}
 use Rattle.qh_parts.specs.steps.Witnesses.{IsAnswered}

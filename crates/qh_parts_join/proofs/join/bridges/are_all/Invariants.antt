@@ -1,7 +1,6 @@
 -- The answers so far are true.
 use Rattle.std.proofs.Common.{◌≡◌, true, take}
-use Rattle.std.specs.Prelude.{Ok}
-use Rattle.std.specs.List.{All}
+use Rattle.std.specs.{Prelude.Ok, List.All}
 use Rattle.qh_parts_join.proofs.join.bridges.are_all.Given as goal
 
 abbrev pub invariant-loop-answer : goal.invariant-loop-answer

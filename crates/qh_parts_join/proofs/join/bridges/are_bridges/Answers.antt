@@ -1,8 +1,7 @@
 -- If the polygons of each piece are faces, all polygons are.
 use Rattle.std.proofs.Common.{◌<◌, length, refl, subst, arith, true}
 use Rattle.std.proofs.lemmas.Result.{IfOk-weaker}
-use Rattle.std.specs.Prelude.{Ok, IfOk, IsTrue}
-use Rattle.std.specs.List.{All}
+use Rattle.std.specs.{Prelude.Ok, Prelude.IfOk, Prelude.IsTrue, List.All}
 use Rattle.qh_places.proofs.Chunks.{chunk_all}
 use Rattle.qh_parts_join.specs.steps.Bridges.{IsBridge}
 use Rattle.qh_parts_join.proofs.join.bridges.are_bridges.Goals as goal

@@ -2,8 +2,7 @@
 use Rattle.std.proofs.Common.{◌≡◌, ◌∙◌, false, subst, sym}
 use Rattle.std.proofs.lemmas.Bool.{both_ways}
 use Rattle.std.specs.Cmp.Lexicographic.{same_text}
-use Rattle.qh_model.specs.headline.{Predicates.place, Predicates.AreInLine, Sets.Members}
-use Rattle.qh_model.specs.headline.Polygons.{IsFacePolygon}
+use Rattle.qh_model.specs.headline.{Predicates.place, Predicates.AreInLine, Sets.Members, Polygons.IsFacePolygon}
 use Rattle.qh_places.proofs.LevelFaces.{triple, face}
 use Rattle.qh_parts_join.proofs.BridgeLevels.{level_indices}
 use Rattle.qh_parts_join.proofs.join.bridges.is_face_at.Goals as goal

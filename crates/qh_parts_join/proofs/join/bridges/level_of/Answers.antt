@@ -2,8 +2,7 @@
 use Rattle.std.proofs.Common.{[]}
 use Rattle.std.specs.List.{flat_map}
 use Rattle.qh_parts_join.specs.contract.Kept.{held_in}
-use Rattle.qh_parts_join.proofs.LevelPlanes.{none_level, level_for}
-use Rattle.qh_parts_join.proofs.BridgeLevels.{held_kept}
+use Rattle.qh_parts_join.proofs.{LevelPlanes.none_level, LevelPlanes.level_for, BridgeLevels.held_kept}
 use Rattle.qh_parts_join.proofs.join.bridges.level_of.Goals as goal
 
 pub returns-clause-level : goal.returns-clause-level

@@ -5,8 +5,7 @@ use Rattle.std.specs.List.{flat_map}
 use Rattle.qh_model.proofs.{Members.All-In, Members.In-get_or, lists.Images.in_map}
 use Rattle.qh_model.specs.headline.Sets.{In}
 use Rattle.qh_places.specs.contract.Places.{AreLevel}
-use Rattle.qh_parts_join.specs.contract.Kept.{held_in, ArePlaced}
-use Rattle.qh_parts_join.specs.steps.Bridges.{places_in}
+use Rattle.qh_parts_join.specs.{contract.Kept.held_in, contract.Kept.ArePlaced, steps.Bridges.places_in}
 use Rattle.qh_parts_join.proofs.LevelPlanes.{level_both, flat_next}
 use Rattle.qh_parts_join.proofs.join.bridges.list_own.Goals as goal
 

@@ -3,8 +3,7 @@ use Rattle.std.proofs.Common.{ℕ, List, ◌++◌, map, take}
 use Rattle.std.specs.List.{All, flat_map}
 use Rattle.qh_model.specs.headline.Vector.{Vector}
 use Rattle.qh_places.specs.contract.Places.{AreLevel}
-use Rattle.qh_parts_join.specs.contract.Kept.{held_in, ArePlaced}
-use Rattle.qh_parts_join.specs.steps.Bridges.{places_in}
+use Rattle.qh_parts_join.specs.{contract.Kept.held_in, contract.Kept.ArePlaced, steps.Bridges.places_in}
 use Rattle.qh_parts_join.proofs.join.bridges.list_own.Given as goal
 
 abbrev pub invariant-loop-part : goal.invariant-loop-part

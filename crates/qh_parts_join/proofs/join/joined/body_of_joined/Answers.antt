@@ -1,6 +1,5 @@
 -- Joined faces that close up are closed faces of the set.
-use Rattle.std.proofs.Common.{◌≡◌, length, arith}
-use Rattle.std.proofs.lemmas.List.Sorted.{IsPermutation-sym}
+use Rattle.std.proofs.{Common.◌≡◌, Common.length, Common.arith, lemmas.List.Sorted.IsPermutation-sym}
 use Rattle.qh_model.proofs.Members.{in_permutation}
 use Rattle.qh_bodies.proofs.StepCounts.{closed_permuted}
 use Rattle.qh_laws.proofs.Joined.{closed_faces}

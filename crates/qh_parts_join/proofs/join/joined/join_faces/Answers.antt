@@ -1,12 +1,8 @@
 -- Each polygon is contributed by a part or is a face of the kept ids, and they close up as the faces of the parts do.
-use Rattle.std.proofs.Common.{inl, inr}
-use Rattle.std.proofs.lemmas.{List.Sorted.IsPermutation-sym, Option.IfSome_then, Result.IfOk-weaker}
-use Rattle.qh_model.specs.headline.{Predicates.place, Sets.Members}
-use Rattle.qh_model.specs.contract.IdSets.{HasDistinctPoints}
-use Rattle.qh_model.proofs.Members.{All-In, in_permutation}
-use Rattle.qh_model.proofs.lists.Joined.{of_append}
-use Rattle.qh_bodies.proofs.StepCounts.{closed_permuted}
-use Rattle.qh_bodies.proofs.StepBorders.{closed_by_border}
+use Rattle.std.proofs.{Common.inl, Common.inr, lemmas.Option.IfSome_then, lemmas.Result.IfOk-weaker, lemmas.List.Sorted.IsPermutation-sym}
+use Rattle.qh_model.specs.{contract.IdSets.HasDistinctPoints, headline.Predicates.place, headline.Sets.Members}
+use Rattle.qh_model.proofs.{Members.All-In, Members.in_permutation, lists.Joined.of_append}
+use Rattle.qh_bodies.proofs.{StepCounts.closed_permuted, StepBorders.closed_by_border}
 use Rattle.qh_parts_join.specs.steps.Bridges.{IsBridge}
 use Rattle.qh_parts_join.proofs.join.joined.join_faces.Goals as goal
 

@@ -1,7 +1,6 @@
 -- One more point reaches no further.
 use Rattle.std.proofs.Common.{arith, subst, ◌∙◌, inl, inr, ◌≡◌, get_or}
-use Rattle.std.proofs.lemmas.List.{get_or_default}
-use Rattle.std.proofs.lemmas.Bool.{cases_lt}
+use Rattle.std.proofs.lemmas.{List.get_or_default, Bool.cases_lt}
 use Rattle.std.specs.Prelude.{◌≤ℤ◌}
 use Rattle.qh_model.specs.headline.Vector.{Vector, origin, dot}
 use Rattle.qh_places.specs.steps.Slabs.{vector_of}

@@ -3,8 +3,7 @@ use Rattle.qh_read.proofs.faces.corners.take_corners.Given as goal
 use Rattle.std.proofs.Common.{ℕ, ◌≡◌, ◌-◌, List, length}
 use Rattle.std.specs.Prelude.{Option}
 use Rattle.qh_model.specs.declared.read_fault.ReadFault.{ReadFault}
-use Rattle.qh_read.specs.declared.numerals.Numeral.{Numeral}
-use Rattle.qh_read.specs.{contract.FaceFaults.corners_fault, steps.Corners.AreTaken}
+use Rattle.qh_read.specs.{contract.FaceFaults.corners_fault, declared.numerals.Numeral.Numeral, steps.Corners.AreTaken}
 
 abbrev pub invariant-corners : goal.invariant-corners
 invariant-corners l = record {

@@ -1,5 +1,4 @@
-use Rattle.std.proofs.Common.{arith, subst, sym}
-use Rattle.std.proofs.lemmas.Grind.{common_steps}
+use Rattle.std.proofs.{Common.arith, Common.subst, Common.sym, lemmas.Grind.common_steps}
 use Rattle.qh_model.specs.contract.IdSets.{AreIndices}
 use Rattle.qh_run.proofs.blocks.Blocks.ask_sample.Goals as goal
 

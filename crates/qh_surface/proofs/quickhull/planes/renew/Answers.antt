@@ -1,8 +1,7 @@
 -- One more plane is written.
 use Rattle.std.proofs.Common.{slice_index, ◌≡◌, arith, refl, ◌∙◌, length-set}
 use Rattle.std.proofs.lemmas.List.{get_or_read}
-use Rattle.qh_surface.proofs.LiveFacets.{live_below}
-use Rattle.qh_surface.proofs.runs.RenewedPlanes.{none_renewed, more_renewed, all_renewed}
+use Rattle.qh_surface.proofs.{LiveFacets.live_below, runs.RenewedPlanes.none_renewed, runs.RenewedPlanes.more_renewed, runs.RenewedPlanes.all_renewed}
 use Rattle.qh_surface.proofs.quickhull.planes.renew.Goals as goal
 
 pub loop-facet-init : goal.loop-facet-init

@@ -1,9 +1,8 @@
 -- The point is not above one more facet.
-use Rattle.std.proofs.Common.{take_all, pos, ◌≤ℤ◌}
-use Rattle.std.proofs.lemmas.List.{get_or_read, Elements.All-more}
+use Rattle.std.proofs.{Common.take_all, Common.pos, Common.◌≤ℤ◌, lemmas.List.get_or_read, lemmas.List.Elements.All-more}
 use Rattle.qh_model.proofs.{Members.In-get_or, algebra.Signs.at_most_zero}
 use Rattle.qh_pred.specs.contract.Planes.{height}
-use Rattle.qh_surface.{specs.steps.Planes.no_plane, specs.steps.Planes.plane_at}
+use Rattle.qh_surface.specs.steps.Planes.{no_plane, plane_at}
 use Rattle.qh_surface.proofs.quickhull.settling.first_below.Goals as goal
 
 pub loop-at-preserved : goal.loop-at-preserved

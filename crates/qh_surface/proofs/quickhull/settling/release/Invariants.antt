@@ -1,7 +1,6 @@
 -- The points of the facets so far are orphans.
 use Rattle.std.proofs.Common.{◌≡◌, length, take}
-use Rattle.qh_surface.specs.contract.OutsideSets.{listed}
-use Rattle.qh_surface.specs.steps.{Settling.AreReleased}
+use Rattle.qh_surface.specs.{contract.OutsideSets.listed, steps.Settling.AreReleased}
 use Rattle.qh_surface.proofs.quickhull.settling.release.Given as goal
 
 abbrev pub invariant-loop-facet : goal.invariant-loop-facet

@@ -1,6 +1,5 @@
 -- A finished run has a finished surface over the points of the ids.
-use Rattle.std.proofs.Common.{◌∙◌}
-use Rattle.std.proofs.lemmas.List.{length-map}
+use Rattle.std.proofs.{Common.◌∙◌, lemmas.List.length-map}
 use Rattle.qh_surface.proofs.runs.{FinishedRuns.finished, OrderedIds.simplex_in}
 use Rattle.qh_surface.proofs.quickhull.surfaces.run_over.Goals as goal
 

@@ -1,10 +1,7 @@
 -- A facet without an outside set is skipped, and the first point of a set is the apex.
 use Rattle.std.proofs.Common.{◌<◌, ◌≡◌, ◌∙◌, ◌∷◌, sym, subst, length, refl, arith, IsPermutation}
-use Rattle.std.proofs.lemmas.List.{nil_from_length}
-use Rattle.std.proofs.lemmas.List.Elements.{All-head, All-tail}
-use Rattle.std.proofs.lemmas.List.Sorted.{All-permutation, IsPermutation-swap_remove}
-use Rattle.qh_surface.specs.contract.OutsideSets.{OutsideValue}
-use Rattle.qh_surface.specs.steps.{Runs.with_waiting, Runs.IsUnderWay, Runs.IsPicked}
+use Rattle.std.proofs.lemmas.List.{nil_from_length, Elements.All-head, Elements.All-tail, Sorted.All-permutation, Sorted.IsPermutation-swap_remove}
+use Rattle.qh_surface.specs.{contract.OutsideSets.OutsideValue, steps.Runs.with_waiting, steps.Runs.IsUnderWay, steps.Runs.IsPicked}
 use Rattle.qh_surface.proofs.runs.PickedApexes.{taken_is, none_taken, passed_over, picked, all_done}
 use Rattle.qh_surface.proofs.quickhull.waiting_facets.next_apex.Goals as goal
 

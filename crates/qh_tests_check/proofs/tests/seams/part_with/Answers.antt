@@ -1,6 +1,5 @@
 -- The own ids and the shared ones are indices.
-use Rattle.std.proofs.Common.{◌<◌, length}
-use Rattle.std.proofs.lemmas.List.Elements.{All-append}
+use Rattle.std.proofs.{Common.◌<◌, Common.length, lemmas.List.Elements.All-append}
 use Rattle.qh_tests_check.proofs.tests.seams.part_with.Goals as goal
 
 pub of-requires : goal.of-requires

@@ -1,7 +1,6 @@
 -- One more facet is live, and differs from those before it.
 use Rattle.std.proofs.Common.{◌≡◌, ◌+◌, ◌<◌, arith, rules, slice_index, take}
-use Rattle.std.proofs.lemmas.List.{get_or_read, take_more}
-use Rattle.std.proofs.lemmas.List.Elements.{All-push, All-weaker}
+use Rattle.std.proofs.lemmas.List.{get_or_read, take_more, Elements.All-push, Elements.All-weaker}
 use Rattle.qh_model.proofs.Members.{All-In}
 use Rattle.qh_mesh.specs.contract.Replacement.{IsLive}
 use Rattle.qh_mesh.proofs.ListedFacets.{once_push}

@@ -1,5 +1,4 @@
-use Rattle.std.proofs.Common.{arith}
-use Rattle.std.proofs.lemmas.Grind.{common_steps}
+use Rattle.std.proofs.{Common.arith, lemmas.Grind.common_steps}
 use Rattle.qh_tests_run.proofs.tests.run.job.Goals as goal
 
 pub invariant_of-result : goal.invariant_of-result

@@ -1,6 +1,5 @@
 -- Ends between those of the bounds.
-use Rattle.std.proofs.Common.{arith}
-use Rattle.std.proofs.lemmas.Int.{ints}
+use Rattle.std.proofs.{Common.arith, lemmas.Int.ints}
 use Rattle.qh_block.proofs.regions.bounds.Bounds.common.Goals as goal
 
 pub returns : goal.returns

@@ -1,6 +1,5 @@
 -- The sorted keys have the same facets.
-use Rattle.std.proofs.Common.{map, subst, sym}
-use Rattle.std.proofs.lemmas.Result.{IfOk-weaker}
+use Rattle.std.proofs.{Common.map, Common.subst, Common.sym, lemmas.Result.IfOk-weaker}
 use Rattle.std.proofs.lemmas.List.Sorted.{IsPermutation-map, IsPermutation-sym}
 use Rattle.qh_model.specs.headline.Sets.{In}
 use Rattle.qh_model.proofs.Members.{in_permutation}

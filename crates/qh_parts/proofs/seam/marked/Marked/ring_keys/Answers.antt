@@ -4,8 +4,7 @@ use Rattle.qh_model.proofs.surfaces.Stored.{live_is_marked}
 use Rattle.qh_surface.specs.contract.Walks.{mark_at}
 use Rattle.qh_parts.specs.steps.RingKeys.{facet_in}
 use Rattle.qh_parts_join.proofs.Asked.{next_live, asking_ends}
-use Rattle.qh_parts.proofs.RingFacets.{ring_starts, ring_goes}
-use Rattle.qh_parts.proofs.RingsBefore.{ring_before}
+use Rattle.qh_parts.proofs.{RingFacets.ring_starts, RingFacets.ring_goes, RingsBefore.ring_before}
 use Rattle.qh_parts.proofs.seam.marked.Marked.ring_keys.Goals as goal
 
 pub loop-f-init : goal.loop-f-init

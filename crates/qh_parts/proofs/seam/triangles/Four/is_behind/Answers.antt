@@ -1,6 +1,5 @@
 -- Four times the height of the middle is the sum of four volumes.
-use Rattle.std.proofs.Common.{rules, ◌≡◌, ◌∙◌}
-use Rattle.std.proofs.lemmas.Int.{to_z-of_z}
+use Rattle.std.proofs.{Common.rules, Common.◌≡◌, Common.◌∙◌, lemmas.Int.to_z-of_z}
 use Rattle.std.specs.Prelude.{ℤ, pos, ◌+ℤ◌, ◌≤ℤ◌}
 use Rattle.qh_parts.proofs.seam.triangles.Four.is_behind.Goals as goal
 use mir.Syntax.{w128}
