@@ -5,8 +5,9 @@
 
 Each limit below is the count on the day when it was set; lower it when you lower the count. The words are those of the table
 "Words that are not used" of docs/GLOSSARY.md. Names (written there as code) are counted in the sources only, other words in
-the documents, too. The limit of a word that is not named below is 0. Parameters are counted without self, rt and alloc. The
-status is 1 if a count is above its limit.
+the documents, too. The limit of a word that is not named below is 0. Riddles are words of RIDDLES in comments and documents: a
+sentence with one of them often leaves out what it is about. Parameters are counted without self, rt and alloc. The status is 1
+if a count is above its limit.
 """
 import argparse
 import re
@@ -28,10 +29,14 @@ LIMITS = {
     "bare bools": 0,
     "long files": 0,
     "long lines": 12,
+    "riddles": 0,
 }
 WORD_LIMITS = {
     "is none": 2,
 }
+RIDDLES = re.compile(
+    r"\b(tells?|told|telling|asks?|asked|asking|stands?|stood|standing|what is left|(comes?|came) of)\b", re.I
+)
 
 # Something that is counted: its name and where it stands.
 Count = namedtuple("Count", "name places")
@@ -41,6 +46,8 @@ BARE_BOOL = re.compile(r"\w+\s*:\s*bool")
 OPENING, CLOSING = "([{<", ")]}>"
 FORBIDDEN = re.compile(r"^\| (`?)([^`|]+?)\1 \| ")
 UNREAD = {"GLOSSARY.md", "CHANGELOG.md"}
+COMMENT = {".rt": re.compile(r"\s*//[/!]? ?(.*)"), ".antt": re.compile(r"\s*-- ?(.*)"), ".md": re.compile(r"(.*)")}
+QUOTED = re.compile(r"`[^`]*`|\[\w+\]\([^)]*\)")
 
 
 def closing_index(text, start):
@@ -128,6 +135,17 @@ def word_count(sources, word):
     return Count(word, places)
 
 
+def riddle_count(texts):
+    """Where comments and documents have riddles. Words in backquotes and names of files are not counted."""
+    places = []
+    for path, text in texts:
+        for number, row in enumerate(text.splitlines(), 1):
+            comment = COMMENT[path.suffix].match(row)
+            if comment:
+                places += [f"{path}:{number}"] * len(RIDDLES.findall(QUOTED.sub("", comment.group(1))))
+    return Count("riddles", places)
+
+
 def read(*patterns):
     """The files of some patterns, by their paths from the top, with their texts."""
     paths = sorted(path for pattern in patterns for path in TOP.glob(pattern) if path.is_file())
@@ -151,9 +169,10 @@ def main():
     every = parser.parse_args().list
     programs = read("crates/*/src/**/*.rt")
     sources = programs + read("crates/*/specs/**/*.antt", "crates/*/proofs/**/*.antt")
-    documents = read("*.md", "docs/*.md", "scripts/README.md", "examples/README.md")
+    documents = read("*.md", "docs/*.md", "crates/*/README.md", "*/README.md")
     words = forbidden_words(GLOSSARY.read_text(encoding="utf-8"))
     faults = [above(count, LIMITS, every) for count in parameter_counts(programs) + size_counts(sources)]
+    faults.append(above(riddle_count(sources + documents), LIMITS, every))
     counts = [word_count(sources if is_name else sources + documents, word) for word, is_name in words]
     faults += [above(count, WORD_LIMITS, every) for count in counts]
     sys.exit(1 if any(faults) else 0)

@@ -13,15 +13,15 @@ WORKERS = [
          "fn in_turn<A, B, F: FnOnce() -> A, G: FnOnce() -> B>(one: F, two: G) -> (A, B) {\n    (one(), two())\n}\n"),
         ("join(\n        rt,\n", "in_turn(\n"),
     ]),
-    ("two-passes-whatever-the-number", ROOT, [("workers.min(job.cut.blocks())", "workers.min(2)")]),
+    ("two-passes-whatever-the-number", ROOT, [("workers.min(set.cut.blocks())", "workers.min(2)")]),
     ("hulls-on-the-caller-alone", ROOT, [
-        ("match reduced(rt, alloc, job, passes, gate)? {", "match reduced(rt, alloc, job, passes.min(0), gate)? {"),
+        ("match reduced(rt, alloc, set, passes, gate)? {", "match reduced(rt, alloc, set, passes.min(0), gate)? {"),
     ]),
     ("ignores-the-roots-list", RUN, [
         ("Some(part) => gate.finish(alloc, pts, part),", "Some(_) => gate.finish(alloc, pts, ids),"),
     ]),
     ("starts-no-worker", PASSES, [("run_pass(alloc, board, pass, gate)", "board.leave(pass)")]),
-    ("gives-up-at-a-join", "crates/qh_run/src/job.rt", [
+    ("gives-up-at-a-join", "crates/qh_run/src/blocks.rt", [
         ("        let both = union(alloc, &even.ids, &odd.ids)?;\n",
          "        let both = union(alloc, &even.ids, &odd.ids)?;\n"
          "        if !both.is_empty() {\n            return Err(GivesUp);\n        }\n"),

@@ -7,7 +7,7 @@ from pathlib import Path
 
 sys.path.insert(0, str(Path(__file__).resolve().parents[1]))
 from gate.measures import (  # noqa: E402
-    Count, above, forbidden_words, functions_of, parameter_counts, parts_of, size_counts, word_count,
+    Count, above, forbidden_words, functions_of, parameter_counts, parts_of, riddle_count, size_counts, word_count,
 )
 
 
@@ -31,6 +31,16 @@ class Sizes(unittest.TestCase):
     def test_long_files_and_long_lines(self):
         files, lines = size_counts([("a", "x\n" * 300), ("b", "x\n" * 301), ("c", "x" * 160 + "\n" + "x" * 161)])
         self.assertEqual((files.places, lines.places), (["b: 301"], ["c:2"]))
+
+
+class Riddles(unittest.TestCase):
+    def test_riddles_are_counted_in_comments_and_pages_outside_of_code(self):
+        texts = [
+            (Path("a.rt"), "/// Tells what is left.\nlet told = ask(stands); // `told`\n"),
+            (Path("b.antt"), "-- told, and asked\ntold : Told\n"),
+            (Path("c.md"), "It stands in `told`, a standard.\n"),
+        ]
+        self.assertEqual(riddle_count(texts).places, ["a.rt:1", "a.rt:1", "b.antt:1", "b.antt:1", "c.md:1"])
 
 
 class Words(unittest.TestCase):

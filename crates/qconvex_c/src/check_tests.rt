@@ -1,6 +1,6 @@
 //! A check of the faces of a cube, as Geomview's OFF has them, and of five of them.
 use crate::tests::cube;
-use crate::{DONE, OPEN, RIGHT, Verdict, qconvex_check};
+use crate::{DONE, OPEN, OTHERS, RIGHT, Verdict, qconvex_check};
 use std::alloc::Global;
 use std::test::Fail;
 
@@ -36,6 +36,13 @@ fn faces_of_a_cube(rt: HostRuntime) -> Result<(), Fail> {
     assert_eq!(rt; right, (DONE, RIGHT));
     let open = told(rt.alloc(), &OFFSETS[..6], &CORNERS);
     assert_eq!(rt; open, (DONE, OPEN));
+    Ok(())
+}
+
+#[test]
+fn no_faces(rt: HostRuntime) -> Result<(), Fail> {
+    let none = told(rt.alloc(), &OFFSETS[..1], &CORNERS[..0]);
+    assert_eq!(rt; none, (DONE, OTHERS));
     Ok(())
 }
 

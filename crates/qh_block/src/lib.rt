@@ -6,10 +6,11 @@
 //! the line, or the polygon in the plane.
 //!
 //! For a large set the interior filter first drops most of the points that are inside ([`interior`], by the regions of
-//! [`regions`]). `qh_surface` makes the surface. A walk finds the triangles of one plane (`plane_walk`), and `faces` makes the polygon from them. `qh_bodies` sorts the
-//! faces and counts their edges, and `solids` makes the hull from them. `gathered` puts the points of a set next to
-//! each other. `blocking` has the rules of how a set is divided, for this crate and those above. `segment` finds the
-//! ends of a line, `normals` the side from which a polygon is seen, and `bodies` makes the hulls of flat sets.
+//! [`regions`]). `qh_surface` makes the surface. A walk finds the triangles of one plane (`plane_walk`), and `faces` makes
+//! the polygon from them. `qh_bodies` sorts the faces and counts their edges, and `solids` makes the hull from them.
+//! `gathered` puts the points of a set next to each other. `blocking` has the rules of how a set is divided, for this
+//! crate and those above. `segment` finds the ends of a line, `normals` the side from which a polygon is seen, and
+//! `bodies` makes the hulls of flat sets.
 #![tactic(auto)]
 
 mod blocking;

@@ -1,13 +1,14 @@
-//! Regions of space that hold points inside a set, and the ids of the set that are left outside of them.
+//! Regions of space inside the hull of a set, and the ids of the set whose points no region contains.
 //!
-//! A [`Region`] tells of a point whether it has it (`region`). There are two: the [`CornerBox`] between a few points
+//! A [`Region`] decides if it contains a point (`region`). There are two: the [`CornerBox`] between a few points
 //! of a set, and [`Columns`] of cells between planes.
 //!
 //! Planes with short normals ([`CoarsePlane`]) lie close under those of a hull. They cut each column of a `grid` into
 //! `cells`, which are boxes (`bounds`) between some `heights`, each with the few planes that come near it.
 //!
-//! [`ids_outside`] goes over the ids of an [`IdSet`] and keeps those whose points a region doesn't have. A [`Sieve`]
-//! makes the cells of columns and sorts out what they hold: the calling thread ([`Alone`]) or several ([`InThreads`]).
+//! [`ids_outside`] keeps the ids of an [`IdSet`] whose points a region doesn't contain. A [`Sieve`] makes the cells of
+//! columns and removes the ids of the points that they contain, by the calling thread ([`Alone`]) or by several
+//! ([`InThreads`]).
 
 mod bounds;
 mod cells;

@@ -50,7 +50,8 @@ fn few_stand_out(alloc: Global, pts: &[Point], ids: &[Id]) -> Result<bool, Memor
 }
 
 /// Returns the hull of a set by parts of it, however small it is. Returns `None` if the attempt fails: a part lies in a
-/// plane, or a guess of what stays of the parts, or of what closes the gap between them, is not verified.
+/// plane, or a guess of what stays of the parts, or of what closes the gap between them, is not verified. The contract
+/// allows `None` in every case.
 ///
 /// `ids` are indices of points. The caller ensures that they rise and have distinct points (`IsIdSet`).
 ///

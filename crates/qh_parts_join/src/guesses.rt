@@ -23,7 +23,8 @@ pub struct Run {
     pub count: usize,
 }
 
-/// A guess which facets of a part stay. Any guess is allowed: `qh_parts::seam` checks each, and accepts only right ones.
+/// A guess which facets of a part stay. Any guess is allowed: `qh_parts::seam` checks each, and accepts only right
+/// ones.
 #[derive(Clone, Copy, Drop)]
 pub struct Guess<'a> {
     /// For each place of the part's mesh, in order, true if the guess is that its facet stays.

@@ -59,7 +59,8 @@ fn corners_and_shared(alloc: Global, parts: &[Part], shared: &[Id]) -> Result<Ve
 }
 
 /// Returns the kept ids of a set, rising: the corners of its parts and the shared ids. Returns `None` if the ids of the
-/// parts are not exactly those of the set, or a shared id is not in it. `ids` rise.
+/// parts are not exactly those of the set, or a shared id is not in it; the contract allows it in every case. `ids`
+/// rise.
 ///
 /// # Errors
 ///

@@ -192,8 +192,8 @@ fn marked(alloc: Global, ids: &[Id], marks: &[bool]) -> Result<Vec<Id>, AllocErr
 
 impl Part {
     /// Returns the part of listed ids, if the shared ids, those of every part, are among them, and the points of the
-    /// first four shared ids do not lie in one plane. The ids may have any order and may repeat. The part is faster if
-    /// near ids are near each other in the list.
+    /// first four shared ids do not lie in one plane. The contract allows `None` in every case. The ids may have any
+    /// order and may repeat. The part is faster if near ids are near each other in the list.
     ///
     /// # Errors
     ///

@@ -15,7 +15,7 @@ pub struct Job<'a> {
     pub pts: &'a [Point],
     pub ids: &'a [Id],
     pub cut: &'a Cut,
-    ghost distinct: { AreDistinctIds pts.now ids.now },
+    ghost distinct: { ∥ AreDistinctIds pts.now ids.now ∥₁ },
     ghost whole: { positions cut.now ≡ length ids.now },
 }
 

@@ -96,7 +96,7 @@ def swallowed(reading: Reading) -> List[str]:
     lost = [c for c in reading.comments if c.line > 2 and full[c.line] < 3 and re.search(rb"[ \t][+-]?\d", c.text)]
     if not lost:
         return []
-    return [f"Numbers stand in comments, as in line {lost[0].line}: a name goes behind the numbers of its row, not before."]
+    return [f"Comments have numbers, as in line {lost[0].line}: a name goes behind the numbers of its row, not before."]
 
 
 def file_advice(data: bytes, reading: Reading) -> List[str]:

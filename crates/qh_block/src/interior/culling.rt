@@ -122,7 +122,8 @@ fn cull_part(alloc: Global, set: IdSet, part: Vec<Id>) -> Result<Vec<Id>, Memory
 }
 
 /// Returns the ids of a set without those that the calling thread finds not to be extreme: those in its corner box, and
-/// of a large set those strictly inside the hull of a sample. Returns `None` if no filter pays.
+/// of a large set those strictly inside the hull of a sample. Returns `None` if no filter pays; the contract allows it
+/// in every case.
 ///
 /// The set has at least one id. The returned ids include all extreme ids, so their hull is that of the set. They rise
 /// if the ids of the set do.
@@ -146,7 +147,8 @@ pub fn cull_alone(alloc: Global, set: IdSet) -> Result<Option<Vec<Id>>, Memory>
 }
 
 /// Returns the ids of a large set without those that the interior filter finds strictly inside, by at most `threads`
-/// threads. Returns `None` if no filter pays: the set is small, or the sample shows that few ids are inside.
+/// threads. Returns `None` if no filter pays: the set is small, or the sample shows that few ids are inside. The
+/// contract allows `None` in every case.
 ///
 /// `ids` has at least one id, each the index of one of the points. The returned ids include all extreme ids, so their
 /// hull is that of the set. They rise if `ids` does.

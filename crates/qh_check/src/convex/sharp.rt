@@ -49,7 +49,8 @@ fn are_sharp(
     Ok(surroundings.has_under(alloc, &hidden)?)
 }
 
-/// Checks if polygons are the hull of a set, all of them triangles with an angle at each edge. They may have any order
+/// Checks if polygons are the hull of a set, all of them triangles with an angle at each edge. The contract allows
+/// `false` in every case. The polygons may have any order
 /// and begin at any corner. Ids that are not corners may lie under triangles.
 ///
 /// Each id is the index of one of the points. The caller ensures that the ids have distinct points (`IsIdSet`). If the

@@ -71,8 +71,9 @@ fn stays<'a>(
     Ok(true)
 }
 
-/// Returns the faces of the part of this number, if the guess which facets of it stay is shown to be right. The chosen
-/// faces, those of its marked facets, are faces of the set. The other faces are removed.
+/// Returns the faces of the part of this number, if the guess which facets of it stay is shown to be right. The
+/// contract allows `None` in every case. The chosen faces, those of its marked facets, are faces of the set. The other
+/// faces are removed.
 ///
 /// # Errors
 ///

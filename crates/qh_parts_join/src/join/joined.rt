@@ -98,7 +98,8 @@ fn body_of_joined(alloc: Global, faces: UnsortedFaces) -> Result<Option<Body>, M
 
 /// Returns the hull of a set from faces that its parts contribute and polygons that close the gap between them. Returns
 /// `None` if one of these polygons is no face of the kept ids of the set, if they do not have the border of the faces
-/// that are gone, or if two faces are the same. One worker makes the hull while the others check the bridges.
+/// that are gone, or if two faces are the same; the contract allows it in every case. One worker makes the hull while
+/// the others check the bridges.
 ///
 /// The caller ensures that `given` has the faces stated above, that `given` and the faces that are `gone` together
 /// close up, and that the set is solid; `bridges` may be any polygons. `workers` of 0 counts as one, and then a second

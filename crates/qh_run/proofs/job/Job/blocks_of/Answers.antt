@@ -1,3 +1,4 @@
+use Rattle.std.proofs.{Math.Logic.∥∥₁_elim, Props.props}
 use Rattle.qh_model.proofs.DistinctIds.{ids_within}
 use Rattle.qh_plane.proofs.DistinctLists.{id_set}
 use Rattle.qh_run.proofs.job.Job.blocks_of.Goals as goal
@@ -5,5 +6,11 @@ use Rattle.qh_run.proofs.job.Job.blocks_of.Goals as goal
 pub invariant_of-result : goal.invariant_of-result
 invariant_of-result c =
     let job = c.args.self.now in
-    let set = id_set job.pts.now job.ids.now job.distinct in
-    record { indices = ids_within job.pts.now job.ids.now job.distinct; rising = set.rising; distinct = set.distinct; whole = job.whole }
+    let pts = job.pts.now in
+    let ids = job.ids.now in
+    record {
+      indices = ∥∥₁_elim job.distinct (Prim.hlevel props) (ids_within pts ids);
+      rising = ∥∥₁_elim job.distinct (Prim.hlevel props) (λ d. d.rising);
+      distinct = ∥∥₁_elim job.distinct (Prim.hlevel props) (λ d. (id_set pts ids d).distinct);
+      whole = job.whole;
+    }

@@ -1,4 +1,4 @@
--- The next apex is picked from the run, and there is none if no facet waits.
+-- At the end of the last round no facet waits.
 use Rattle.qh_surface.specs.steps.RunStates.{state_of}
 use Rattle.qh_surface.proofs.quickhull.run.Run.finish.Goals as goal
 
