@@ -68,12 +68,12 @@ def _finest(lows: list[float], highs: list[float], bits: int) -> tuple[int, list
         exponent += 1
 
 
-def _errors(floats: NDArray[np.float64], steps: NDArray[np.float64], whole: NDArray[np.float64], exponent: int) -> float:
+def _error(floats: NDArray[np.float64], steps: NDArray[np.float64], whole: NDArray[np.float64], exponent: int) -> float:
     """The greatest distance between floats and whole steps. Each one is a float, so none is rounded."""
-    if (steps == whole).all() and ((steps != 0) | (floats == 0)).all():
-        return 0.0
-    moved = np.ldexp(steps - whole, exponent)
-    return float(np.abs(np.where(whole == 0, floats, moved)).max())
+    moved = steps - whole
+    if exponent > 0:  # a small float may have become 0, or have lost digits; it is as far from 0 as it was
+        return float(np.abs(np.where(whole == 0, floats, np.ldexp(moved, exponent))).max())
+    return ldexp(float(np.maximum.reduce(np.abs(moved, out=moved), axis=None)), exponent)
 
 
 def snap(points: Any, bits: int = BITS_LIMIT) -> Snapped:
@@ -106,14 +106,16 @@ def snapped(floats: NDArray[np.float64], bits: int) -> Snapped:
         varying = np.where(np.equal(lows, highs), 0.0, floats)
     steps = np.ldexp(varying, -exponent)
     whole = np.rint(steps)
-    error = max(_errors(varying, steps, whole, exponent), *(axis.error for axis in axes))
-    whole -= [float(axis.low) if low < high else 0.0 for axis, low, high in zip(axes, lows, highs)]
+    error = max(_error(varying, steps, whole, exponent), axes[0].error, axes[1].error, axes[2].error)
+    whole -= np.array([float(axis.low) if low < high else 0.0 for axis, low, high in zip(axes, lows, highs)])
     exact = 0 if error else _shift(whole, axes, exponent)
     ends = [(axis.low >> exact, axis.high >> exact) for axis in axes]
     halves = [(high - low) // 2 for low, high in ends]
-    numbers = ((np.ldexp(whole, -exact) if exact else whole) - halves).astype(np.int32)
-    x, y, z = (low + half for (low, _), half in zip(ends, halves))
-    return Snapped(numbers, ldexp(1.0, exponent + exact), (x, y, z), error)
+    if exact:
+        np.ldexp(whole, -exact, out=whole)
+    whole -= np.array(halves, np.float64)
+    x, y, z = [low + half for (low, _), half in zip(ends, halves)]
+    return Snapped(whole.astype(np.int32), ldexp(1.0, exponent + exact), (x, y, z), error)
 
 
 def _shift(whole: NDArray[np.float64], axes: list[_Axis], exponent: int) -> int:

@@ -24,8 +24,9 @@ WholePoints = Union[NDArray[np.integer[Any]], NDArray[np.object_], Sequence[Sequ
 _BEYOND = 2 * COORDINATE_LIMIT
 
 WHOLE_REFUSAL = (
-    "points must be whole numbers, and are {}: ConvexHull.from_floats takes floats, by whole numbers near them; or multiply them "
-    "by a scale that makes them whole, and convert them, as in numpy.rint(points * 1000).astype(numpy.int64)"
+    "points must be whole numbers, and are {}: ConvexHull.from_floats takes floats, by whole numbers near them, as hulls does with "
+    "bits=30; or multiply them by a scale that makes them whole, and convert them, as in "
+    "numpy.rint(points * 1000).astype(numpy.int64)"
 )
 
 
