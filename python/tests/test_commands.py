@@ -187,22 +187,6 @@ def test_coordinates_of_any_length_are_written():
     assert lines[0] == "six times the volume: 1" + "0" * 6000
 
 
-@pytest.mark.parametrize("seed", range(5))
-def test_numpy_finds_what_the_loops_find(seed, monkeypatch):
-    numpy = pytest.importorskip("numpy")
-    from qconvex import ConvexHull
-    from qconvex.commands import closed_surfaces, hullfacets
-
-    monkeypatch.setattr(closed_surfaces, "LEAST_FACES", 2)
-    rng, reach = numpy.random.default_rng(seed), [1, 2, 6, 1000, _limits.COORDINATE_LIMIT][seed]
-    for count in (8, 20, 90):
-        hull = ConvexHull([*(numpy.array(CUBE) * 2 * reach - reach).tolist(), *rng.integers(-reach, reach + 1, (count, 3)).tolist()])
-        points, faces = [tuple(point) for point in hull.points[hull.vertices].tolist()], hull._numbered_faces()
-        assert closed_surfaces.described_by_numpy(points, faces) == hullfacets.described_by_loops(points, faces)
-        for wrong in (faces[1:], [faces[0][::-1], *faces[1:]], [*faces, faces[0]], [[*faces[0][:2], *faces[0][1:]], *faces[1:]]):
-            assert closed_surfaces.described_by_numpy(points, wrong) is None
-
-
 # ---- hullview
 
 
