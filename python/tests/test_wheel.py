@@ -48,4 +48,5 @@ def test_the_wheel_is_installed_and_makes_a_hull(wheel, tmp_path):
     environment = {**kept, "PYTHONPATH": str(tmp_path / "packages")}
     done = subprocess.run([sys.executable, "-c", code], check=True, capture_output=True, text=True, cwd=tmp_path, env=environment)
     assert done.stdout.split() == [str(tmp_path / "packages" / "qconvex" / "__init__.py"), "4"]
-    assert (tmp_path / "packages" / "bin" / "meshcheck").exists()
+    for place in ("bin/meshcheck", "share/man/man1/meshcheck.1"):
+        assert (tmp_path / "packages" / place).exists()
