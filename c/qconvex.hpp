@@ -221,7 +221,7 @@ struct Answer {
 namespace detail {
 
 /* Fewer points than this one thread takes, and points of which more than two fifths of a sample are extreme. */
-constexpr std::size_t least_points = 1 << 16, sample_points = 1 << 12, part_points = 1 << 13;
+inline constexpr std::size_t least_points = 1 << 16, sample_points = 1 << 12, part_points = 1 << 13;
 
 struct Free {
     void operator()(void *memory) const noexcept { std::free(memory); }

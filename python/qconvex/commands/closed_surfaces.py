@@ -116,27 +116,36 @@ def cross(u: Any, v: Any) -> Any:
 def planes_of(arrays: Arrays, sides: Sides) -> Optional[Tuple[Any, Wide, int]]:
     """The normal and the level of each face without a common divisor, if all faces are plane, and six times the volume."""
     places, starts = np.ascontiguousarray(arrays.points.T), arrays.offsets[:-1]
-    firsts = places[:, arrays.corners[starts]]
-    ways = places[:, arrays.corners] - firsts[:, sides.faces]
-    normals = cross(ways[:, starts + 1], ways[:, starts + 2])
+    firsts = places.take(arrays.corners[starts], 1)
+    second, third = (places.take(arrays.corners[starts + place], 1) - firsts for place in (1, 2))
+    normals = cross(second, third)
     if not normals.any(axis=0).all():
         return None
-    turns, of_turns = normals, slice(None)
-    if len(arrays.corners) > 3 * len(starts):
-        inner = np.flatnonzero(sides.before + 2 == sides.behind)
-        turns, of_turns = cross(ways[:, inner], ways[:, inner + 1]), sides.faces[inner]
-        if not are_plane(normals, ways, sides.faces) or (turns.astype(float) * normals[:, of_turns]).sum(axis=0).min() < 0:
-            return None
-    volume = sum_of(*dot(turns, firsts[:, of_turns]))
+    volume = volume_of(arrays, sides, places, normals)
+    if volume is None:
+        return None
     divisors = np.gcd(np.gcd(normals[0], normals[1]), normals[2])
     common = (divisors > 1).nonzero()[0]
     normals[:, common] //= divisors[common]
     return np.ascontiguousarray(normals.T), wide_of(*dot(normals, firsts)), volume
 
 
+def volume_of(arrays: Arrays, sides: Sides, places: Any, normals: Any) -> Optional[int]:
+    """Six times the volume, if the corners of each face lie in its plane, and none turns back seen from the first."""
+    firsts = places.take(arrays.corners[arrays.offsets[:-1]], 1)
+    if len(arrays.corners) == normals.size:  # triangles
+        return sum_of(*dot(normals, firsts))
+    ways = places.take(arrays.corners, 1) - firsts.take(sides.faces, 1)
+    inner = np.flatnonzero(sides.before + 2 == sides.behind)
+    turns, of_turns = cross(ways.take(inner, 1), ways.take(inner + 1, 1)), sides.faces[inner]
+    if not are_plane(normals, ways, sides.faces) or (turns.astype(float) * normals.take(of_turns, 1)).sum(axis=0).min() < 0:
+        return None
+    return sum_of(*dot(turns, firsts.take(of_turns, 1)))
+
+
 def are_plane(normals: Any, ways: Any, faces: Any) -> bool:
     """Whether all corners lie in the planes of their faces; what 64 bits don't hold is not 0 in floats either."""
-    here = normals[:, faces]
+    here = normals.take(faces, 1)
     rounded = np.abs((here.astype(float) * ways).sum(axis=0))
     return not (here * ways).sum(axis=0).any() and not (rounded > CLOSE).any()
 

@@ -65,7 +65,7 @@ def blocks_of(fields: Sequence[Field]) -> Iterator[bytes]:
     """The text of all records, one after the other: of each the fields in their order."""
     groups = np.frombuffer(b"".join(b"%04d" % number for number in range(10**GROUP)), np.uint32)
     for start, end in cuts_of(fields):
-        letters = np.concatenate([letters_of(field, start, end, groups) for field in fields], axis=1)
+        letters = letters_of([column_of(field, start, end, groups) for field in fields])
         yield letters[letters != 0].tobytes()
 
 
@@ -83,12 +83,20 @@ def cuts_of(fields: Sequence[Field]) -> Iterator[Tuple[int, int]]:
             yield start, end
 
 
-def letters_of(field: Field, start: int, end: int, groups: Any) -> Any:
-    """The bytes of a field, a row for each record from one to before another."""
-    ends, count = field.ends[start : end + 1], end - start
+class Column(NamedTuple):
+    """A field of some records."""
+
+    before: bytes
+    between: bytes
+    digits: Any  # of the first, of the second number and so on of each record: (records, numbers, width)
+    absent: Any  # which records have fewer numbers, or None where all have as many
+
+
+def column_of(field: Field, start: int, end: int, groups: Any) -> Column:
+    """A field of the records from one to before another."""
+    ends, absent = field.ends[start : end + 1], None
     counts = np.diff(ends)
     most = int(counts.max())
-    absent = None
     if isinstance(field.numbers, Wide):
         digits = digits_of_wide(Wide(*(part[start:end] for part in field.numbers)), groups)
     elif (counts == most).all():
@@ -96,44 +104,56 @@ def letters_of(field: Field, start: int, end: int, groups: Any) -> Any:
     else:
         absent = np.arange(most) >= counts[:, np.newaxis]
         digits = digits_of(field.numbers[np.where(absent, 0, ends[:-1, np.newaxis] + np.arange(most))].ravel(), groups)
-    between = np.frombuffer(field.between.encode("ascii"), np.uint8)
-    made = np.empty((count, most, len(between) + digits.shape[1]), np.uint8)
-    made[:, :, : len(between)] = between
-    made[:, :, len(between) :] = digits.reshape(count, most, -1)
-    if absent is not None:
-        made[absent] = 0
-    before = np.frombuffer(field.before.encode("ascii"), np.uint8)
-    return np.concatenate([np.broadcast_to(before, (count, len(before))), made.reshape(count, -1)[:, len(between) :]], axis=1)
+    texts = field.before.encode("ascii"), field.between.encode("ascii")
+    return Column(*texts, digits.reshape(end - start, most, digits.shape[1]), absent)
+
+
+def letters_of(columns: Sequence[Column]) -> Any:
+    """The bytes of records, a row for each."""
+    shapes = [column.digits.shape for column in columns]
+    widths = [
+        len(column.before) + most * width + (most - 1) * len(column.between) for column, (_, most, width) in zip(columns, shapes)
+    ]
+    made, at = np.empty((shapes[0][0], sum(widths)), np.uint8), 0
+    for column, (_, most, width) in zip(columns, shapes):
+        for number in range(most):
+            text = column.between if number else column.before
+            begin, end = at + len(text), at + len(text) + width
+            made[:, at:begin] = np.frombuffer(text, np.uint8)
+            made[:, begin:end] = column.digits[:, number]
+            if column.absent is not None and number:
+                made[column.absent[:, number], at:end] = 0
+            at = end
+    return made
 
 
 def digits_of(numbers: Any, groups: Any) -> Any:
     """The digits of numbers of int64 to the right of their rows, behind a sign where a number is below 0."""
-    sizes = np.abs(numbers).astype(np.uint64)
+    sizes = np.abs(numbers)
     digits, shown = figures_of(sizes, len(str(int(sizes.max()))), groups)
     return signed(digits * shown, shown, numbers < 0)
 
 
 def digits_of_wide(numbers: Wide, groups: Any) -> Any:
     """The same of wide numbers."""
-    high, low = numbers.high.astype(np.uint64), numbers.low.astype(np.uint64)
-    most = int(high.max())
-    digits, shown = figures_of(low, HALF if most else len(str(int(low.max()))), groups)
+    most = int(numbers.high.max())
+    digits, shown = figures_of(numbers.low, HALF if most else len(str(int(numbers.low.max()))), groups)
     if most:
-        first, there = figures_of(high, len(str(most)), groups)
-        has_high = high[:, np.newaxis] > 0
+        first, there = figures_of(numbers.high, len(str(most)), groups)
+        has_high = numbers.high[:, np.newaxis] > 0
         digits, shown = np.concatenate([first, digits], axis=1), np.concatenate([there & has_high, shown | has_high], axis=1)
     return signed(digits * shown, shown, numbers.negative)
 
 
 def figures_of(sizes: Any, width: int, groups: Any) -> Tuple[Any, Any]:
     """The last digits of numbers, as many as a width, with zeros to the left, and which of them are no such zeros."""
-    count = -(-width // GROUP)
+    count, sizes = -(-width // GROUP), sizes.astype(np.uint32 if width < 10 else np.uint64)
     found, left = np.empty((len(sizes), count), np.uint32), sizes
     for group in range(count - 1, -1, -1):
         above = left // 10**GROUP
-        found[:, group] = groups[(left - above * 10**GROUP).astype(np.intp)]
+        found[:, group] = groups.take((left - above * 10**GROUP).astype(np.intp))
         left = above
-    powers = np.array([10**power for power in range(width - 1, 0, -1)] + [0], np.uint64)
+    powers = np.array([10**power for power in range(width - 1, 0, -1)] + [0], sizes.dtype)
     return found.view(np.uint8)[:, GROUP * count - width :], sizes[:, np.newaxis] >= powers
 
 
