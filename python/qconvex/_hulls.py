@@ -147,6 +147,9 @@ class FloatHulls(Hulls):
     def __getitem__(self, place: int | slice) -> Any:
         return super().__getitem__(place)
 
+    def __iter__(self) -> Iterator[FloatHull]:
+        return (self[place] for place in range(len(self)))
+
     def _made(self, number: int, rows: slice, hull: FlatHull) -> FloatHull:
         grids, (x, y, z) = self._grids, self._grids.centres[number].tolist()
         grid = Snapped(grids.points[rows], float(grids.steps[number]), (x, y, z), float(grids.errors[number]))
