@@ -14,7 +14,7 @@ if TYPE_CHECKING:
     from ._floats import FloatHull
     from ._grid import Snapped, snap
     from ._hull import ConvexHull
-    from ._hulls import Hulls, hulls
+    from ._hulls import FloatHulls, Hulls, hulls
     from ._library import VERSION as __version__
 
 __all__ = [
@@ -22,6 +22,7 @@ __all__ = [
     "POINT_LIMIT",
     "ConvexHull",
     "FloatHull",
+    "FloatHulls",
     "Hulls",
     "Snapped",
     "Verdict",
@@ -36,6 +37,7 @@ __all__ = [
 _NEEDS_LIBRARY = {
     "ConvexHull": ("._hull", "ConvexHull"),
     "FloatHull": ("._floats", "FloatHull"),
+    "FloatHulls": ("._hulls", "FloatHulls"),
     "Hulls": ("._hulls", "Hulls"),
     "Snapped": ("._grid", "Snapped"),
     "Verdict": ("._checks", "Verdict"),

@@ -11,8 +11,9 @@ import numpy as np
 from numpy.typing import NDArray
 
 from ._arrays import floats_of
-from ._grid import BITS_LIMIT, snapped
+from ._grid import BITS_LIMIT, Snapped, snapped
 from ._hull import ConvexHull
+from ._library import FlatHull
 from ._sides import Places
 from ._triangles import equations_of
 from ._workers import hull_by_parts
@@ -48,13 +49,23 @@ class FloatHull(ConvexHull):
     def __init__(self, points: Any, bits: int = BITS_LIMIT, *, workers: int = 1) -> None:
         floats = floats_of(points)
         grid = snapped(floats, operator.index(bits))
-        self._take(grid.points, hull_by_parts(grid.points, workers))
+        self._take_grid(floats, grid, hull_by_parts(grid.points, workers))
+        floats.setflags(write=False)
+        grid.points.setflags(write=False)
+
+    @classmethod
+    def _of_grid(cls, floats: NDArray[np.float64], grid: Snapped, hull: FlatHull) -> FloatHull:
+        """Returns an object for a hull that was made already."""
+        made = cls.__new__(cls)
+        made._take_grid(floats, grid, hull)
+        return made
+
+    def _take_grid(self, floats: NDArray[np.float64], grid: Snapped, hull: FlatHull) -> None:
+        self._take(grid.points, hull)
         self.points = floats
         self.scale: float = grid.step
         self.centre: tuple[int, int, int] = grid.centre
         self.snap_error: float = grid.error
-        floats.setflags(write=False)
-        grid.points.setflags(write=False)
 
     @cached_property
     def coordinates(self) -> NDArray[np.float64]:

@@ -4,7 +4,7 @@ from __future__ import annotations
 import operator
 from fractions import Fraction
 from math import frexp, ldexp
-from typing import Any, NamedTuple
+from typing import Any, NamedTuple, Tuple
 
 import numpy as np
 from numpy.typing import NDArray
@@ -17,7 +17,10 @@ BITS_LIMIT = 30
 FINEST = -1074
 """All floats are whole multiples of 2 to this power."""
 
-_ROWS = 256
+_FEW, _ROWS = 64, 256
+
+# Whole numbers below this are floats, and so are their differences.
+_WHOLE = 1 << 52
 
 
 class Snapped(NamedTuple):
@@ -29,8 +32,16 @@ class Snapped(NamedTuple):
     error: float  # the greatest distance along an axis from a float to its point, exactly
 
 
+def _ends_of(floats: NDArray[np.float64]) -> tuple[list[float], list[float]]:
+    """The least and the greatest float on each axis: Python finds those of few points, and numpy others, fast in long rows."""
+    if len(floats) <= _FEW:
+        axes = list(zip(*floats.tolist()))
+        return list(map(min, axes)), list(map(max, axes))
+    return _along_axes(np.minimum, floats), _along_axes(np.maximum, floats)
+
+
 def _along_axes(choice: np.ufunc, floats: NDArray[np.float64]) -> list[float]:
-    """The least or the greatest float on each axis; numpy finds them fast in long rows."""
+    """The least or the greatest float on each axis."""
     whole = len(floats) // _ROWS * _ROWS
     if whole:
         floats = np.concatenate([choice.reduce(floats[:whole].reshape(-1, 3 * _ROWS), axis=0).reshape(-1, 3), floats[whole:]])
@@ -38,42 +49,38 @@ def _along_axes(choice: np.ufunc, floats: NDArray[np.float64]) -> list[float]:
     return ends
 
 
-class _Axis(NamedTuple):
-    """The steps of the least and of the greatest float on an axis, and by how much the axis was rounded if it has one float."""
-
-    low: int
-    high: int
-    error: float
+# The steps of the least and of the greatest float on an axis, and by how much the axis was rounded if it has one float.
+_Axis = Tuple[int, int, float]
 
 
 def _axis_of(low: float, high: float, exponent: int) -> _Axis:
     """The ends of an axis in steps of 2 to an exponent, exactly rounded."""
     if low < high:
-        return _Axis(round(ldexp(low, -exponent)), round(ldexp(high, -exponent)), 0.0)
+        return round(ldexp(low, -exponent)), round(ldexp(high, -exponent)), 0.0
     whole = round(Fraction(low) / Fraction(2) ** exponent)
-    return _Axis(whole, whole, float(abs(Fraction(low) - whole * Fraction(2) ** exponent)))
+    return whole, whole, float(abs(Fraction(low) - whole * Fraction(2) ** exponent))
 
 
 def _finest(lows: list[float], highs: list[float], bits: int) -> tuple[int, list[_Axis]]:
     """The least exponent of 2 with which the whole numbers have at most `bits` bits, and the axes with it."""
-    extent = max(high / 2 - low / 2 for low, high in zip(lows, highs))
     if lows == highs:
         exponent = FINEST
     else:  # half the extent is at least 2^(bits - 1) steps; what dividing by two rounds is less than a step of the finest grid
+        extent = max([high / 2 - low / 2 for low, high in zip(lows, highs)])
         exponent = max(frexp(extent)[1] - bits - 1, FINEST)
     while True:
         axes = [_axis_of(low, high, exponent) for low, high in zip(lows, highs)]
-        if all(axis.high - axis.low <= 2 << bits for axis in axes):
+        if max([high - low for low, high, _ in axes]) <= 2 << bits:
             return exponent, axes
         exponent += 1
 
 
-def _errors(floats: NDArray[np.float64], steps: NDArray[np.float64], whole: NDArray[np.float64], exponent: int) -> float:
+def _error(floats: NDArray[np.float64], steps: NDArray[np.float64], whole: NDArray[np.float64], exponent: int) -> float:
     """The greatest distance between floats and whole steps. Each one is a float, so none is rounded."""
-    if (steps == whole).all() and ((steps != 0) | (floats == 0)).all():
-        return 0.0
-    moved = np.ldexp(steps - whole, exponent)
-    return float(np.abs(np.where(whole == 0, floats, moved)).max())
+    moved = steps - whole
+    if exponent > 0:  # a small float may have become 0, or have lost digits; it is as far from 0 as it was
+        return float(np.abs(np.where(whole == 0, floats, np.ldexp(moved, exponent))).max())
+    return ldexp(float(np.maximum.reduce(np.abs(moved, out=moved), axis=None)), exponent)
 
 
 def snap(points: Any, bits: int = BITS_LIMIT) -> Snapped:
@@ -99,28 +106,35 @@ def snapped(floats: NDArray[np.float64], bits: int) -> Snapped:
         raise ValueError("there is no point")
     if not 1 <= bits <= BITS_LIMIT:
         raise ValueError(f"bits must be from 1 to {BITS_LIMIT}")
-    lows, highs = _along_axes(np.minimum, floats), _along_axes(np.maximum, floats)
+    lows, highs = _ends_of(floats)
     exponent, axes = _finest(lows, highs, bits)
     varying = floats
     if any(map(operator.eq, lows, highs)):  # such an axis may be too far out for so small a step
         varying = np.where(np.equal(lows, highs), 0.0, floats)
     steps = np.ldexp(varying, -exponent)
     whole = np.rint(steps)
-    error = max(_errors(varying, steps, whole, exponent), *(axis.error for axis in axes))
-    whole -= [float(axis.low) if low < high else 0.0 for axis, low, high in zip(axes, lows, highs)]
-    exact = 0 if error else _shift(whole, axes, exponent)
-    ends = [(axis.low >> exact, axis.high >> exact) for axis in axes]
-    halves = [(high - low) // 2 for low, high in ends]
-    numbers = ((np.ldexp(whole, -exact) if exact else whole) - halves).astype(np.int32)
-    x, y, z = (low + half for (low, _), half in zip(ends, halves))
-    return Snapped(numbers, ldexp(1.0, exponent + exact), (x, y, z), error)
+    error = max([_error(varying, steps, whole, exponent), *[error for _, _, error in axes]])
+    firsts = [low if least < most else 0 for (low, _, _), least, most in zip(axes, lows, highs)]
+    shift = 0
+    if not error:
+        whole -= np.array(firsts, np.float64)
+        firsts, shift = [0, 0, 0], _shift(whole, axes, exponent)
+        np.ldexp(whole, -shift, out=whole)
+    middles = [((low >> shift) + (high >> shift)) // 2 for low, high, _ in axes]
+    ways = [middle - (low >> shift) + first for middle, (low, _, _), first in zip(middles, axes, firsts)]
+    if max([abs(way) for way in ways]) >= _WHOLE:  # no float has both the start of an axis and the half of its length
+        whole -= np.array(firsts, np.float64)
+        ways = [way - first for way, first in zip(ways, firsts)]
+    whole -= np.array(ways, np.float64)
+    x, y, z = middles
+    return Snapped(whole.astype(np.int32), ldexp(1.0, exponent + shift), (x, y, z), error)
 
 
 def _shift(whole: NDArray[np.float64], axes: list[_Axis], exponent: int) -> int:
     """By how many powers of two the step of an exact grid can be greater: up to 1 if that has room, else as far as it goes."""
     common = int(np.bitwise_or.reduce(whole.astype(np.int64), axis=None))
-    for axis in axes:
-        common |= axis.low
+    for low, _, _ in axes:
+        common |= low
     most = (common & -common).bit_length() - 1
     if exponent > 0:
         return most

@@ -24,8 +24,9 @@ WholePoints = Union[NDArray[np.integer[Any]], NDArray[np.object_], Sequence[Sequ
 _BEYOND = 2 * COORDINATE_LIMIT
 
 WHOLE_REFUSAL = (
-    "points must be whole numbers, and are {}: ConvexHull.from_floats takes floats, by whole numbers near them; or multiply them "
-    "by a scale that makes them whole, and convert them, as in numpy.rint(points * 1000).astype(numpy.int64)"
+    "points must be whole numbers, and are {}: ConvexHull.from_floats takes floats, by whole numbers near them, as hulls does with "
+    "bits=30; or multiply them by a scale that makes them whole, and convert them, as in "
+    "numpy.rint(points * 1000).astype(numpy.int64)"
 )
 
 
@@ -164,6 +165,24 @@ class ConvexHull(Surface):
         """Returns the triangles of the hull as an STL text, with unit normals that are rounded."""
         return stl_text(self._coordinates()[self.simplices], self.equations[:, :3])
 
+    def to_trimesh(self) -> Any:
+        """Returns the triangles as a `trimesh.Trimesh`, whose vertices are those of the hull, in the order of `vertices`.
+
+        Its coordinates are float64, which whole coordinates are exactly. Raises ImportError if trimesh is not installed.
+        """
+        from ._meshes import trimesh_of
+
+        return trimesh_of(*self._meshed())
+
+    def to_open3d(self) -> Any:
+        """Returns the triangles as an `open3d.geometry.TriangleMesh`, as `to_trimesh` does for trimesh.
+
+        Raises ImportError if Open3D is not installed.
+        """
+        from ._meshes import open3d_of
+
+        return open3d_of(*self._meshed())
+
     def plot(self, ax: Any = None, **style: Any) -> Any:
         """Draws the faces on axes of matplotlib, or on new axes if `ax` is None, and returns the axes.
 
@@ -180,6 +199,11 @@ class ConvexHull(Surface):
 
         drawn = self._drawn()
         return frame(page(self.vertices.tolist(), drawn.places.tolist(), self._numbered_faces(), repr(self)))
+
+    def _meshed(self) -> tuple[NDArray[np.float64], NDArray[np.intp]]:
+        """Returns the vertices as float64, and the triangles with each corner as its position in `vertices`."""
+        triangles: NDArray[np.intp] = np.searchsorted(self.vertices, self.simplices)
+        return self._coordinates()[self.vertices].astype(np.float64), triangles
 
     def _drawn(self) -> Drawn:
         """Returns the vertices, and the faces with each corner as its position in `vertices`."""

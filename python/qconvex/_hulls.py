@@ -2,13 +2,17 @@
 from __future__ import annotations
 
 import ctypes
+import operator
 from collections.abc import Iterator, Sequence
 from typing import Any, NamedTuple, overload
 
 import numpy as np
 from numpy.typing import ArrayLike, NDArray
 
-from ._arrays import numbers_of
+from ._arrays import floats_of, numbers_of
+from ._floats import FloatHull
+from ._grid import Snapped
+from ._grids import Grids, snapped_sets
 from ._hull import ConvexHull, WholePoints, whole_points
 from ._library import LIBRARY, FlatHull, error_of
 from ._workers import count_of, shared
@@ -88,7 +92,11 @@ class Hulls(Sequence[ConvexHull]):
         if self.codes[number] != _DONE:
             raise self._error(number)
         begin, end = self._starts[number : number + 2].tolist()
-        return ConvexHull._of(self._points[begin:end], self._flat(number, begin))
+        return self._made(number, slice(begin, end), self._flat(number, begin))
+
+    def _made(self, number: int, rows: slice, hull: FlatHull) -> ConvexHull:
+        """Returns an object for the hull of a set."""
+        return ConvexHull._of(self._points[rows], hull)
 
     def __iter__(self) -> Iterator[ConvexHull]:
         return (self[place] for place in range(len(self)))
@@ -115,7 +123,44 @@ class Hulls(Sequence[ConvexHull]):
         )
 
 
-def hulls(points: WholePoints, starts: ArrayLike, *, copy: bool = True, workers: int = 1) -> Hulls:
+class FloatHulls(Hulls):
+    """The hulls of many sets of floats: ``hulls[j]`` is the `FloatHull` of set j, or an error where it was refused.
+
+    Each set has a grid of its own, the one that `snap` finds for it alone.
+
+    Attributes
+    ----------
+    scale, snap_error : ndarray of float64
+        As the attributes of each hull; those of a set without a point say nothing.
+    """
+
+    def __init__(self, floats: NDArray[np.float64], grids: Grids, starts: NDArray[np.intp], buffers: _Buffers) -> None:
+        super().__init__(grids.points, starts, buffers)
+        self._floats, self._grids = floats, grids
+        self.scale: NDArray[np.float64] = grids.steps
+        self.snap_error: NDArray[np.float64] = grids.errors
+
+    @overload  # type: ignore[override]
+    def __getitem__(self, place: int) -> FloatHull: ...
+    @overload
+    def __getitem__(self, place: slice) -> list[FloatHull]: ...
+    def __getitem__(self, place: int | slice) -> Any:
+        return super().__getitem__(place)
+
+    def __iter__(self) -> Iterator[FloatHull]:
+        return (self[place] for place in range(len(self)))
+
+    def _made(self, number: int, rows: slice, hull: FlatHull) -> FloatHull:
+        grids, (x, y, z) = self._grids, self._grids.centres[number].tolist()
+        grid = Snapped(grids.points[rows], float(grids.steps[number]), (x, y, z), float(grids.errors[number]))
+        return FloatHull._of_grid(self._floats[rows], grid, hull)
+
+
+@overload
+def hulls(points: WholePoints, starts: ArrayLike, *, copy: bool = True, workers: int = 1, bits: None = None) -> Hulls: ...
+@overload
+def hulls(points: Any, starts: ArrayLike, *, copy: bool = True, workers: int = 1, bits: int) -> FloatHulls: ...
+def hulls(points: Any, starts: ArrayLike, *, copy: bool = True, workers: int = 1, bits: int | None = None) -> Hulls:
     """Returns the hulls of many sets of points, which stand one after the other in one array.
 
     If a set is refused, such as one without a point, the others still have their hulls. The arrays of a hull are slices of common
@@ -123,37 +168,52 @@ def hulls(points: WholePoints, starts: ArrayLike, *, copy: bool = True, workers:
 
     Parameters
     ----------
-    points : array_like of shape (n, 3), of any integer type
+    points : array_like of shape (n, 3), of any integer type, or with `bits` of any real type
         The points of all sets; their number has no limit.
     starts : array_like of shape (sets + 1,)
         Set j has the points from ``starts[j]`` to before ``starts[j + 1]``.
     copy : bool, default True
-        As for `ConvexHull`.
+        As for `ConvexHull`; floats are always copied.
     workers : int, default 1
         How many threads share the sets; -1 means all processors.
+    bits : int, optional
+        If given, the points are floats, and each set gets the hull that `ConvexHull.from_floats` makes of it with so many bits.
 
     Raises
     ------
     TypeError
-        The points or the starts are not whole numbers.
+        The points are not whole numbers, or with `bits` no float64, or the starts are not whole numbers.
     ValueError
         The shape is not (n, 3), the starts don't rise or go beyond the points, or a coordinate of an array of a type that int32
         does not hold is out of range. In an array of int32 the set with such a coordinate is refused, and the others are not.
+        With `bits` a float is not finite, or bits is not from 1 to 30.
     """
-    whole, places = whole_points(points, copy), _whole_starts(starts)
-    if places[-1] > len(whole) or (places[1:] < places[:-1]).any():
-        raise ValueError(_STARTS_REFUSAL)
-    buffers = _room_for(len(places) - 1, int(places[-1]))
-    cuts = _cuts_of(places, count_of(workers))
-    codes = shared(lambda cut: _call(*_part_of(cut, whole, places, buffers)), cuts, len(cuts))
+    if bits is not None:
+        floats = floats_of(points)
+        places = _whole_starts(starts, len(floats))
+        grids = snapped_sets(floats, places, operator.index(bits))
+        kept: tuple[NDArray[Any], ...] = (floats, grids.points, grids.steps, grids.errors)
+        for numbers in kept:
+            numbers.setflags(write=False)
+        return FloatHulls(floats, grids, places, _answered(grids.points, places, workers))
+    whole = whole_points(points, copy)
+    places = _whole_starts(starts, len(whole))
+    return Hulls(whole, places, _answered(whole, places, workers))
+
+
+def _answered(points: NDArray[np.int32], starts: NDArray[np.intp], workers: int) -> _Buffers:
+    """Returns what the library answers of all sets, by a number of threads."""
+    buffers = _room_for(len(starts) - 1, int(starts[-1]))
+    cuts = _cuts_of(starts, count_of(workers))
+    codes = shared(lambda cut: _call(*_part_of(cut, points, starts, buffers)), cuts, len(cuts))
     assert not any(codes), codes
     for numbers in buffers:
         numbers.setflags(write=False)
-    return Hulls(whole, places, buffers)
+    return buffers
 
 
-def _whole_starts(starts: ArrayLike) -> NDArray[np.intp]:
-    """Returns the starts as the library takes them. The library checks that they rise."""
+def _whole_starts(starts: ArrayLike, count: int) -> NDArray[np.intp]:
+    """Returns the starts as the library takes them: they rise within a number of points."""
     given = numbers_of(starts)
     if given.ndim != 1 or not len(given):
         raise ValueError(f"starts must have the shape (sets + 1,), and have {given.shape}")
@@ -162,6 +222,8 @@ def _whole_starts(starts: ArrayLike) -> NDArray[np.intp]:
     if given.min() < 0 or given.max() > 1 << 56:
         raise ValueError(_STARTS_REFUSAL)
     places: NDArray[np.intp] = np.require(given, dtype=np.intp, requirements=["C", "A"])
+    if places[-1] > count or (places[1:] < places[:-1]).any():
+        raise ValueError(_STARTS_REFUSAL)
     return places.copy() if np.shares_memory(places, given) else places
 
 

@@ -32,9 +32,11 @@ def normals_of(points: NDArray[np.int32], triangles: NDArray[np.int32]) -> NDArr
     A difference of coordinates is at most 2^31 in size, a product of two 2^62. A component is twice the area of a
     triangle in a square of side 2^31, so it is at most 2^62 in size, too, and 64 bits hold it.
     """
-    first, second, third = points.astype(np.int64)[triangles.T]
-    u, v = second - first, third - first
-    normals: NDArray[np.int64] = u.take(_NEXT, 1) * v.take(_LAST, 1) - u.take(_LAST, 1) * v.take(_NEXT, 1)
+    corners = points.T.astype(np.int64).take(triangles.T, 1)  # by axes, by corners, and by triangles
+    u, v = corners[:, 1] - corners[:, 0], corners[:, 2] - corners[:, 0]
+    normals = np.empty((len(triangles), 3), np.int64)
+    for axis in range(3):
+        np.subtract(u[axis - 2] * v[axis - 1], u[axis - 1] * v[axis - 2], out=normals[:, axis])
     return normals
 
 

@@ -70,6 +70,19 @@ def test_each_has_its_help_and_is_installed():
         assert out(name, "--help").startswith(f"usage: {name} ")
 
 
+@pytest.mark.skipif(sys.version_info[:2] != (3, 11), reason="argparse of another Python says it otherwise")
+def test_each_has_its_manual_page():
+    done = subprocess.run([sys.executable, TOP / "python/man/man_pages.py", "--check"], capture_output=True, text=True)
+    assert done.returncode == 0, done.stdout
+
+
+@pytest.mark.skipif(shutil.which("groff") is None, reason="groff is missing")
+def test_the_manual_pages_are_right_for_roff():
+    for path in (TOP / "python/man").glob("*.1"):
+        done = subprocess.run(["groff", "-man", "-Tutf8", "-ww", path], capture_output=True, text=True, check=True)
+        assert path.stem.upper() in done.stdout and not done.stderr
+
+
 def test_limits_are_those_of_the_program():
     pattern = re.compile(r"pub const ([A-Z_]+): u\d+ = (\d[\d_]*)(?: << (\d+))?;")
     stated = {name: int(value) << int(shift or 0) for name, value, shift in pattern.findall(STATED.read_text())}
@@ -185,22 +198,6 @@ def test_coordinates_of_any_length_are_written():
     points, faces = "0 0 0\n1e2000 0 0\n0 1e2000 0\n0 0 1e2000\n", "3 0 2 1\n3 0 1 3\n3 0 3 2\n3 1 2 3\n"
     lines = out("hullfacets", given="OFF\n4 4 6\n" + points + faces).splitlines()
     assert lines[0] == "six times the volume: 1" + "0" * 6000
-
-
-@pytest.mark.parametrize("seed", range(5))
-def test_numpy_finds_what_the_loops_find(seed, monkeypatch):
-    numpy = pytest.importorskip("numpy")
-    from qconvex import ConvexHull
-    from qconvex.commands import closed_surfaces, hullfacets
-
-    monkeypatch.setattr(closed_surfaces, "LEAST_FACES", 2)
-    rng, reach = numpy.random.default_rng(seed), [1, 2, 6, 1000, _limits.COORDINATE_LIMIT][seed]
-    for count in (8, 20, 90):
-        hull = ConvexHull([*(numpy.array(CUBE) * 2 * reach - reach).tolist(), *rng.integers(-reach, reach + 1, (count, 3)).tolist()])
-        points, faces = [tuple(point) for point in hull.points[hull.vertices].tolist()], hull._numbered_faces()
-        assert closed_surfaces.described_by_numpy(points, faces) == hullfacets.described_by_loops(points, faces)
-        for wrong in (faces[1:], [faces[0][::-1], *faces[1:]], [*faces, faces[0]], [[*faces[0][:2], *faces[0][1:]], *faces[1:]]):
-            assert closed_surfaces.described_by_numpy(points, wrong) is None
 
 
 # ---- hullview

@@ -134,5 +134,5 @@ def test_agrees_with_scipy():
 
 
 def test_exported_names():
-    names = ["COORDINATE_LIMIT", "ConvexHull", "FloatHull", "Hulls", "POINT_LIMIT", "Snapped", "Verdict", "__version__"]
+    names = ["COORDINATE_LIMIT", "ConvexHull", "FloatHull", "FloatHulls", "Hulls", "POINT_LIMIT", "Snapped", "Verdict", "__version__"]
     assert sorted(qconvex.__all__) == [*names, "check", "checks", "hulls", "snap"]

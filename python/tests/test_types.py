@@ -31,3 +31,22 @@ def test_a_wrong_argument_is_refused(call: str, tmp_path: Path) -> None:
     user.write_text(f"from qconvex import ConvexHull, check, snap\n\n{call}\n")
     said = checked("--strict", str(user))
     assert said.returncode == 1 and "arg-type" in said.stdout, said.stdout
+
+
+USER = """
+import numpy as np
+from qconvex import ConvexHull, FloatHull, hulls
+
+floats = np.zeros((4, 3))
+whole: ConvexHull = hulls([[0, 0, 0]], [0, 1], workers=2)[0]
+one: FloatHull = hulls(floats, [0, 4], bits=30)[0]
+some: list[FloatHull] = hulls([[0.5, 1, 2]], [0, 1], bits=9, workers=2)[:]
+errors: list[float] = [hull.snap_error for hull in hulls(floats, [0, 4], bits=30)]
+"""
+
+
+def test_many_hulls_have_their_types(tmp_path: Path) -> None:
+    user = tmp_path / "user.py"
+    user.write_text(USER)
+    said = checked("--strict", str(user))
+    assert said.returncode == 0, said.stdout

@@ -1,10 +1,11 @@
-"""Facets, neighbours and incidences of many faces by numpy, as the loops of `hullfacets` find them, where it is installed."""
+"""Planes, neighbours and incidences of many faces by numpy, as the loops of `hullfacets` find them, where it is installed."""
 from __future__ import annotations
 
 from itertools import chain
-from typing import Any, Dict, List, NamedTuple, Optional, Sequence, Tuple
+from typing import Any, List, NamedTuple, Optional, Sequence, Tuple
 
 from .._limits import COORDINATE_LIMIT
+from .number_texts import LOW, LOW_BITS, Wide, wide_of
 from .vectors import Vector
 
 try:
@@ -17,35 +18,57 @@ LEAST_FACES = 1000
 CLOSE = float(1 << 60)
 
 
-class Sides(NamedTuple):
-    """The sides of all faces: where each starts, the face it belongs to, and the sides before it and along it in another face."""
+class Arrays(NamedTuple):
+    """The points of a hull, and its faces in one list of corners: face j has those from offsets[j] to before offsets[j + 1]."""
 
-    starts: Any
+    points: Any  # int64, (n, 3)
+    corners: Any  # int64
+    offsets: Any  # int64
+
+
+class Surface(NamedTuple):
+    """A closed surface, by the places of points and faces."""
+
+    points: Any  # int64, (n, 3)
+    corners: Any
+    offsets: Any
+    neighbours: Any  # the face along each side
+    normals: Any  # int64, (faces, 3): without a common divisor
+    levels: Wide  # normal . p of each face
+    around: Any  # the faces round each point, the lowest first, counterclockwise
+    degrees: Any  # where those of each point begin and the last end
+    six_volumes: int
+
+
+class Sides(NamedTuple):
+    """The face that each side belongs to, and the sides before it, behind it, and along it in another face."""
+
     faces: Any
     before: Any
+    behind: Any
     twins: Any
 
 
-def described_by_numpy(points: Sequence[Vector], faces: Sequence[List[int]]) -> Optional[Tuple[List[Dict[str, Any]], List[List[int]], int]]:
-    """The facets, the facets round each corner, and six times the volume; None where the loops have to look."""
-    if np is None or len(faces) < LEAST_FACES or min(map(len, faces)) < 3:
+def arrays_of(points: Sequence[Vector], faces: Sequence[List[int]]) -> Optional[Arrays]:
+    """The arrays of lists; None where numpy is missing, or the loops have to look."""
+    if np is None or len(faces) < LEAST_FACES or max(abs(part) for point in points for part in point) > COORDINATE_LIMIT:
         return None
-    places = np.array(points, object)
-    if max(abs(places.min()), abs(places.max())) > COORDINATE_LIMIT:
+    corners = np.fromiter(chain.from_iterable(faces), np.int64)
+    return Arrays(np.array(points, np.int64), corners, np.cumsum([0, *map(len, faces)]))
+
+
+def surface_of(arrays: Optional[Arrays]) -> Optional[Surface]:
+    """The surface, if it is closed and its faces are plane; None where the loops have to look."""
+    if arrays is None or len(arrays.offsets) <= LEAST_FACES or np.diff(arrays.offsets).min() < 3:
         return None
-    places, offsets = places.astype(np.int64), np.cumsum([0, *map(len, faces)])
-    sides = sides_of(np.fromiter(chain.from_iterable(faces), np.int64), offsets, len(points))
-    around = sides and facets_around(sides, len(points))
-    planes = planes_of(places, sides, offsets) if sides else None
+    points, corners, offsets = arrays
+    sides = sides_of(corners, offsets, len(points))
+    around = sides and faces_around(corners, sides, len(points))
+    planes = planes_of(arrays, sides) if sides else None
     if sides is None or around is None or planes is None:
         return None
     normals, levels, volume = planes
-    corners, neighbours, ends = sides.starts.tolist(), sides.faces[sides.twins].tolist(), offsets.tolist()
-    facets = [
-        {"normal": normal, "offset": level, "corners": corners[start:end], "neighbours": neighbours[start:end]}
-        for normal, level, start, end in zip(normals, levels, ends, ends[1:])
-    ]
-    return facets, around, volume
+    return Surface(points, corners, offsets, sides.faces[sides.twins], normals, levels, *around, volume)
 
 
 def sides_of(starts: Any, offsets: Any, count: int) -> Optional[Sides]:
@@ -54,20 +77,27 @@ def sides_of(starts: Any, offsets: Any, count: int) -> Optional[Sides]:
     places = np.arange(len(starts))
     before, behind = places - 1, places + 1
     before[offsets[:-1]], behind[offsets[1:] - 1] = offsets[1:] - 1, offsets[:-1]
-    keys, wanted = starts * count + starts[behind], starts[behind] * count + starts
+    ends = starts[behind]
+    keys = np.minimum(starts, ends) * count + np.maximum(starts, ends)
     order = keys.argsort()
     rising = keys[order]
-    twins = order[np.minimum(rising.searchsorted(wanted), len(order) - 1)]
-    if (rising[1:] == rising[:-1]).any() or (keys[twins] != wanted).any():
+    if len(order) % 2 or (rising[0::2] != rising[1::2]).any() or (rising[1:-1:2] == rising[2::2]).any():
         return None
-    return Sides(starts, faces, before, twins)
+    one, other = order[0::2], order[1::2]
+    if (starts[one] == starts[other]).any():  # two that run the same way, or a side without a length
+        return None
+    twins = np.empty_like(order)
+    twins[one], twins[other] = other, one
+    return Sides(faces, before, behind, twins)
 
 
-def facets_around(sides: Sides, count: int) -> Optional[List[List[int]]]:
-    """The facets round each corner, the lowest first, counterclockwise, if they close up round each."""
-    corners, firsts, degrees = np.unique(sides.starts, return_index=True, return_counts=True)
-    if len(corners) != count:
+def faces_around(starts: Any, sides: Sides, count: int) -> Optional[Tuple[Any, Any]]:
+    """The faces round each point, the lowest first, counterclockwise, if they close up round each, and where they begin."""
+    degrees = np.bincount(starts, minlength=count)
+    if len(degrees) != count or not degrees.all():
         return None
+    firsts = np.empty(count, np.int64)
+    firsts[starts[::-1]] = np.arange(len(starts))[::-1]
     ends = np.append(0, degrees.cumsum())
     found, now, following = np.empty(ends[-1], np.int64), firsts.copy(), sides.twins[sides.before]
     left = np.arange(count)
@@ -75,25 +105,58 @@ def facets_around(sides: Sides, count: int) -> Optional[List[List[int]]]:
         left = left[degrees[left] > turn]
         found[ends[left] + turn] = sides.faces[now[left]]
         now[left] = following[now[left]]
-    if (now != firsts).any():
-        return None
-    facets, bounds = found.tolist(), ends.tolist()
-    return [facets[start:end] for start, end in zip(bounds, bounds[1:])]
+    return None if (now != firsts).any() else (found, ends)
 
 
-def planes_of(places: Any, sides: Sides, offsets: Any) -> Optional[Tuple[List[List[int]], List[int], int]]:
-    """The normal and the offset of each face without a common divisor, if all faces are plane, and six times the volume."""
-    first = places[sides.starts[offsets[:-1]]]
-    ways = places[sides.starts] - first[sides.faces]
-    turns = np.cross(ways[:-1], ways[1:])[np.flatnonzero(sides.faces[:-1] == sides.faces[1:])]
-    of_turns = sides.faces[:-1][sides.faces[:-1] == sides.faces[1:]]
-    normals = np.cross(ways[offsets[:-1] + 1], ways[offsets[:-1] + 2])
-    heights, rounded = (normals[sides.faces] * ways).sum(axis=1), (normals.astype(float)[sides.faces] * ways).sum(axis=1)
-    if not normals.any(axis=1).all() or heights.any() or (np.abs(rounded) > CLOSE).any():
+def cross(u: Any, v: Any) -> Any:
+    """The vector products of the columns of two arrays (3, n)."""
+    return np.stack([u[1] * v[2] - u[2] * v[1], u[2] * v[0] - u[0] * v[2], u[0] * v[1] - u[1] * v[0]])
+
+
+def planes_of(arrays: Arrays, sides: Sides) -> Optional[Tuple[Any, Wide, int]]:
+    """The normal and the level of each face without a common divisor, if all faces are plane, and six times the volume."""
+    places, starts = np.ascontiguousarray(arrays.points.T), arrays.offsets[:-1]
+    firsts = places.take(arrays.corners[starts], 1)
+    second, third = (places.take(arrays.corners[starts + place], 1) - firsts for place in (1, 2))
+    normals = cross(second, third)
+    if not normals.any(axis=0).all():
         return None
-    if ((normals.astype(float)[of_turns] * turns).sum(axis=1) < 0).any():  # a face that turns back
+    volume = volume_of(arrays, sides, places, normals)
+    if volume is None:
         return None
-    lowest = normals // np.gcd.reduce(normals, axis=1)[:, np.newaxis]
-    exact = first.astype(object)
-    volume = (turns.astype(object) * (exact - exact[0])[of_turns]).sum()
-    return lowest.tolist(), (lowest.astype(object) * exact).sum(axis=1).tolist(), int(volume)
+    divisors = np.gcd(np.gcd(normals[0], normals[1]), normals[2])
+    common = (divisors > 1).nonzero()[0]
+    normals[:, common] //= divisors[common]
+    return np.ascontiguousarray(normals.T), wide_of(*dot(normals, firsts)), volume
+
+
+def volume_of(arrays: Arrays, sides: Sides, places: Any, normals: Any) -> Optional[int]:
+    """Six times the volume, if the corners of each face lie in its plane, and none turns back seen from the first."""
+    firsts = places.take(arrays.corners[arrays.offsets[:-1]], 1)
+    if len(arrays.corners) == normals.size:  # triangles
+        return sum_of(*dot(normals, firsts))
+    ways = places.take(arrays.corners, 1) - firsts.take(sides.faces, 1)
+    inner = np.flatnonzero(sides.before + 2 == sides.behind)
+    turns, of_turns = cross(ways.take(inner, 1), ways.take(inner + 1, 1)), sides.faces[inner]
+    if not are_plane(normals, ways, sides.faces) or (turns.astype(float) * normals.take(of_turns, 1)).sum(axis=0).min() < 0:
+        return None
+    return sum_of(*dot(turns, firsts.take(of_turns, 1)))
+
+
+def are_plane(normals: Any, ways: Any, faces: Any) -> bool:
+    """Whether all corners lie in the planes of their faces; what 64 bits don't hold is not 0 in floats either."""
+    here = normals.take(faces, 1)
+    rounded = np.abs((here.astype(float) * ways).sum(axis=0))
+    return not (here * ways).sum(axis=0).any() and not (rounded > CLOSE).any()
+
+
+def dot(normals: Any, places: Any) -> Tuple[Any, Any]:
+    """The scalar products of columns as high * 2^31 + low: normals are at most 2^62 in size, places 2^30, so no sum overflows."""
+    high, low = normals >> LOW_BITS, normals & LOW
+    return (high * places).sum(axis=0), (low * places).sum(axis=0)
+
+
+def sum_of(high: Any, low: Any) -> int:
+    """The sum of all high * 2^31 + low."""
+    halves = [(int((part >> 32).sum()) << 32) + int((part & 0xFFFFFFFF).sum()) for part in (high, low)]
+    return (halves[0] << LOW_BITS) + halves[1]

@@ -27,9 +27,11 @@ from math import gcd
 from typing import Any, Dict, Iterable, Iterator, List, Optional, Sequence, Tuple
 
 from . import contents
-from .closed_surfaces import described_by_numpy
+from .closed_surfaces import arrays_of, surface_of
 from .halfspaces import FORMS
+from .off_arrays import arrays_of_text
 from .off_files import COUNT, Faces, Malformed, read_off
+from .surface_forms import blocks_in_form
 from .vectors import Vector, cross, dot, minus, polygon_normal
 
 # The facet at each side, by the corners of the side.
@@ -81,22 +83,16 @@ def in_order(corner: int, places: List[int], faces: Sequence[List[int]], owner: 
 def described(points: Sequence[Vector], faces: Sequence[List[int]]) -> Dict[str, Any]:
     """All that is told of a hull."""
     solid = [face for face in faces if len(face) > 2]
-    facets, around, volume = described_by_numpy(points, faces) or described_by_loops(points, faces)
     numbers = [len(points), sum(map(len, solid)) // 2, len(solid)] if len(solid) > 1 else [len(points)] * (2 if solid else 1)
-    corners = [{"point": list(point), "facets": places} for point, places in zip(points, around)]
-    return {"six_volumes": volume, "f_vector": numbers, "facets": facets, "corners": corners}
-
-
-def described_by_loops(points: Sequence[Vector], faces: Sequence[List[int]]) -> Tuple[List[Dict[str, Any]], List[List[int]], int]:
-    """The facets, the facets round each corner, and six times the volume."""
-    solid = [face for face in faces if len(face) > 2]
     owner = {side: place for place, face in enumerate(solid) for side in sides(face)}
     facets = []
     for face in solid:
         normal, offset = plane(points, face)
         neighbours = [owner[end, start] for start, end in sides(face) if (end, start) in owner]
         facets.append({"normal": normal, "offset": offset, "corners": face, "neighbours": neighbours})
-    return facets, incidences(points, solid, owner), six_volumes(points, faces)
+    around = incidences(points, solid, owner)
+    corners = [{"point": list(point), "facets": places} for point, places in zip(points, around)]
+    return {"six_volumes": six_volumes(points, faces), "f_vector": numbers, "facets": facets, "corners": corners}
 
 
 def with_indices(told: Dict[str, Any], indices: Sequence[int]) -> Dict[str, Any]:
@@ -140,20 +136,36 @@ def in_form(points: Sequence[Vector], faces: Sequence[List[int]], indices: Seque
     return [json.dumps(with_indices(told, indices) if indices else told)] if form == "json" else lines_of(told)
 
 
-def read(path: str) -> Tuple[Faces, List[int]]:
-    """The hull in a file, and the indices that stand before it where it is the text of `Fx off`; a wrong file ends the process."""
-    text = contents.text_of(path)
-    head, mark, _ = text.partition("OFF")
-    words = head.split() if mark else []
-    try:
-        if not words or not all(map(COUNT.fullmatch, words)):
-            return read_off(text), []
-        hull = read_off(text[len(head) :])
-        if not len(words) - 1 == int(words[0]) == len(hull.points):
-            raise Malformed(f"{len(words) - 1} indices stand before the OFF text, which has {len(hull.points)} points")
-        return hull, list(map(int, words[1:]))
-    except Malformed as wrong:
-        sys.exit(f"{path}: {wrong}")
+def parted(data: bytes) -> Tuple[List[int], bytes]:
+    """What stands before an OFF text where it is the text of `Fx off`, a count and as many indices; and the OFF text."""
+    head, mark, _ = data.partition(b"OFF")
+    words = head.decode("utf-8", "replace").split() if mark else []
+    if not words or not all(map(COUNT.fullmatch, words)):
+        return [], data
+    return list(map(int, words)), data[len(head) :]
+
+
+def indices_of(before: List[int], count: int) -> List[int]:
+    """The indices that stand before an OFF text, one for each of its points, or none."""
+    if before and not len(before) - 1 == before[0] == count:
+        raise Malformed(f"{len(before) - 1} indices stand before the OFF text, which has {count} points")
+    return before[1:]
+
+
+def blocks_of(data: bytes, form: str) -> Iterable[bytes]:
+    """The text in a form of the hull in a file, in blocks: of many faces by numpy, where it is there, else by loops."""
+    before, body = parted(data)
+    surface = surface_of(arrays_of_text(body))
+    if surface:
+        return blocks_in_form(surface, indices_of(before, len(surface.points)), form)
+    hull = read_off(body.decode("utf-8", "replace"))
+    indices, points = indices_of(before, len(hull.points)), whole_points(hull)
+    if not hull.faces or points is None:
+        sys.exit("hullfacets: a hull has faces, and whole coordinates")
+    surface = surface_of(arrays_of(points, hull.faces))
+    if surface:
+        return blocks_in_form(surface, indices, form)
+    return [f"{line}\n".encode() for line in in_form(points, hull.faces, indices, form)]
 
 
 def main() -> None:
@@ -167,15 +179,13 @@ def main() -> None:
     if hasattr(sys, "set_int_max_str_digits"):
         sys.set_int_max_str_digits(0)  # products of coordinates have more digits than newer versions write by themselves
     gc.disable()  # what is made stays to the end
-    hull, indices = read(options.file)
-    points = whole_points(hull)
-    if not hull.faces or points is None:
-        sys.exit("hullfacets: a hull has faces, and whole coordinates")
     try:
-        lines = list(in_form(points, hull.faces, indices, options.form))
+        blocks = blocks_of(contents.bytes_of(options.file), options.form)
+    except Malformed as wrong:
+        sys.exit(f"{options.file}: {wrong}")
     except (KeyError, ZeroDivisionError):  # a side of one face alone, or a face whose corners lie in one line
         sys.exit("hullfacets: the faces are no closed surface; scripts/tools/check_hull.py says what is wrong")
-    sys.stdout.writelines(f"{line}\n" for line in lines)
+    sys.stdout.buffer.writelines(blocks)
 
 
 if __name__ == "__main__":
