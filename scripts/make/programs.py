@@ -4,8 +4,9 @@
     scripts/make/programs.py PROGRAM..      from the top of the repository
 
 The script runs `rt ci` over the crates that the programs need and no others, in a copy of the sources below
-`build/programs` that has no wrong bodies and no tests of the programs. The programs come to `crates/PROGRAM/out`, those of
-trials, whose sources stand in `scripts/trials/programs`, to `build/trials`, and the copy goes. It takes all processors that the script may run on; `taskset` gives it fewer.
+`build/programs` that has no wrong bodies and no tests of the programs. A program is written to `crates/PROGRAM/out`, one of
+the trials, whose sources are in `scripts/trials/programs`, to `build/trials`. The copy is removed. The script takes all
+processors that it may run on; `taskset` gives it fewer.
 
 What a run passed, `rt` keeps on the machine where it may write beside itself. So a second run proves nothing again, and one
 after a gate over the whole repository proves the programs' own crates alone, which have no tests in the copy. A gate after
