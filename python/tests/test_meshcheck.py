@@ -62,7 +62,7 @@ def test_points_and_faces_of_one_file(name, tmp_path):
     assert status == 1 and line.startswith("face 0: point ") and line.endswith(" is above its plane")
     status, line, _ = told(tmp_path, f"a.{name}", write(PLACES, turned(FACES[1:])))
     assert status == 1 and line.startswith("the side from point ") and line.endswith(" is open")
-    beyond = [*PLACES, ["1.1250001", "0", "0"]]
+    beyond = [*PLACES, ["1.1250001", "-0.1", "0.5"]]
     status, line, _ = told(tmp_path, f"a.{name}", write(beyond, turned(FACES)))
     assert status == 1 and line.endswith("point 9 is above its plane")
 
@@ -81,7 +81,7 @@ def test_points_of_another_file(tmp_path):
     moved = CUBE_OFF.replace("\n1 1 1\n", "\n1 1 1.25\n").encode()
     status, line, _ = told(tmp_path, "a.off", moved, "--points", points)
     assert status == 1 and line == "face 3: a corner of it is the index of no point"
-    points.write_text(points.read_text() + "2,0,0\n")
+    points.write_text(points.read_text() + "2,.5,.5\n")
     status, line, _ = told(tmp_path, "a.off", CUBE_OFF.encode(), "--points", points)
     assert status == 1 and line.endswith("point 11 is above its plane")
 
