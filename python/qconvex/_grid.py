@@ -61,13 +61,20 @@ def _axis_of(low: float, high: float, exponent: int) -> _Axis:
     return whole, whole, float(abs(Fraction(low) - whole * Fraction(2) ** exponent))
 
 
+def least_exponent(fraction: Any, power: Any, bits: int) -> Any:
+    """An exponent from which on the steps may have room, by half the extent, fraction * 2^power: of numbers or of arrays.
+
+    With the exponent power - bits - 1 the extent is from 2^(bits + 1) steps on. If it is more than that and four, the exponent
+    is too low, since rounding the ends takes one step off at most, and dividing them by two less than one.
+    """
+    return power - bits - 1 + (fraction > 0.5 + 0.5**bits)
+
+
 def _finest(lows: list[float], highs: list[float], bits: int) -> tuple[int, list[_Axis]]:
     """The least exponent of 2 with which the whole numbers have at most `bits` bits, and the axes with it."""
-    if lows == highs:
-        exponent = FINEST
-    else:  # half the extent is at least 2^(bits - 1) steps; what dividing by two rounds is less than a step of the finest grid
-        extent = max([high / 2 - low / 2 for low, high in zip(lows, highs)])
-        exponent = max(frexp(extent)[1] - bits - 1, FINEST)
+    exponent = FINEST
+    if lows != highs:
+        exponent = max(least_exponent(*frexp(max([high / 2 - low / 2 for low, high in zip(lows, highs)])), bits), FINEST)
     while True:
         axes = [_axis_of(low, high, exponent) for low, high in zip(lows, highs)]
         if max([high - low for low, high, _ in axes]) <= 2 << bits:

@@ -6,7 +6,7 @@ from typing import NamedTuple
 import numpy as np
 from numpy.typing import NDArray
 
-from ._grid import BITS_LIMIT, FINEST, Snapped, snapped
+from ._grid import BITS_LIMIT, FINEST, Snapped, least_exponent, snapped
 
 # Steps below this are whole numbers that differ by what a float holds.
 _PLAIN = float(1 << 52)
@@ -72,8 +72,8 @@ def _put(grids: Grids, place: int, rows: slice, one: Snapped) -> None:
 
 def _finest(lows: NDArray[np.float64], highs: NDArray[np.float64], bits: int) -> _Ends:
     """The least exponents with which the whole numbers have at most `bits` bits."""
-    extents = (highs / 2 - lows / 2).max(axis=1)
-    exponents = np.maximum(np.frexp(extents)[1].astype(np.int64) - bits - 1, FINEST)
+    fractions, powers = np.frexp((highs / 2 - lows / 2).max(axis=1))
+    exponents: NDArray[np.int64] = np.maximum(least_exponent(fractions, powers.astype(np.int64), bits), FINEST)
     with np.errstate(over="ignore", invalid="ignore"):
         while True:
             ends = _Ends(exponents, *(np.rint(np.ldexp(part, -exponents[:, np.newaxis])) for part in (lows, highs)))

@@ -1,6 +1,7 @@
 """meshcheck: faces of each format beside the vertices of the same file, decimals of many digits, and what is wrong."""
 from __future__ import annotations
 
+import random
 import struct
 from fractions import Fraction
 
@@ -61,7 +62,7 @@ def test_points_and_faces_of_one_file(name, tmp_path):
     assert status == 1 and line.startswith("face 0: point ") and line.endswith(" is above its plane")
     status, line, _ = told(tmp_path, f"a.{name}", write(PLACES, turned(FACES[1:])))
     assert status == 1 and line.startswith("the side from point ") and line.endswith(" is open")
-    beyond = [*PLACES, ["1.1250001", "0", "0"]]
+    beyond = [*PLACES, ["1.1250001", "-0.1", "0.5"]]
     status, line, _ = told(tmp_path, f"a.{name}", write(beyond, turned(FACES)))
     assert status == 1 and line.endswith("point 9 is above its plane")
 
@@ -80,17 +81,60 @@ def test_points_of_another_file(tmp_path):
     moved = CUBE_OFF.replace("\n1 1 1\n", "\n1 1 1.25\n").encode()
     status, line, _ = told(tmp_path, "a.off", moved, "--points", points)
     assert status == 1 and line == "face 3: a corner of it is the index of no point"
-    points.write_text(points.read_text() + "2,0,0\n")
+    points.write_text(points.read_text() + "2,.5,.5\n")
     status, line, _ = told(tmp_path, "a.off", CUBE_OFF.encode(), "--points", points)
     assert status == 1 and line.endswith("point 11 is above its plane")
 
 
 def test_more_digits_than_a_grid_holds(tmp_path):
-    far = [[number if number != "1" else "1.00000000000001" for number in place] for place in PLACES]
-    status, line, said = told(tmp_path, "a.off", off(far, turned(FACES)))
-    assert (status, line) == (5, "") and "no grid of whole numbers holds all coordinates" in said
-    status, line, said = told(tmp_path, "a.off", off(far, turned(FACES)), "--rounded")
+    long = [[number.replace(".125", ".12500000000000000001") for number in place] for place in PLACES]
+    assert told(tmp_path, "a.off", off(long, turned(FACES))) == (0, "all right", "")
+    bent = [place if number else [place[0] + "9", *place[1:]] for number, place in enumerate(long)]
+    status, line, said = told(tmp_path, "a.off", off(bent, turned(FACES)))
+    assert (status, said) == (1, "") and "face " in line
+    status, line, said = told(tmp_path, "a.off", off(bent, turned(FACES)), "--rounded")
     assert (status, line) == (0, "all right") and "coordinates were rounded, by at most" in said
+    flat = [[place[0] + "00000000000000000001", *place[1:]] for place in PLACES[:4]]
+    status, line, said = told(tmp_path, "a.off", off([*flat[:3], [*flat[3][:2], "1.0000000000000001"]], [[0, 2, 3, 1]]))
+    assert (status, line) == (5, "") and "lie in one plane" in said
+
+
+def damaged(faces, rng):
+    """The faces, right or with one fault."""
+    faces, place, kind = [list(face) for face in faces], rng.randrange(len(faces)), rng.randrange(8)
+    face = faces[place]
+    if kind == 0:
+        del faces[place]
+    elif kind == 1:
+        faces.append(face)
+    elif kind == 2:
+        faces[place] = face[::-1]
+    elif kind == 3:
+        face[rng.randrange(len(face))] = rng.randrange(40)
+    elif kind == 4 and len(face) > 3:
+        faces[place : place + 1] = [face[:3], [face[0], *face[2:]]]
+    elif kind == 5:
+        face.insert(rng.randrange(len(face)), rng.randrange(30))
+    elif kind == 6:
+        faces += [other[1:] + other[:1] for other in faces]
+    return [faces, [*faces, []]][rng.randrange(20) == 0]
+
+
+@pytest.mark.parametrize("reach", [2, 3, 9, 1000])
+def test_long_coordinates_are_judged_as_the_library_judges_short_ones(reach):
+    from qconvex import ConvexHull, check
+    from qconvex.commands.exact_faces import fault_of
+
+    rng, rights = random.Random(reach), 0
+    for _ in range(60):
+        points = [*CUBE, *(tuple(rng.randrange(-reach, reach + 1) for _ in range(3)) for _ in range(30))]
+        hull = ConvexHull(points)
+        faces = damaged([face.tolist() for face in hull.faces] if rng.randrange(2) else hull.simplices.tolist(), rng)
+        long = [tuple(part * 10**30 + 10**33 + 7 for part in point) for point in points]
+        fault = fault_of(long, faces)
+        assert bool(check(points, faces)) == (fault is None), (points, faces, fault)
+        rights += fault is None
+    assert 5 < rights < 55
 
 
 NO_MESHES = [("a.off", b"OFF\n"), ("a.txt", b"3\n1\n0 0 0\n"), ("a.obj", b"v 0 0 0\n"), ("a.ply", b"ply\n")]

@@ -3,17 +3,18 @@
     meshcheck MESH                     MESH is an off, obj, ply or stl file, of text or of bytes
     meshcheck --points POINTS MESH     the hull of the points of another file, of any kind that meshpoints reads
 
-It puts the points on a grid of whole numbers as meshpoints does, exactly, and the proved library judges the faces. These may be
-cut into pieces in any way, such as triangles, and may stand in any order; each runs counterclockwise seen from outside, or
-clockwise with --clockwise. A vertex that no face names is a point as well, and has to lie inside. Of another file each point may
-be named that has the coordinates of the vertex.
+The verdict is exact. The faces may be cut into pieces in any way, such as triangles, and may stand in any order; each runs
+counterclockwise seen from outside, or clockwise with --clockwise. A vertex that no face names is a point as well, and has to lie
+inside. Of another file each point may be named that has the coordinates of the vertex.
 
-A grid holds about nine digits. If the coordinates have more, it says so and judges nothing; with --rounded it judges the
-nearest points of the finest grid in their place, and says by how much they were moved.
+The points are put on a grid of whole numbers as meshpoints does, and the proved library judges the faces. A grid holds about nine
+digits. Coordinates that have more are judged by the same rules in Python, which is tested, not proved, and takes a time that grows
+as the number of points times that of the faces. With --rounded the library judges the nearest points of the finest grid in their
+place, and it says by how much they were moved.
 
 On standard output it writes `all right`, or what is wrong with which face, by its position from 0 on, or with which side, by the
 positions of two points. The exit status is 0 for `all right`, 1 for what is wrong, 2 for a command line that is refused, 3 where
-memory is out, and 5 where a file can't be read or no grid holds its coordinates.
+memory is out, and 5 where a file can't be read, or its points have more digits than a grid holds and lie in one plane.
 """
 from __future__ import annotations
 
@@ -21,30 +22,18 @@ import argparse
 import signal
 import sys
 from math import lcm
-from typing import TYPE_CHECKING, List, Optional, Sequence, Tuple
+from typing import List, Optional, Tuple
 
+from .exact_faces import fault_of
 from .exact_numbers import Vertices
-from .grids import Rounded, map_of_vertices, rounded
+from .grids import map_of_vertices, rounded
 from .mesh_faces import FACES
 from .meshes import faces_of_mesh, vertices_of_mesh
 from .meshpoints import report
 from .off_files import Malformed
 
-if TYPE_CHECKING:
-    from .._checks import Verdict
-
+RIGHT = "all right"
 WRONG, MEMORY, UNREAD = 1, 3, 5
-
-
-def on_grid(path: str, vertices: Vertices, may_round: bool) -> Rounded:
-    """The points on their grid. If they have to be rounded and must not, they are Malformed."""
-    found = rounded(vertices, map_of_vertices(vertices))
-    if found.count and not may_round:
-        raise Malformed(
-            f"{path}: no grid of whole numbers holds all coordinates: {found.count} of {3 * len(found.points)} would be "
-            "rounded; --rounded judges the nearest points of the finest grid"
-        )
-    return found
 
 
 def places_among(points: Vertices, vertices: Vertices) -> List[int]:
@@ -57,24 +46,34 @@ def places_among(points: Vertices, vertices: Vertices) -> List[int]:
     return [positions.get(point, len(mine)) for point in theirs]
 
 
-def points_and_faces(mesh: str, points: Optional[str], may_round: bool) -> Tuple[Rounded, List[List[int]]]:
+def points_and_faces(mesh: str, points: Optional[str]) -> Tuple[Vertices, List[List[int]]]:
     """The points to judge by, and the faces of a mesh by the positions of these."""
     vertices, faces = vertices_of_mesh(mesh), faces_of_mesh(mesh)
     if points is None:
-        return on_grid(mesh, vertices, may_round), faces
+        return vertices, faces
     given = vertices_of_mesh(points)
     places = places_among(given, vertices)
-    return on_grid(points, given, may_round), [[places[corner] for corner in face] for face in faces]
+    return given, [[places[corner] for corner in face] for face in faces]
 
 
-def judged(points: Sequence[Tuple[int, ...]], faces: List[List[int]]) -> Verdict:
+def reason_of(vertices: Vertices, faces: List[List[int]], may_round: bool) -> str:
+    """What is wrong with faces, or that all is right."""
+    found = rounded(vertices, map_of_vertices(vertices))
+    if found.count and not may_round:
+        return fault_of([(x, y, z) for x, y, z in zip(*vertices.axes)], faces) or RIGHT
+    if found.count:
+        report(found)
+    return reason_of_library([list(point) for point in found.points], faces)
+
+
+def reason_of_library(points: List[List[int]], faces: List[List[int]]) -> str:
     """What the library says. It is Malformed that there is none."""
     try:
         from .._checks import check
     except (ImportError, OSError) as missing:
         raise Malformed(f"meshcheck: numpy and the library are needed: {missing}") from None
     try:
-        return check([list(point) for point in points], faces)
+        return check(points, faces).reason
     except ValueError as refused:
         raise Malformed(f"meshcheck: {refused}") from None
 
@@ -84,7 +83,7 @@ def arguments() -> argparse.Namespace:
     parser = argparse.ArgumentParser(prog="meshcheck", description=__doc__, formatter_class=argparse.RawDescriptionHelpFormatter)
     parser.add_argument("--points", metavar="POINTS", help="a file with the points, in place of the mesh's own vertices")
     parser.add_argument("--clockwise", action="store_true", help="the faces run clockwise seen from outside")
-    parser.add_argument("--rounded", action="store_true", help="judge the nearest points of a grid where none holds all")
+    parser.add_argument("--rounded", action="store_true", help="judge the nearest points of a grid where none holds all digits")
     parser.add_argument("mesh", metavar="MESH", help="a file whose name ends with one of " + " ".join(FACES))
     return parser.parse_args()
 
@@ -94,10 +93,8 @@ def main() -> int:
     options = arguments()
     signal.signal(signal.SIGPIPE, signal.SIG_DFL)
     try:
-        found, faces = points_and_faces(options.mesh, options.points, options.rounded)
-        if options.clockwise:
-            faces = [face[::-1] for face in faces]
-        verdict = judged(found.points, faces)
+        vertices, faces = points_and_faces(options.mesh, options.points)
+        reason = reason_of(vertices, [face[::-1] for face in faces] if options.clockwise else faces, options.rounded)
     except Malformed as wrong:
         print(wrong, file=sys.stderr)
         return UNREAD
@@ -107,10 +104,8 @@ def main() -> int:
     except SystemExit as ended:  # a file that can't be read
         print(ended.code, file=sys.stderr)
         return UNREAD
-    if found.count:
-        report(found)
-    print(verdict.reason)
-    return 0 if verdict else WRONG
+    print(reason)
+    return 0 if reason == RIGHT else WRONG
 
 
 if __name__ == "__main__":
