@@ -166,6 +166,13 @@ def test_corners_have_their_indices_in_the_input():
     assert done.returncode == 1 and b"7 indices stand before" in done.stderr
 
 
+def test_faces_that_run_clockwise_are_refused():
+    rows = CUBE_OFF.splitlines()
+    turned = [" ".join([row.split()[0], *row.split()[:0:-1]]) if len(row.split()) > 3 else row for row in rows]
+    done = run("hullfacets", given="\n".join(turned) + "\n")
+    assert (done.returncode, done.stderr) == (1, b"hullfacets: the faces run clockwise seen from outside\n")
+
+
 def test_what_is_no_hull_is_refused():
     for given in ("", "OFF\n1 0 0\n0 0 0\n", "OFF\n1 1 0\n0.5 0 0\n1 0\n", CUBE_OFF.replace("4 4 6 7 5", "4 4 5 7 6")):
         done = run("hullfacets", given=given)

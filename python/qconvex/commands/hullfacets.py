@@ -152,17 +152,25 @@ def indices_of(before: List[int], count: int) -> List[int]:
     return before[1:]
 
 
+def expect_outward(volume: int) -> None:
+    """Ends the process if six times the volume is negative: the normals would point inside."""
+    if volume < 0:
+        sys.exit("hullfacets: the faces run clockwise seen from outside")
+
+
 def blocks_of(data: bytes, form: str) -> Iterable[bytes]:
     """The text in a form of the hull in a file, in blocks: of many faces by numpy, where it is there, else by loops."""
     before, body = parted(data)
     surface = surface_of(arrays_of_text(body))
     if surface:
+        expect_outward(surface.six_volumes)
         return blocks_in_form(surface, indices_of(before, len(surface.points)), form)
     hull = read_off(body.decode("utf-8", "replace"))
     indices, points = indices_of(before, len(hull.points)), whole_points(hull)
     if not hull.faces or points is None:
         sys.exit("hullfacets: a hull has faces, and whole coordinates")
     surface = surface_of(arrays_of(points, hull.faces))
+    expect_outward(surface.six_volumes if surface else six_volumes(points, hull.faces))
     if surface:
         return blocks_in_form(surface, indices, form)
     return [f"{line}\n".encode() for line in in_form(points, hull.faces, indices, form)]
