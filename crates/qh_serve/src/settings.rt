@@ -83,8 +83,8 @@ impl Settings {
         })
     }
 
-    /// Returns the same settings, limited to this number of processors: no phase except the workers' starts more
-    /// threads.
+    /// Returns the same settings, limited to this number of processors: no phase starts more threads, except those of
+    /// `run_hull`, its interior filter and its workers.
     pub fn on_processors(self, processors: usize) -> Settings
         ensures { result ≡ self }
     {
