@@ -4,8 +4,8 @@
 //! into pieces. A thread for each piece makes a part with a finished mesh (`pieces`). `qh_parts_guess` guesses which
 //! facets of each part stay among the other parts, and [`seam`] verifies the guess, again in threads (`given`). The
 //! polygons that stay and those that close the gap between them, a guess of `qh_parts_guess` (`joint`), are the hull,
-//! which `qh_parts_join::join` builds (`joining`, `hulls`). If a guess is not verified, or few ids are corners of
-//! parts, the hull of the set is computed by `qh_block::hull`.
+//! which `qh_parts_join::join` builds (`joining`, `hulls`). If few ids are corners of parts, or few facets stay, the
+//! hull of the corners is taken. If a guess is not verified, that of all ids is taken, by `qh_block::hull`.
 #![tactic(auto)]
 
 mod given;

@@ -1,4 +1,5 @@
-//! The spans of the workers' board: the points, their distinct ids, and a cut of these into blocks.
+//! The points of a list, their distinct ids and a cut of these: what `run_hull` starts from, and the spans of a board
+//! that a caller works at by `work`.
 ghost use Rattle.std.specs.Prelude.{◌≡◌, length};
 ghost use Rattle.qh_model.specs.contract.{Cut.block_count, Cut.positions, RightValue.RightValue};
 ghost use Rattle.qh_model.specs.headline.DistinctIds.{AreDistinctIds};

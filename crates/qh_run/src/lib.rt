@@ -1,10 +1,10 @@
 //! The hull of many points, by workers that share the blocks of a cut.
 //!
 //! [`run_hull`] puts the blocks on a board of `qh_board`, a combining tree. Workers claim blocks and deliver their
-//! extreme ids ([`work`]). The second pass that arrives at a node takes the extreme ids of both children's: an id that
-//! is not extreme in its part is not extreme in the whole. The calling thread takes the hull of the ids at the root or,
-//! if a worker gave up, of all ids that remain after the filter. So the hull is the same for every cut, every number of
-//! workers and every order of their steps.
+//! extreme ids. The second pass that arrives at a node takes the extreme ids of the union of both children's lists: an
+//! id that is not extreme in its part is not extreme in the whole. The calling thread takes the hull of the ids at the
+//! root or, if a worker gave up, of all ids that remain after the filter. So the hull is the same for every cut, every
+//! number of workers and every order of their steps. [`work`] is the same for a board of a [`Job`] that a caller makes.
 //!
 //! A [`Gate`] is notified of the blocks, and takes that hull; [`NoGate`] ignores the blocks.
 //!
