@@ -4,7 +4,7 @@ from __future__ import annotations
 from itertools import chain
 from typing import Any, List, NamedTuple, Optional, Sequence, Tuple
 
-from .._limits import COORDINATE_LIMIT
+from .._limits import COORDINATE_LIMIT, POINT_LIMIT
 from .number_texts import LOW, LOW_BITS, Wide, wide_of
 from .vectors import Vector
 
@@ -16,6 +16,7 @@ except ImportError:
 # Of fewer faces than this the loops are as fast.
 LEAST_FACES = 1000
 CLOSE = float(1 << 60)
+PLACE_BITS = 23  # of the sides of a hull of as many points as the program takes
 
 
 class Arrays(NamedTuple):
@@ -62,6 +63,8 @@ def surface_of(arrays: Optional[Arrays]) -> Optional[Surface]:
     if arrays is None or len(arrays.offsets) <= LEAST_FACES or np.diff(arrays.offsets).min() < 3:
         return None
     points, corners, offsets = arrays
+    if len(points) > POINT_LIMIT or len(corners) >> PLACE_BITS:
+        return None
     sides = sides_of(corners, offsets, len(points))
     around = sides and faces_around(corners, sides, len(points))
     planes = planes_of(arrays, sides) if sides else None
@@ -78,17 +81,22 @@ def sides_of(starts: Any, offsets: Any, count: int) -> Optional[Sides]:
     before, behind = places - 1, places + 1
     before[offsets[:-1]], behind[offsets[1:] - 1] = offsets[1:] - 1, offsets[:-1]
     ends = starts[behind]
-    keys = np.minimum(starts, ends) * count + np.maximum(starts, ends)
-    order = keys.argsort()
-    rising = keys[order]
-    if len(order) % 2 or (rising[0::2] != rising[1::2]).any() or (rising[1:-1:2] == rising[2::2]).any():
+    one, other = (starts < ends).nonzero()[0], (starts > ends).nonzero()[0]
+    if len(one) != len(other) or len(one) + len(other) != len(starts):  # a side that is open, or has no length
         return None
-    one, other = order[0::2], order[1::2]
-    if (starts[one] == starts[other]).any():  # two that run the same way, or a side without a length
+    keys, one = sorted_with(starts[one] * count + ends[one], one)
+    others, other = sorted_with(ends[other] * count + starts[other], other)
+    if (keys != others).any() or (keys[1:] == keys[:-1]).any():
         return None
-    twins = np.empty_like(order)
+    twins = np.empty_like(starts)
     twins[one], twins[other] = other, one
     return Sides(faces, before, behind, twins)
+
+
+def sorted_with(keys: Any, places: Any) -> Tuple[Any, Any]:
+    """Keys of up to 40 bits in rising order, and with each its place: sorting both in one number is faster than sorting by keys."""
+    both = np.sort(keys << PLACE_BITS | places)
+    return both >> PLACE_BITS, both & (1 << PLACE_BITS) - 1
 
 
 def faces_around(starts: Any, sides: Sides, count: int) -> Optional[Tuple[Any, Any]]:

@@ -50,5 +50,6 @@ def words_of_lines(body: bytes) -> Any:
     """How many words each line has."""
     letters = np.frombuffer(body, np.uint8)
     blank = letters <= BLANK
-    starts = np.append(not blank[0], blank[:-1] & ~blank[1:]).nonzero()[0]
-    return np.diff(starts.searchsorted((letters == NEWLINE).nonzero()[0]), prepend=0)
+    starts = np.append(not blank[0], blank[:-1] & ~blank[1:])
+    ends = (letters[starts | (letters == NEWLINE)] == NEWLINE).nonzero()[0]  # among the starts of words and the ends of lines
+    return np.diff(ends, prepend=-1) - 1
