@@ -18,6 +18,7 @@ FINEST = -1074
 """All floats are whole multiples of 2 to this power."""
 
 _FEW, _ROWS = 64, 256
+_NORMAL = 1022
 
 # Whole numbers below this are floats, and so are their differences.
 _WHOLE = 1 << 52
@@ -82,6 +83,11 @@ def _finest(lows: list[float], highs: list[float], bits: int) -> tuple[int, list
         exponent += 1
 
 
+def _scaled(floats: NDArray[np.float64], power: int) -> NDArray[np.float64]:
+    """Floats times 2 to a power, exactly rounded: by a product, which is faster, where this power is a float of full precision."""
+    return floats * ldexp(1.0, power) if abs(power) <= _NORMAL else np.ldexp(floats, power)
+
+
 def _error(floats: NDArray[np.float64], steps: NDArray[np.float64], whole: NDArray[np.float64], exponent: int) -> float:
     """The greatest distance between floats and whole steps. Each one is a float, so none is rounded."""
     moved = steps - whole
@@ -118,7 +124,7 @@ def snapped(floats: NDArray[np.float64], bits: int) -> Snapped:
     varying = floats
     if any(map(operator.eq, lows, highs)):  # such an axis may be too far out for so small a step
         varying = np.where(np.equal(lows, highs), 0.0, floats)
-    steps = np.ldexp(varying, -exponent)
+    steps = _scaled(varying, -exponent)
     whole = np.rint(steps)
     error = max([_error(varying, steps, whole, exponent), *[error for _, _, error in axes]])
     firsts = [low if least < most else 0 for (low, _, _), least, most in zip(axes, lows, highs)]

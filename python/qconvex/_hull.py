@@ -117,9 +117,7 @@ class ConvexHull(Surface):
     @classmethod
     def from_floats(cls, points: Any, bits: int = 30, *, workers: int = 1) -> FloatHull:
         """Returns the exact hull of points near the given floats, in their units: see `FloatHull`."""
-        from ._floats import FloatHull
-
-        return FloatHull(points, bits, workers=workers)
+        return _floats.FloatHull(points, bits, workers=workers)
 
     def __repr__(self) -> str:
         return (
@@ -215,3 +213,6 @@ class ConvexHull(Surface):
         """Returns the faces, with each corner as its position in `vertices`."""
         corners, ends = self._drawn().corners.tolist(), self.offsets.tolist()
         return [corners[start:end] for start, end in zip(ends, ends[1:])]
+
+
+from . import _floats  # noqa: E402  which takes ConvexHull from here
