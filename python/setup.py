@@ -2,6 +2,7 @@
 import platform
 import re
 import shutil
+import subprocess
 import sys
 from pathlib import Path
 
@@ -10,6 +11,7 @@ from setuptools.command.build_py import build_py
 from wheel.bdist_wheel import bdist_wheel
 
 HERE = Path(__file__).resolve().parent
+PAGES = HERE / "man" / "man_pages.py"
 PLACES = [HERE / "qconvex" / "libqconvex.so", HERE.parent / "c" / "build" / "libqconvex.so"]
 # The versions of the C library whose symbols a shared library wants, as they stand in it.
 WANTED = re.compile(rb"\0GLIBC_(\d+)\.(\d+)")
@@ -49,4 +51,6 @@ class ForPlatform(bdist_wheel):
         return "py3", "none", platform_of(library())
 
 
+if PAGES.exists():  # a source archive has the manual pages themselves
+    subprocess.run([sys.executable, PAGES], check=True)
 setup(cmdclass={"build_py": WithLibrary, "bdist_wheel": ForPlatform})

@@ -1,10 +1,9 @@
 #!/usr/bin/env python3
 """Makes the manual pages of the commands of what they say for --help.
 
-    python/man/man_pages.py              writes a page for each beside this file
-    python/man/man_pages.py --check      says which are not what would be written; the status is 1 if one is not
+    python/man/man_pages.py [FOLDER]     writes a page for each, beside this file where no folder is named
 
-The wheel puts them to share/man/man1. They are read by `man python/man/hullview.1`.
+setup.py has them written before it makes a wheel, which puts them to share/man/man1.
 """
 import argparse
 import os
@@ -76,19 +75,13 @@ def page_of(name):
 
 
 def main():
-    """Writes the pages, or compares them."""
+    """Writes the pages."""
     parser = argparse.ArgumentParser(description=__doc__, formatter_class=argparse.RawDescriptionHelpFormatter)
-    parser.add_argument("--check", action="store_true", help="only compare")
-    options = parser.parse_args()
-    pages = {HERE / f"{name}.1": page_of(name) for name in commands()}
-    if not options.check:
-        for path, text in pages.items():
-            path.write_text(text, encoding="utf-8")
-        return 0
-    others = [path.name for path, text in pages.items() if not path.exists() or path.read_text(encoding="utf-8") != text]
-    print(f"not as --help says: {' '.join(others)}" if others else "the manual pages are as --help says")
-    return 1 if others else 0
+    parser.add_argument("folder", nargs="?", type=Path, default=HERE)
+    folder = parser.parse_args().folder
+    for name in commands():
+        (folder / f"{name}.1").write_text(page_of(name), encoding="utf-8")
 
 
 if __name__ == "__main__":
-    sys.exit(main())
+    main()
