@@ -3,7 +3,7 @@
 #
 #     scripts/make/pictures.sh        from anywhere
 #
-# Needs the built program and Qhull's (Debian's package qhull-bin), whose answer one of the pictures shows.
+# Needs the built program, the library for Python, numpy, and Qhull's program (Debian's package qhull-bin), whose answer one picture shows.
 set -eu
 . "$(dirname "$0")/../lib/paths.sh"
 for needed in "$program" qhull; do
@@ -17,7 +17,8 @@ for name in octahedron-midpoints sphere-60; do
 done
 scripts/make/example_sets.py ball7 | "$program" off > "$work/lattice-ball.off"
 scripts/tools/picture.py --size 320 "$work/lattice-ball.off" > "$pictures/lattice-ball.svg"
-python/bin/hullview "$work/lattice-ball.off" > "$pictures/lattice-ball.html"
+scripts/make/example_sets.py ball7 | PYTHONPATH=python /usr/bin/python3 -c 'import sys, numpy, qconvex
+print(qconvex.ConvexHull(numpy.loadtxt(sys.stdin, int, skiprows=2)).to_stl(), end="")' > "$pictures/lattice-ball.stl"
 "$program" off < examples/bowl122.txt > "$work/right.off"
 qhull o < examples/bowl122.txt > "$work/qhull.off"
 scripts/tools/picture.py --eye=2,6,-3 --size 320 "$work/right.off" > "$pictures/bowl122.svg"
