@@ -1,6 +1,7 @@
-# Builds and installs the programs; the library for C has its own Makefile in c/.
+# Builds and installs the programs; the library for C is installed by its own Makefile in c/.
 #
 #     make                  proves and builds the programs that were not built yet, on all processors
+#     make everything       the same with the library for C, in one run that proves no crate twice
 #     make install          the program with its manual page and what shells complete, and hullcheck, under PREFIX (/usr/local),
 #                           below DESTDIR
 #     make install NAME=qconvex-exact
@@ -31,6 +32,14 @@ $(PROGRAM):
 $(CHECKER): | $(PROGRAM)
 	test -x $@ || scripts/make/programs.py hullcheck
 
+# The crates that were not built yet. programs.py proves by the gate, whose proofs serve no library for C.
+UNBUILT = $(strip $(foreach name,qconvex hullcheck qconvex_c,$(if $(wildcard crates/$(name)/out/$(name) crates/$(name)/out/lib$(name).a),,$(name))))
+
+everything:
+	$(if $(UNBUILT),scripts/make/prove.py $(UNBUILT))
+	$(PROGRAM) off < examples/unit-cube.txt | $(CHECKER) examples/unit-cube.txt
+	$(MAKE) -C c
+
 install: $(PROGRAM) $(CHECKER)
 	install -d $(DESTDIR)$(BINDIR) $(dir $(PAGE)) $(dir $(BASH_COMPLETION)) $(dir $(ZSH_COMPLETION)) $(dir $(FISH_COMPLETION))
 	install -m 755 $(PROGRAM) $(DESTDIR)$(BINDIR)/$(NAME)
@@ -43,4 +52,4 @@ install: $(PROGRAM) $(CHECKER)
 uninstall:
 	rm -f $(DESTDIR)$(BINDIR)/$(NAME) $(DESTDIR)$(BINDIR)/hullcheck $(PAGE) $(BASH_COMPLETION) $(ZSH_COMPLETION) $(FISH_COMPLETION)
 
-.PHONY: all install uninstall
+.PHONY: all everything install uninstall

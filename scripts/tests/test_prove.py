@@ -63,5 +63,21 @@ class Proved(unittest.TestCase):
         self.assertFalse((self.lane / "crates/library/out").exists() or (self.lane / "build/prove").exists())
 
 
+class Everything(unittest.TestCase):
+    def test_make_proves_what_was_not_built_in_one_run(self):
+        makefile = Path(prove.__file__).resolve().parents[2] / "Makefile"
+        wanted = ["scripts/make/prove.py qconvex hullcheck qconvex_c", "scripts/make/prove.py qconvex", None]
+        with tempfile.TemporaryDirectory() as folder:
+            (Path(folder) / "c").mkdir()
+            (Path(folder) / "c/Makefile").write_text("all:\n")
+            for built, line in zip([[], ["hullcheck/out/hullcheck", "qconvex_c/out/libqconvex_c.a"], ["qconvex/out/qconvex"]], wanted):
+                for file in built:
+                    (Path(folder) / "crates" / file).parent.mkdir(parents=True)
+                    (Path(folder) / "crates" / file).touch()
+                done = subprocess.run(["make", "-n", "-f", makefile, "everything"], cwd=folder, capture_output=True, text=True, check=True)
+                found = [" ".join(it.split()) for it in done.stdout.splitlines() if "prove.py" in it]
+                self.assertEqual(found, [line] if line else [])
+
+
 if __name__ == "__main__":
     unittest.main()
