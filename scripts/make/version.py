@@ -4,7 +4,7 @@
     scripts/make/version.py            prints the version; the status is 1 if two places differ
     scripts/make/version.py 1.2.3      writes this version to all places
 
-The places are the help text, the header and the crate of the library for C, and the package for Python. After a change
+The places are the help text and that of `--version`, the header and the crate of the library for C, and the package for Python. After a change
 run scripts/make/man_page.py, and build the program and the library anew.
 """
 import re
@@ -18,6 +18,7 @@ from lib.usage import names_given  # noqa: E402
 # A file, the text around the version, and whether it stands there as one number.
 PLACES = [
     ("crates/qconvex/src/help.rt", 'HELP: &str = "qconvex {}: ', False),
+    ("crates/qconvex/src/help.rt", 'VERSION: &str = "qconvex {}\\n"', False),
     ("c/qconvex.h", '#define QCONVEX_VERSION "{}"', False),
     ("c/qconvex.h", "#define QCONVEX_VERSION_NUMBER {} ", True),
     ("crates/qconvex_c/src/version.rt", "pub const VERSION: u32 = {};", True),

@@ -96,7 +96,7 @@ def checker(given, _rng):
         right = done.returncode == status and not done.stdout and done.stderr.count(b"\n") == 1
         yield "runs", None if right else f"{name}: {done}"
     faces = hull_text(points_of(Path(CUBE).read_bytes()), ["off"])[0]
-    for name, target in (("a full output", "> /dev/full"), ("no output", ">&-")):
+    for name, target in (("a full output", "> /dev/full"), ("no output", ">&-"), ("a full output for the help text", "--help > /dev/full")):
         done = subprocess.run(["sh", "-c", f'"$0" "$1" {target}', ours, CUBE], input=faces, stderr=subprocess.PIPE, check=False)
         yield "runs", None if done.returncode == 4 else f"{name}: {done}"
 

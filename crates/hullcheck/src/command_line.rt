@@ -2,7 +2,8 @@
 ghost use Rattle.std.specs.Prelude.{◌≡◌, ◌==◌, ◌∷◌, ℕ, List, None, Some, IfOk, IsSome, MatchResult, map, slice_index, string_bytes};
 ghost use Rattle.hullcheck.specs.declared.fault.Fault.TheVariants.{Usage};
 ghost use Rattle.hullcheck.specs.declared.command_line.Next.TheVariants.{Any};
-ghost use Rattle.hullcheck.specs.contract.CommandLine.{asked_by, asked_by_default, asked_in, with_file, with_word, workers_in};
+ghost use Rattle.hullcheck.specs.contract.CommandLine.{asked_by, asked_by_default, asked_in, requests_help, with_file, with_word};
+ghost use Rattle.hullcheck.specs.contract.CommandLine.{workers_in};
 ghost use Rattle.hullcheck.specs.steps.Words.{with_next};
 
 use crate::fault::Fault;
@@ -117,6 +118,21 @@ impl<'a> Settings<'a> {
         }
         Ok(Next::Any)
     }
+}
+
+/// Returns true if a word of a command line requests help; the first word is the name of the program.
+pub fn asks_help(words: &[String]) -> bool
+    ensures { result ≡ requests_help (map string_bytes words.now) }
+{
+    let [_, rest @ ..] = words else {
+        return false;
+    };
+    for word in rest {
+        if word.as_str() == "--help" || word.as_str() == "-h" {
+            return true;
+        }
+    }
+    false
 }
 
 /// Returns the settings of a command line; the first word is the name of the program.

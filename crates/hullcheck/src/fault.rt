@@ -11,7 +11,7 @@ use std::fmt;
 /// Why there is no verdict.
 #[derive(Clone, Copy, Debug, PartialEq, Eq)]
 pub enum Fault {
-    /// The command line is invalid, or is a request for help.
+    /// The command line is invalid.
     Usage,
     /// An allocation failed.
     Memory,

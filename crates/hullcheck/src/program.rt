@@ -3,11 +3,12 @@ ghost use Rattle.std.specs.Prelude.{◌≡◌, ◌≢◌, ◌⊎◌, ◌^◌, �
 ghost use Rattle.std.specs.{Prelude.string_bytes, Option.option_map, declared.io.ErrorKind.TheVariants.OutOfMemory};
 ghost use Rattle.qh_write.specs.contract.LineDevices.{LineDevice};
 ghost use Rattle.hullcheck.specs.contract.{Checking.IsJudgeFault, Judging.IsToldBy, Judging.IsWhole};
-ghost use Rattle.hullcheck.specs.contract.Runs.{IsEnd, IsJudged, IsRefusal, IsRun};
+ghost use Rattle.hullcheck.specs.contract.Runs.{IsAnswered, IsEnd, IsRefusal, IsRun};
 ghost use Rattle.hullcheck.specs.declared.fault.Fault.TheVariants.{Device, Memory, Usage};
 ghost use Rattle.hullcheck.specs.steps.Files.{IsUnread};
 
-use crate::command_line::settings_of;
+use crate::answer::Answer;
+use crate::command_line::{asks_help, settings_of};
 use crate::fault::Fault;
 use crate::files::Files;
 use crate::judging::check_streams;
@@ -96,18 +97,19 @@ fn judge_words<R: Threads + Sync, F: Files>(
     judged
 }
 
-/// Judges the faces that a command line names, if its words could be read.
-fn judge<R: Threads + Sync, F: Files>(
+/// Answers a command line with the help text or with the judgement on the faces, if its words could be read.
+fn answer<R: Threads + Sync, F: Files>(
     rt: &R,
     alloc: Global,
     words: Result<Vec<String>, ErrorKind>,
     processors: usize,
     files: &mut F,
-) -> Result<Judgement, Fault>
-    ensures { IsJudged (λ v. map string_bytes v.items) words (F.contents files.old) (F.failed files.new ≡ true) result }
+) -> Result<Answer, Fault>
+    ensures { IsAnswered (λ v. map string_bytes v.items) words (F.contents files.old) (F.failed files.new ≡ true) result }
 {
     match words {
-        Ok(words) => judge_words(rt, alloc, &words, processors, files),
+        Ok(words) if asks_help(&words) => Ok(Answer::Help),
+        Ok(words) => Ok(Answer::Told(judge_words(rt, alloc, &words, processors, files)?)),
         Err(kind) => Err(unread_words(kind)),
     }
 }
@@ -123,26 +125,27 @@ fn refuse<L: Lines>(errors: &mut L, fault: Fault) -> u8
     fault.status()
 }
 
-/// Writes the line of a judgement or of a fault, and returns its exit status.
-fn end<O: Lines, L: Lines>(output: &mut O, errors: &mut L, judged: Result<Judgement, Fault>) -> u8
+/// Writes the text of an answer or the line of a fault, and returns its exit status.
+fn end<O: Lines, L: Lines>(output: &mut O, errors: &mut L, answered: Result<Answer, Fault>) -> u8
     requires output { O.count output.old < 2 ^ 64 - 1 }
     requires errors { L.count errors.old < 2 ^ 64 - 1 }
     ensures { let old : LineDevice = record { went = O.went output.old; failures = O.count output.old } in
         let new : LineDevice = record { went = O.went output.new; failures = O.count output.new } in
         let before : LineDevice = record { went = L.went errors.old; failures = L.count errors.old } in
         let after : LineDevice = record { went = L.went errors.new; failures = L.count errors.new } in
-        IsEnd judged old new before after result }
+        IsEnd answered old new before after result }
 {
-    match judged {
-        Ok(judgement) => match output.line(judgement) {
-            Ok(()) => status_of(&judgement),
+    match answered {
+        Ok(answer) => match output.line(answer) {
+            Ok(()) => status_of(&answer),
             Err(_) => refuse(errors, Fault::Output),
         },
         Err(fault) => refuse(errors, fault),
     }
 }
 
-/// Judges the faces that a command line names, writes the judgement or the fault, and returns the exit status.
+/// Judges the faces that a command line names, writes the judgement, the fault or the requested help text, and returns
+/// the exit status.
 ///
 /// `words` are the words of the command line, the program's name first, or the reason why the system could not supply
 /// them. The number of processors only limits the threads.
@@ -162,9 +165,9 @@ pub fn run<R: Threads + Sync, F: Files, O: Lines, L: Lines>(
         let new : LineDevice = record { went = O.went output.new; failures = O.count output.new } in
         let before : LineDevice = record { went = L.went errors.old; failures = L.count errors.old } in
         let after : LineDevice = record { went = L.went errors.new; failures = L.count errors.new } in
-        IsRun (IsJudged (λ v. map string_bytes v.items) words (F.contents files.old) (F.failed files.new ≡ true))
+        IsRun (IsAnswered (λ v. map string_bytes v.items) words (F.contents files.old) (F.failed files.new ≡ true))
         old new before after result }
 {
-    let judged = judge(rt, alloc, words, processors, files);
-    end(output, errors, judged)
+    let answered = answer(rt, alloc, words, processors, files);
+    end(output, errors, answered)
 }

@@ -1,15 +1,16 @@
 //! The exit statuses.
 ghost use Rattle.std.specs.Prelude.{◌≡◌};
-ghost use Rattle.hullcheck.specs.contract.Statuses.{judgement_status};
+ghost use Rattle.hullcheck.specs.contract.Statuses.{answer_status};
 
+use crate::answer::Answer;
 use qh_check::{Judgement, SurfaceVerdict};
 
-/// Returns the exit status of a judgement: 0 if the faces are right, else 1.
-pub fn status_of(judgement: &Judgement) -> u8
-    ensures { result ≡ judgement_status judgement.now }
+/// Returns the exit status of an answer: 1 if the faces are not right, else 0.
+pub fn status_of(answer: &Answer) -> u8
+    ensures { result ≡ answer_status answer.now }
 {
-    match judgement {
-        Judgement::Told(SurfaceVerdict::Right) => 0,
+    match answer {
+        Answer::Help | Answer::Told(Judgement::Told(SurfaceVerdict::Right)) => 0,
         _ => 1,
     }
 }

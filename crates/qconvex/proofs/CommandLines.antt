@@ -1,12 +1,12 @@
 -- The reasons why a command line has no settings.
 use Rattle.std.proofs.Common.{◌≡◌, ◌∙◌, ◌<◌, ap, sym, subst, refl, arith, ℕ, zero, suc, Bool, true, false, inl, inr, List, [], ◌∷◌, length, map, Option, codes}
-use Rattle.std.specs.{Prelude.slice_index_or, Borrow.Bor, Option.option_map}
+use Rattle.std.specs.{Prelude.slice_index_or, Prelude.string_bytes, Borrow.Bor, Option.option_map}
 use Rattle.clap.specs.Words.{App, Text, IsAmong, HasKind, all_of, fault_of, kind_of, matched_of, matches_of, one_of, raw_values, rows_of, takes}
-use Rattle.clap.specs.declared.error.{Error.Error, kind.ErrorKind.ErrorKind, kind.ErrorKind.TheVariants.DisplayHelp, kind.ErrorKind.TheVariants.OutOfMemory}
+use Rattle.clap.specs.declared.error.{Error.Error, kind.ErrorKind.ErrorKind, kind.ErrorKind.TheVariants.DisplayHelp, kind.ErrorKind.TheVariants.DisplayVersion, kind.ErrorKind.TheVariants.OutOfMemory}
 use Rattle.clap.specs.declared.parser.matches.Found.{Found}
 use Rattle.clap.proofs.WalkLemmas.{one_text-rows, raw_values-rows}
 use Rattle.qh_model.specs.declared.out.Out.{Out}
-use Rattle.qconvex.specs.contract.CommandLine.{AreOutsOf, AreSettingsIn, IsArgFaultOf, IsFormOf, IsProgram, NumberOf, word_of}
+use Rattle.qconvex.specs.contract.CommandLine.{AreOutsOf, AreSettingsIn, IsArgFaultOf, IsFormOf, IsProgram, IsRequested, NumberOf, word_of}
 use Rattle.qconvex.specs.declared.command_line.ArgFault.{ArgFault, TheVariants.Help, TheVariants.Usage, TheVariants.Memory}
 use Rattle.qconvex.specs.steps.Matches.{AreSettingsFound, IsFindingFault, IsOutsFault, IsRefusalOf}
 use Rattle.qh_serve.specs.headline.SettingsValue.{SettingsValue}
@@ -60,19 +60,23 @@ no_outs found (Help text) h = absurd h
 no_outs found Usage h = λ s g r. h s.outs g.outs
 no_outs found Memory h = tt
 
--- an error of clap: the words request help; else clap refuses them, or an allocation failed
+-- an error of clap: the words request a text; else clap refuses them, or an allocation failed
 pub refusal : (app : App) (words : List Text) (e : Error) → IsProgram app → HasKind (fault_of app words) e → (takes app words ≡ true → kind_of e ≡ OutOfMemory)
     → (f : ArgFault) → IsRefusalOf (kind_of e) f → IsArgFaultOf words f
-refusal app words e is kinds passes (Help text) h = (app, is, among kinds)
+refusal app words e is kinds passes (Help text) h = (app, is, requested h)
   where
-    among : HasKind (fault_of app words) e → IsAmong DisplayHelp (fault_of app words)
-    among (inl m) = let bad : DisplayHelp ≡ OutOfMemory = sym h ∙ m in cc
-    among (inr a) = subst (λ (k : ErrorKind). IsAmong k (fault_of app words)) h a
+    among : (k : ErrorKind) → kind_of e ≡ k → ¬ (k ≡ OutOfMemory) → HasKind (fault_of app words) e → IsAmong k (fault_of app words)
+    among k same other (inl m) = absurd (other (sym same ∙ m))
+    among k same other (inr a) = subst (λ (j : ErrorKind). IsAmong j (fault_of app words)) same a
+
+    requested : IsRefusalOf (kind_of e) (Help text) → IsRequested (fault_of app words) (string_bytes text)
+    requested (inl (same, t)) = inl (among DisplayHelp same (λ bad. cc) kinds, t)
+    requested (inr (same, t)) = inr (among DisplayVersion same (λ bad. cc) kinds, t)
 refusal app words e is kinds passes Usage h = (
   app,
   is,
   inl (record
-      { refused = by_test (takes app words) refl; kind = kind_of e; among = told kinds; other = h.1 }),
+      { refused = by_test (takes app words) refl; kind = kind_of e; among = told kinds; no_help = h.1; no_version = h.2 }),
 )
   where
     by_test : (b : Bool) → takes app words ≡ b → takes app words ≡ false

@@ -8,10 +8,10 @@ ghost use Rattle.qh_model.specs.declared.out.Out.{Out};
 ghost use Rattle.qh_model.specs.declared.out.Out.TheVariants.{Rank, Summary, Fx, Off, OffTriangles};
 ghost use Rattle.qconvex.specs.contract.CommandLine.{AreOutsOf, AreSettingsOf, IsArgFaultOf, IsFormOf, IsProgram, NumberOf};
 ghost use Rattle.qconvex.specs.contract.CommandLine.{form_word, from_one_to, from_option, number_option, outs_rule, word_of};
-ghost use Rattle.qconvex.specs.contract.CommandLine.{words_taken};
-ghost use Rattle.qconvex.specs.steps.Matches.{AreSettingsFound, IsFindingFault, IsOutsFault, IsRefusalOf};
+ghost use Rattle.qconvex.specs.contract.CommandLine.{version_flag, words_taken};
+ghost use Rattle.qconvex.specs.steps.Matches.{AreSettingsFound, IsFindingFault, IsOutsFault, IsRefusalOf, IsTextOrMemory};
 
-use crate::help::HELP;
+use crate::help::{HELP, VERSION};
 use clap::builder::ValueParser;
 use clap::error::ErrorKind;
 use clap::{Arg, ArgAction, ArgMatches, Command, Error, value_parser};
@@ -23,7 +23,7 @@ use std::alloc::{AllocError, Global};
 /// Why a command line gives no settings.
 #[derive(Debug, Drop)]
 pub enum ArgFault {
-    /// The help text, which the command line requests.
+    /// The help text or the version, whichever the command line requests.
     Help(String),
     /// The command line is invalid.
     Usage,
@@ -83,12 +83,23 @@ fn outs_arg<'a>(alloc: Global) -> Arg<'a>
         .value_parser(NAMES.as_slice())
 }
 
+/// Returns the flag `--version`.
+fn version_arg<'a>(alloc: Global) -> Arg<'a>
+    ensures rule { rule_of result ≡ version_flag }
+    ensures local { result.global ≡ false }
+{
+    Arg::new(alloc, "version")
+        .long("version")
+        .action(ArgAction::Version)
+}
+
 /// Returns the command line of the program.
 fn command<'a>(alloc: Global) -> Result<Command<'a>, AllocError>
     ensures { IfOk result (λ c. IsProgram (app_of c)) }
 {
     Command::new(alloc, "qconvex")
         .override_help(HELP)
+        .arg(version_arg(alloc))?
         .arg(from_arg(alloc))?
         .arg(number_arg(alloc, "workers", "4", WORKER_LIMIT))?
         .arg(number_arg(alloc, "block", "4096", BLOCK_SIZE_LIMIT))?
@@ -155,16 +166,24 @@ fn form_of(names: Option<&[&str]>) -> Option<Form>
     form_named(names[0])
 }
 
+/// Returns a request for a text.
+fn requested(alloc: Global, text: &str) -> ArgFault
+    ensures { IsTextOrMemory text.now result }
+{
+    match String::from_str(alloc, text) {
+        Ok(text) => ArgFault::Help(text),
+        Err(_) => ArgFault::Memory,
+    }
+}
+
 /// Returns the fault that corresponds to an error of clap.
 fn refused(alloc: Global, error: &Error) -> ArgFault
     ensures { IsRefusalOf (kind_of error.now) result }
 {
     match error.kind() {
         ErrorKind::OutOfMemory => ArgFault::Memory,
-        ErrorKind::DisplayHelp => match error.to_string(alloc) {
-            Ok(text) => ArgFault::Help(text),
-            Err(_) => ArgFault::Memory,
-        },
+        ErrorKind::DisplayHelp => requested(alloc, HELP),
+        ErrorKind::DisplayVersion => requested(alloc, VERSION),
         _ => ArgFault::Usage,
     }
 }
@@ -221,7 +240,7 @@ fn settings_in<'a>(alloc: Global, words: &'a [String]) -> Result<Settings, ArgFa
 ///
 /// # Errors
 ///
-/// `Help` with the help text if the command line requests it, `Usage` if the command line is invalid, and `Memory` if
+/// `Help` with the text that the command line requests, if it does, `Usage` if the command line is invalid, and `Memory` if
 /// an allocation failed.
 pub fn settings_of(alloc: Global, words: Vec<String>) -> Result<Settings, ArgFault>
     ensures settings { IfOk result (AreSettingsOf (map string_bytes words.items)) }

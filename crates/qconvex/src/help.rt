@@ -1,4 +1,7 @@
-//! The help text.
+//! The texts that options request.
+
+/// The text that `--version` prints.
+pub const VERSION: &str = "qconvex 0.2.0\n";
 
 /// The text that `--help` prints. The manual page is made from it, too (`scripts/make/man_page.py`).
 pub const HELP: &str = "qconvex 0.2.0: the exact convex hull of whole-number points in space
@@ -28,6 +31,7 @@ Options:
   --block N    how many points a block has, whose hull is taken first,
                1 to 1048576 [default: 4096]
   -h, --help   print this text
+  --version    print the version
 
 Exit status:
   0  answered

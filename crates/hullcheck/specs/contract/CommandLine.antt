@@ -1,6 +1,6 @@
 -- The settings that the words of a command line specify. This project's own.
-use Rattle.std.specs.Prelude.{ℕ, Bool, ◌==◌, nat_lt, nat_le, ◌&&◌, if◌then◌else◌, List, [], ◌∷◌, codes, length, slice_index, drop, Option, None, Some, is_some}
-use Rattle.std.specs.{Option.option_and_then, Option.option_map, Str.all_ascii_digits, Str.bytes_eq, Str.Parse.digits_value, Str.Parse.without_leading_plus}
+use Rattle.std.specs.Prelude.{ℕ, Bool, ◌==◌, nat_lt, nat_le, ◌&&◌, ◌||◌, if◌then◌else◌, List, [], ◌∷◌, codes, length, slice_index, drop, Option, None, Some, is_some}
+use Rattle.std.specs.{List.list_any, Option.option_and_then, Option.option_map, Str.all_ascii_digits, Str.bytes_eq, Str.Parse.digits_value, Str.Parse.without_leading_plus}
 use Rattle.qh_model.specs.declared.limits.TheConstants.{WORKER_LIMIT}
 use Rattle.qh_read.specs.declared.faces.reading.{Reading.Reading, Layout.TheVariants.Off, Layout.TheVariants.Counted, Layout.TheVariants.Lines}
 use Rattle.qh_read.specs.declared.faces.reading.Turn.TheVariants.{Counterclockwise, Clockwise}
@@ -64,6 +64,14 @@ with_points asked = if is_some asked.points then Some asked else None
 -- the settings that the words of a command line specify, the first of which is the name of the program; nothing if they are refused
 abbrev pub asked_by : List (List ℕ) → Option Asked
 asked_by words = option_and_then with_points (with_words asked_by_default (drop 1 words))
+
+-- the word requests help
+abbrev pub is_help : List ℕ → Bool
+is_help word = bytes_eq word (codes "--help") || bytes_eq word (codes "-h")
+
+-- one of the words after the first requests help
+abbrev pub requests_help : List (List ℕ) → Bool
+requests_help words = list_any is_help (drop 1 words)
 
 -- the contract view of settings
 abbrev pub asked_in : Settings → Asked

@@ -4,10 +4,12 @@ use Rattle.qh_model.specs.declared.read_fault.ReadFault.{ReadFault}
 use Rattle.qh_model.specs.declared.read_fault.ReadFault.TheVariants as read
 use Rattle.qh_check.specs.declared.flaw.SurfaceVerdict.TheVariants.{Right, OtherPolygons, NoPiece, Open, Twice}
 use Rattle.qh_check.specs.declared.judgement.Judgement.{Judgement, TheVariants.Told, TheVariants.Stranger}
+use Rattle.hullcheck.specs.declared.answer.Answer.{Answer, TheVariants.Help}
+use Rattle.hullcheck.specs.declared.answer.Answer.TheVariants as answer
 use Rattle.hullcheck.specs.declared.fault.Fault.{Fault}
 use Rattle.hullcheck.specs.declared.fault.Fault.TheVariants.{Usage, Memory, Device, Output, Points, Faces}
 
--- the faces are the hull
+-- the faces are the hull, or the help text was written
 abbrev pub all_right : ℕ
 all_right = 0
 
@@ -39,6 +41,11 @@ judgement_status (Told (NoPiece n fault)) = not_right
 judgement_status (Told (Open u v)) = not_right
 judgement_status (Told (Twice u v)) = not_right
 judgement_status (Stranger n) = not_right
+
+-- the status of an answer
+abbrev pub answer_status : Answer → ℕ
+answer_status Help = all_right
+answer_status (answer.Told j) = judgement_status j
 
 -- the status for a file that could not be read
 abbrev pub read_fault_status : ReadFault → ℕ

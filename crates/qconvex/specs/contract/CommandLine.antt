@@ -1,15 +1,16 @@
 -- The options of the program, as clap reads them.
 -- Source: this project's own, in the words of clap's contracts.
-use Rattle.std.specs.Prelude.{ℕ, ◌≡◌, ◌≢◌, ◌⊎◌, pos, false, List, [], ◌∷◌, Option, None, Some, codes, map}
+use Rattle.std.specs.Prelude.{ℕ, ◌≡◌, ◌≢◌, ◌⊎◌, pos, false, List, [], ◌∷◌, Option, None, Some, codes, map, string_bytes}
 use Rattle.std.specs.Str.Parse.{IsNumeral, digits_value, without_leading_plus}
-use Rattle.clap.specs.Words.{App, Rule, Text, new_app, new_rule, with_rule, all_of, matches_of, one_of, takes, fault_of, IsAmong}
-use Rattle.clap.specs.declared.builder.{action.ArgAction.TheVariants.Set, action.ArgAction.TheVariants.Append, value_parser.ValueParser.ValueParser}
+use Rattle.clap.specs.Words.{App, Kinds, Rule, Text, new_app, new_rule, with_rule, all_of, matches_of, one_of, takes, fault_of, IsAmong}
+use Rattle.clap.specs.declared.builder.{action.ArgAction.TheVariants.Set, action.ArgAction.TheVariants.Append, action.ArgAction.TheVariants.Version, value_parser.ValueParser.ValueParser}
 use Rattle.clap.specs.declared.builder.value_parser.ValueParser.TheVariants.{Signed, Names}
-use Rattle.clap.specs.declared.error.kind.ErrorKind.{ErrorKind, TheVariants.DisplayHelp}
+use Rattle.clap.specs.declared.error.kind.ErrorKind.{ErrorKind, TheVariants.DisplayHelp, TheVariants.DisplayVersion}
 use Rattle.qh_model.specs.declared.{form.Form.Form, limits.TheConstants.WORKER_LIMIT}
 use Rattle.qh_model.specs.declared.form.Form.TheVariants as forms
 use Rattle.qh_model.specs.declared.out.Out.{Out}
 use Rattle.qh_model.specs.declared.out.Out.TheVariants.{Rank, Summary, Fx, Off, OffTriangles}
+use Rattle.qconvex.specs.declared.help.TheConstants.{HELP, VERSION}
 use Rattle.qconvex.specs.declared.command_line.ArgFault.{ArgFault, TheVariants.Help, TheVariants.Usage, TheVariants.Memory}
 use Rattle.qh_serve.specs.{contract.Ranges.IsInRange, declared.settings.TheConstants.BLOCK_SIZE_LIMIT, headline.SettingsValue.SettingsValue}
 
@@ -27,6 +28,10 @@ number_option name default limit = record (new_rule name) {
   parser = Some (from_one_to limit);
 }
 
+-- the flag `--version`
+abbrev pub version_flag : Rule
+version_flag = record (new_rule (codes "version")) { long = Some (codes "version"); action = Some Version }
+
 -- the words OUT, each of which this parser accepts
 abbrev pub outs_rule : ValueParser → Rule
 outs_rule parser = record (new_rule (codes "outs")) { action = Some Append; value_names = 1; parser = Some parser }
@@ -43,7 +48,7 @@ from_option parser = record (new_rule (codes "from")) {
 
 -- the command
 abbrev pub program : ValueParser → ValueParser → App
-program from outs = with_rule (with_rule (with_rule (with_rule (new_app (codes "qconvex")) (from_option from))
+program from outs = with_rule (with_rule (with_rule (with_rule (with_rule (new_app (codes "qconvex")) version_flag) (from_option from))
     (number_option (codes "workers") (codes "4") WORKER_LIMIT)) (number_option (codes "block") (codes "4096") BLOCK_SIZE_LIMIT)) (outs_rule outs)
 
 -- the word of an output
@@ -93,19 +98,24 @@ pub record AreSettingsIn (app : App) (words : List Text) (s : SettingsValue) : T
 abbrev pub AreSettingsOf : List Text → SettingsValue → Type 0
 AreSettingsOf words s = (app : App) × IsProgram app × AreSettingsIn app words s
 
--- the command refuses the words, for a cause other than a request for help
+-- the command refuses the words, for a cause other than a request for a text
 pub record IsRefused (app : App) (words : List Text) : Type 0 where
   pub refused : takes app words ≡ false
   pub kind : ErrorKind
   pub among : IsAmong kind (fault_of app words)
-  pub other : kind ≢ DisplayHelp
+  pub no_help : kind ≢ DisplayHelp
+  pub no_version : kind ≢ DisplayVersion
 
 -- the command refuses the words, or its matches have no settings in range
 abbrev pub IsUsageOf : App → List Text → Type 0
 IsUsageOf app words = IsRefused app words ⊎ ((s : SettingsValue) → AreSettingsIn app words s → ¬ (IsInRange s.workers s.block))
 
--- the reason why there are no settings: the words request help; the command line is invalid; or an allocation failed
+-- the text is the one requested: the help text or the version
+abbrev pub IsRequested : Kinds → List ℕ → Type 0
+IsRequested kinds text = (IsAmong DisplayHelp kinds × (text ≡ HELP.now)) ⊎ (IsAmong DisplayVersion kinds × (text ≡ VERSION.now))
+
+-- the reason why there are no settings: the words request a text; the command line is invalid; or an allocation failed
 abbrev pub IsArgFaultOf : List Text → ArgFault → Type 0
-IsArgFaultOf words (Help text) = (app : App) × IsProgram app × IsAmong DisplayHelp (fault_of app words)
+IsArgFaultOf words (Help text) = (app : App) × IsProgram app × IsRequested (fault_of app words) (string_bytes text)
 IsArgFaultOf words Usage = (app : App) × IsProgram app × IsUsageOf app words
 IsArgFaultOf words Memory = Unit {0}

@@ -1,11 +1,12 @@
 -- The settings in clap's matches, and the faults on the way.
-use Rattle.std.specs.Prelude.{◌≡◌, ◌≢◌, List, Option, codes}
+use Rattle.std.specs.Prelude.{◌≡◌, ◌≢◌, ◌⊎◌, List, Option, codes, string_bytes}
 use Rattle.std.specs.Option.{option_map}
 use Rattle.clap.specs.Words.{Text, matched_of, one_text, raw_values}
-use Rattle.clap.specs.declared.error.kind.ErrorKind.{ErrorKind, TheVariants.DisplayHelp, TheVariants.OutOfMemory}
+use Rattle.clap.specs.declared.error.kind.ErrorKind.{ErrorKind, TheVariants.DisplayHelp, TheVariants.DisplayVersion, TheVariants.OutOfMemory}
 use Rattle.clap.specs.declared.parser.matches.Found.{Found}
 use Rattle.qh_model.specs.declared.out.Out.{Out}
 use Rattle.qconvex.specs.{contract.CommandLine.AreOutsOf, contract.CommandLine.IsFormOf, contract.CommandLine.NumberOf, declared.command_line.ArgFault.ArgFault}
+use Rattle.qconvex.specs.declared.help.TheConstants.{HELP, VERSION}
 use Rattle.qconvex.specs.declared.command_line.ArgFault.TheVariants.{Help, Usage, Memory}
 use Rattle.qh_serve.specs.{contract.Ranges.IsInRange, headline.SettingsValue.SettingsValue}
 
@@ -28,8 +29,14 @@ IsOutsFault words (Help text) = ⊥
 IsOutsFault words Usage = (outs : List Out) → ¬ (AreOutsOf words outs)
 IsOutsFault words Memory = Unit {0}
 
+-- the request for a text, or an allocation failed
+abbrev pub IsTextOrMemory : Text → ArgFault → Type 0
+IsTextOrMemory wanted (Help text) = string_bytes text ≡ wanted
+IsTextOrMemory wanted Usage = ⊥
+IsTextOrMemory wanted Memory = Unit {0}
+
 -- the fault that corresponds to an error of clap
 abbrev pub IsRefusalOf : ErrorKind → ArgFault → Type 0
-IsRefusalOf kind (Help text) = kind ≡ DisplayHelp
-IsRefusalOf kind Usage = (kind ≢ OutOfMemory) × (kind ≢ DisplayHelp)
+IsRefusalOf kind (Help text) = ((kind ≡ DisplayHelp) × (string_bytes text ≡ HELP.now)) ⊎ ((kind ≡ DisplayVersion) × (string_bytes text ≡ VERSION.now))
+IsRefusalOf kind Usage = (kind ≢ OutOfMemory) × (kind ≢ DisplayHelp) × (kind ≢ DisplayVersion)
 IsRefusalOf kind Memory = Unit {0}

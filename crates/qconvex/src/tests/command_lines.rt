@@ -1,6 +1,6 @@
 //! Valid and invalid command lines.
 use crate::command_line::{ArgFault, settings_of};
-use crate::help::HELP;
+use crate::help::{HELP, VERSION};
 use qh_model::Form;
 use qh_serve::Settings;
 use std::alloc::{AllocError, Global};
@@ -42,7 +42,7 @@ fn judge(alloc: Global, line: &str) -> Result<Judged, AllocError> {
 }
 
 /// Lines that are refused.
-const REFUSED: [&str; 18] = [
+const REFUSED: [&str; 20] = [
     "--workers 0",
     "--workers 65",
     "--block 0",
@@ -54,6 +54,8 @@ const REFUSED: [&str; 18] = [
     "--block 2 --block 3",
     "--work 2",
     "-V",
+    "--version=1",
+    "--workers 0 --version",
     "help",
     "--workers two",
     "--from",
@@ -114,7 +116,7 @@ fn accepts_lines(rt: HostRuntime) -> Result<(), Fail> {
 }
 
 /// Parts of the help text: the options with their ranges, each output and each exit status.
-const HELPED: [&str; 16] = [
+const HELPED: [&str; 17] = [
     "Usage: qconvex [--from FORM] [--workers N] [--block N] [OUT]...\n",
     "standard input",
     "\n  rank ",
@@ -127,28 +129,38 @@ const HELPED: [&str; 16] = [
     "1 to 64 [default: 4]",
     "\n  --block N ",
     "1 to 1048576 [default: 4096]",
+    "\n  --version ",
     "\n  1  the input is refused",
     "\n  2  the command line is refused",
     "\n  3  out of memory",
     "\n  4  a device failed",
 ];
 
-/// Asserts that a line is answered with the help text.
-fn assert_helped<R: AllocGlobal + Abort>(rt: &R, line: &str) -> Result<(), Fail> {
+/// Asserts that a line is answered with this text.
+fn assert_helped<R: AllocGlobal + Abort>(rt: &R, line: &str, wanted: &str) -> Result<(), Fail> {
     let Judged::Helped(text) = judge(rt.alloc(), line)? else {
-        return Err("the line asks for help".into());
+        return Err("the line asks for a text".into());
     };
-    assert_eq!(rt; text.as_str(), HELP, "at {line}");
+    assert_eq!(rt; text.as_str(), wanted, "at {line}");
     Ok(())
 }
 
 #[test]
 fn helps(rt: HostRuntime) -> Result<(), Fail> {
     for line in ["--help", "-h", "rank --help --workers 0"] {
-        assert_helped(&rt, line)?;
+        assert_helped(&rt, line, HELP)?;
     }
     for words in HELPED {
         assert!(rt; HELP.contains(words), "{words}");
     }
+    Ok(())
+}
+
+#[test]
+fn tells_the_version(rt: HostRuntime) -> Result<(), Fail> {
+    for line in ["--version", "rank --version --workers 0"] {
+        assert_helped(&rt, line, VERSION)?;
+    }
+    assert!(rt; HELP.starts_with(VERSION.trim_end()));
     Ok(())
 }

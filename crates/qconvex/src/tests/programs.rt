@@ -1,6 +1,6 @@
 //! The program over fake streams.
 use super::stand_in::{StandIn, Stream};
-use crate::help::HELP;
+use crate::help::{HELP, VERSION};
 use crate::system::start;
 use std::process::ExitCode;
 use std::test::Fail;
@@ -16,7 +16,7 @@ const SQUARE_OFF_AND_SUMMARY: &str =
 
 /// Words, an input, the capacity of standard output in bytes, the exit status, the text on standard output, and the
 /// text on standard error.
-const RUNS: [(&[&str], &str, usize, u8, &str, &str); 12] = [
+const RUNS: [(&[&str], &str, usize, u8, &str, &str); 13] = [
     (&["qconvex", "rank"], ONE_POINT, 99, 0, "1 1 0\n", ""),
     (
         &["qconvex", "rank", "Fx"],
@@ -75,6 +75,7 @@ const RUNS: [(&[&str], &str, usize, u8, &str, &str); 12] = [
         "",
     ),
     (&["qconvex", "--help"], "", 9999, 0, HELP, ""),
+    (&["qconvex", "--version"], "", 99, 0, VERSION, ""),
     (&["qconvex", "-h"], "", 9, 4, "", "qconvex: 11: Send\n"),
     (
         &["qconvex", "--workers", "0"],
