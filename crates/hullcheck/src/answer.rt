@@ -6,7 +6,8 @@ use qh_check::Judgement;
 use std::fmt;
 
 /// The text that `--help` prints, without the last line end.
-pub const HELP: &str = "hullcheck: whether faces, written by any program, are the convex hull of points
+pub const HELP: &str =
+    "hullcheck: whether faces, written by any program, are the convex hull of points
 
 Usage: hullcheck [--workers N] [--indices | --counted] [--clockwise] POINTS [FACES]
 

@@ -2,7 +2,8 @@
 use Rattle.std.proofs.Common.{◌≡◌, ◌∙◌, ◌<◌, ap, sym, subst, refl, arith, ℕ, zero, suc, Bool, true, false, inl, inr, List, [], ◌∷◌, length, map, Option, codes}
 use Rattle.std.specs.{Prelude.slice_index_or, Prelude.string_bytes, Borrow.Bor, Option.option_map}
 use Rattle.clap.specs.Words.{App, Text, IsAmong, HasKind, all_of, fault_of, kind_of, matched_of, matches_of, one_of, raw_values, rows_of, takes}
-use Rattle.clap.specs.declared.error.{Error.Error, kind.ErrorKind.ErrorKind, kind.ErrorKind.TheVariants.DisplayHelp, kind.ErrorKind.TheVariants.DisplayVersion, kind.ErrorKind.TheVariants.OutOfMemory}
+use Rattle.clap.specs.declared.error.{Error.Error, kind.ErrorKind.ErrorKind}
+use Rattle.clap.specs.declared.error.kind.ErrorKind.TheVariants.{DisplayHelp, DisplayVersion, OutOfMemory}
 use Rattle.clap.specs.declared.parser.matches.Found.{Found}
 use Rattle.clap.proofs.WalkLemmas.{one_text-rows, raw_values-rows}
 use Rattle.qh_model.specs.declared.out.Out.{Out}

@@ -1,6 +1,8 @@
 -- The settings that the words of a command line specify. This project's own.
-use Rattle.std.specs.Prelude.{ℕ, Bool, ◌==◌, nat_lt, nat_le, ◌&&◌, ◌||◌, if◌then◌else◌, List, [], ◌∷◌, codes, length, slice_index, drop, Option, None, Some, is_some}
-use Rattle.std.specs.{List.list_any, Option.option_and_then, Option.option_map, Str.all_ascii_digits, Str.bytes_eq, Str.Parse.digits_value, Str.Parse.without_leading_plus}
+use Rattle.std.specs.Prelude.{ℕ, Bool, ◌==◌, nat_lt, nat_le, ◌&&◌, ◌||◌, if◌then◌else◌, List, [], ◌∷◌, codes, length, slice_index}
+use Rattle.std.specs.Prelude.{drop, Option, None, Some, is_some}
+use Rattle.std.specs.List.{list_any}
+use Rattle.std.specs.{Option.option_and_then, Option.option_map, Str.all_ascii_digits, Str.bytes_eq, Str.Parse.digits_value, Str.Parse.without_leading_plus}
 use Rattle.qh_model.specs.declared.limits.TheConstants.{WORKER_LIMIT}
 use Rattle.qh_read.specs.declared.faces.reading.{Reading.Reading, Layout.TheVariants.Off, Layout.TheVariants.Counted, Layout.TheVariants.Lines}
 use Rattle.qh_read.specs.declared.faces.reading.Turn.TheVariants.{Counterclockwise, Clockwise}

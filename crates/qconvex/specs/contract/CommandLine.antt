@@ -3,7 +3,8 @@
 use Rattle.std.specs.Prelude.{ℕ, ◌≡◌, ◌≢◌, ◌⊎◌, pos, false, List, [], ◌∷◌, Option, None, Some, codes, map, string_bytes}
 use Rattle.std.specs.Str.Parse.{IsNumeral, digits_value, without_leading_plus}
 use Rattle.clap.specs.Words.{App, Kinds, Rule, Text, new_app, new_rule, with_rule, all_of, matches_of, one_of, takes, fault_of, IsAmong}
-use Rattle.clap.specs.declared.builder.{action.ArgAction.TheVariants.Set, action.ArgAction.TheVariants.Append, action.ArgAction.TheVariants.Version, value_parser.ValueParser.ValueParser}
+use Rattle.clap.specs.declared.builder.{action.ArgAction.TheVariants.Set, action.ArgAction.TheVariants.Append, action.ArgAction.TheVariants.Version}
+use Rattle.clap.specs.declared.builder.value_parser.ValueParser.{ValueParser}
 use Rattle.clap.specs.declared.builder.value_parser.ValueParser.TheVariants.{Signed, Names}
 use Rattle.clap.specs.declared.error.kind.ErrorKind.{ErrorKind, TheVariants.DisplayHelp, TheVariants.DisplayVersion}
 use Rattle.qh_model.specs.declared.{form.Form.Form, limits.TheConstants.WORKER_LIMIT}
