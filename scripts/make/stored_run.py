@@ -14,6 +14,7 @@ status is 1 if a file differs.
 import argparse
 import random
 import sys
+import textwrap
 from pathlib import Path
 
 sys.path.insert(0, str(Path(__file__).resolve().parents[1]))
@@ -59,11 +60,13 @@ def point_file(points):
 
 
 def test_file(text):
-    """The point file as a constant of the tests."""
-    text = text.replace("\t", "\\t")
+    """The point file as a constant of the tests, with several of its lines in one."""
+    lines = (line.replace("\t", "\\t").replace(" ", "\xa0") + "\\n" for line in text.splitlines())
+    rows = textwrap.wrap(" ".join(lines), 130, break_on_hyphens=False)
+    wrapped = "\\\n    ".join(row.replace(" ", "").replace("\xa0", " ") for row in rows)
     return (
         "//! The points of the stored run, as `scripts/make/stored_run.py` writes them.\n\n"
-        f'pub const STORED: &str = "{text}";\n'
+        f'pub const STORED: &str = "\\\n    {wrapped}";\n'
     )
 
 

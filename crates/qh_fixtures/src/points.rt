@@ -16,25 +16,20 @@ pub fn point(x: i32, y: i32, z: i32) -> Point {
     )
 }
 
+/// The points with these coordinates, as `points_at![0 0 0, -1 2 0]`.
+#[macro_export]
+macro_rules! points_at {
+    ($($x:literal $y:literal $z:literal),*) => { [$($crate::points::point($x, $y, $z)),*] };
+}
+
 /// Returns the corners of a square, and its centre.
 pub fn square() -> [Point; 5] {
-    [
-        Point::new(0, 0, 0),
-        Point::new(2, 0, 0),
-        Point::new(2, 2, 0),
-        Point::new(0, 2, 0),
-        Point::new(1, 1, 0),
-    ]
+    points_at![0 0 0, 2 0 0, 2 2 0, 0 2 0, 1 1 0]
 }
 
 /// Returns the origin and its neighbours along x, y and z.
 pub fn tetrahedron() -> [Point; 4] {
-    [
-        Point::new(0, 0, 0),
-        Point::new(1, 0, 0),
-        Point::new(0, 1, 0),
-        Point::new(0, 0, 1),
-    ]
+    points_at![0 0 0, 1 0 0, 0 1 0, 0 0 1]
 }
 
 /// Returns the corners of a cube along the axes, in rising order of their coordinates.
@@ -56,25 +51,9 @@ pub fn cube(low: i32, high: i32) -> [Point; 8]
 
 /// Returns the corners of a regular octahedron and the middles of its edges.
 pub fn octahedron() -> [Point; 18] {
-    [
-        Point::new(2, 0, 0),
-        Point::new(1, 1, 0),
-        Point::new(0, 2, 0),
-        Point::new(-2, 0, 0),
-        Point::new(-1, -1, 0),
-        Point::new(0, -2, 0),
-        Point::new(0, 0, 2),
-        Point::new(1, 0, 1),
-        Point::new(0, 1, 1),
-        Point::new(0, 0, -2),
-        Point::new(-1, 0, -1),
-        Point::new(0, -1, -1),
-        Point::new(1, -1, 0),
-        Point::new(-1, 1, 0),
-        Point::new(-1, 0, 1),
-        Point::new(1, 0, -1),
-        Point::new(0, -1, 1),
-        Point::new(0, 1, -1),
+    points_at![
+        2 0 0, 1 1 0, 0 2 0, -2 0 0, -1 -1 0, 0 -2 0, 0 0 2, 1 0 1, 0 1 1,
+        0 0 -2, -1 0 -1, 0 -1 -1, 1 -1 0, -1 1 0, -1 0 1, 1 0 -1, 0 -1 1, 0 1 -1
     ]
 }
 
@@ -108,6 +87,40 @@ pub fn doubled_cube(alloc: Global) -> Result<Vec<Point>, AllocError> {
     for corner in cube(0, 1) {
         pts.push(corner)?;
         pts.push(corner)?;
+    }
+    Ok(pts)
+}
+
+/// Returns the lattice points of a cuboid with these numbers of points along x, y and z, in rising order.
+///
+/// # Errors
+///
+/// `AllocError` if an allocation fails.
+pub fn grid(alloc: Global, sides: [i32; 3]) -> Result<Vec<Point>, AllocError> {
+    let [width, depth, height] = sides;
+    let mut pts = Vec::new(alloc);
+    for x in 0..width {
+        for y in 0..depth {
+            for z in 0..height {
+                pts.push(point(x, y, z))?;
+            }
+        }
+    }
+    Ok(pts)
+}
+
+/// Returns the points (x, y, x^2 + y^2) with x below `width` and y below `depth`. Each is extreme.
+///
+/// # Errors
+///
+/// `AllocError` if an allocation fails.
+pub fn paraboloid(alloc: Global, width: i32, depth: i32) -> Result<Vec<Point>, AllocError> {
+    let mut pts = Vec::new(alloc);
+    for x in 0..width {
+        for y in 0..depth {
+            let height = x.wrapping_mul(x).wrapping_add(y.wrapping_mul(y));
+            pts.push(point(x, y, height))?;
+        }
     }
     Ok(pts)
 }

@@ -1,12 +1,12 @@
 //! Hulls of few ids by parts, compared with those of one thread.
 use qh_block::hull;
+use qh_fixtures::Host;
 use qh_fixtures::ids::ids_of;
 use qh_fixtures::points::{cube, octahedron, square};
 use qh_model::{Body, Id, Memory, Point};
 use qh_parts::{Parting, Seams, hull_by_parts, hull_in_parts};
 use std::alloc::Global;
 use std::test::Fail;
-use std::thread::Threads;
 
 /// The ids of a set, of which a test uses the first ones.
 const NUMBERS: [u32; 18] = [0, 1, 2, 3, 4, 5, 6, 7, 8, 9, 10, 11, 12, 13, 14, 15, 16, 17];
@@ -49,8 +49,8 @@ const OCTAHEDRON: Told = Told {
 };
 
 /// Returns the properties of the hull of points by `parts` parts; `None` if the attempt fails.
-fn by_parts<R: Threads>(
-    rt: &R,
+fn by_parts(
+    rt: &impl Host,
     alloc: Global,
     pts: &[Point],
     parts: usize,
@@ -64,30 +64,25 @@ fn by_parts<R: Threads>(
 }
 
 #[test]
-fn two_parts_of_a_cube_are_joined(rt: HostRuntime) -> Result<(), Fail> {
-    let found = by_parts(&rt, rt.alloc(), &cube(0, 1), 2, Seams::Always)?;
-    assert!(rt; found == Some(CUBE));
-    Ok(())
-}
-
-#[test]
-fn parts_of_one_id_are_joined(rt: HostRuntime) -> Result<(), Fail> {
-    let found = by_parts(&rt, rt.alloc(), &octahedron(), 16, Seams::Always)?;
-    assert!(rt; found == Some(OCTAHEDRON));
-    Ok(())
-}
-
-#[test]
-fn few_corners_of_parts_have_one_hull(rt: HostRuntime) -> Result<(), Fail> {
-    let found = by_parts(&rt, rt.alloc(), &octahedron(), 3, Seams::WhereTheyPay)?;
-    assert!(rt; found == Some(OCTAHEDRON));
-    Ok(())
-}
-
-#[test]
-fn no_part_of_a_square_is_solid(rt: HostRuntime) -> Result<(), Fail> {
-    let found = by_parts(&rt, rt.alloc(), &square(), 2, Seams::Always)?;
-    assert!(rt; found.is_none());
+fn parts_are_joined_where_they_are_solid(rt: HostRuntime) -> Result<(), Fail> {
+    let (cube, octahedron, square) = (cube(0, 1), octahedron(), square());
+    for (pts, parts, seams, wanted) in [
+        (cube.as_slice(), 2, Seams::Always, Some(CUBE)),
+        // Each part has one or two ids.
+        (octahedron.as_slice(), 16, Seams::Always, Some(OCTAHEDRON)),
+        // The few corners of all parts have one hull.
+        (
+            octahedron.as_slice(),
+            3,
+            Seams::WhereTheyPay,
+            Some(OCTAHEDRON),
+        ),
+        // No part is solid.
+        (square.as_slice(), 2, Seams::Always, None),
+    ] {
+        let found = by_parts(&rt, rt.alloc(), pts, parts, seams)?;
+        assert_eq!(rt; found, wanted, "{parts} parts");
+    }
     Ok(())
 }
 
@@ -97,7 +92,7 @@ fn are_same(ids: &[Id], others: &[Id]) -> bool {
 }
 
 /// Returns true if the faces of points by parts are those of one thread, in the same order.
-fn has_same_faces<R: Threads>(rt: &R, alloc: Global, pts: &[Point]) -> Result<bool, Memory> {
+fn has_same_faces(rt: &impl Host, alloc: Global, pts: &[Point]) -> Result<bool, Memory> {
     let ids = ids_of(alloc, pts, &NUMBERS)?;
     if ids.len() == 0 {
         return Ok(false);

@@ -6,12 +6,11 @@ use qh_block::{extremes, hull};
 use qh_fixtures::faces::are_round;
 use qh_fixtures::ids::are;
 use qh_fixtures::points::{point, square};
+use qh_fixtures::{Host, points_at};
 use qh_model::{Body, Id, Memory, POINT_LIMIT, Point};
 use qh_plane::distinct;
 use std::alloc::Global;
-use std::process::Abort;
 use std::test::Fail;
-use std::thread::Threads;
 
 mod face_order;
 mod looks;
@@ -62,8 +61,8 @@ fn hull_and_extremes(alloc: Global, pts: &[Point], ids: &[Id]) -> Result<(Body, 
 }
 
 /// Returns the hull of the distinct points of a list that is neither empty nor too long, and their extreme ids.
-fn hull_of<R: Threads + Sync>(
-    rt: &R,
+fn hull_of(
+    rt: &impl Host,
     alloc: Global,
     pts: &[Point],
 ) -> Result<Option<(Body, Vec<Id>)>, Memory> {
@@ -79,11 +78,7 @@ fn hull_of<R: Threads + Sync>(
 }
 
 /// Asserts that the hull of the distinct points of a list, and their extreme ids, are those of a row.
-fn assert_hull<R: AllocGlobal + Abort + Threads + Sync>(
-    rt: &R,
-    pts: &[Point],
-    row: &Row,
-) -> Result<(), Fail> {
+fn assert_hull(rt: &impl Host, pts: &[Point], row: &Row) -> Result<(), Fail> {
     let (body, corners) = hull_of(rt, rt.alloc(), pts)?.ok_or("no points")?;
     let holds = is(&body, row) && are(&corners, row.extremes);
     assert!(rt; holds, "{body:?} and {corners:?}");
@@ -106,13 +101,7 @@ fn one_point(rt: HostRuntime) -> Result<(), Fail> {
 
 #[test]
 fn five_in_line(rt: HostRuntime) -> Result<(), Fail> {
-    let pts = [
-        Point::new(1, 1, 1),
-        Point::new(0, 0, 0),
-        Point::new(4, 4, 4),
-        Point::new(2, 2, 2),
-        Point::new(3, 3, 3),
-    ];
+    let pts = points_at![1 1 1, 0 0 0, 4 4 4, 2 2 2, 3 3 3];
     let row = Row {
         dim: 1,
         extremes: &[1, 2],
@@ -155,41 +144,24 @@ const SQUARES: [(Places, Row<'static>); 8] = [
 const FACTORS: [i32; 3] = [1, 262144, 268435456];
 
 /// Asserts the hull of a square, unscaled and scaled.
-fn assert_squares<R: AllocGlobal + Abort + Threads + Sync>(
-    rt: &R,
-    corners: &[Point; 4],
-    row: &Row,
-) -> Result<(), Fail> {
+fn assert_squares(rt: &impl Host, corners: &[Point; 4], row: &Row) -> Result<(), Fail> {
     for factor in FACTORS {
         assert_hull(rt, &corners.map(|corner| times(corner, factor)), row)?;
     }
     Ok(())
 }
 
-/// Asserts the hulls of squares with a corner at the origin.
-fn assert_rows<R: AllocGlobal + Abort + Threads + Sync>(
-    rt: &R,
-    rows: &[(Places, Row)],
-) -> Result<(), Fail> {
-    for (places, row) in rows {
+#[test]
+fn squares(rt: HostRuntime) -> Result<(), Fail> {
+    for (places, row) in SQUARES {
         let [b, c, d] = places.map(|(x, y, z)| point(x, y, z));
-        assert_squares(rt, &[point(0, 0, 0), b, c, d], row)?;
+        assert_squares(&rt, &[point(0, 0, 0), b, c, d], &row)?;
     }
     Ok(())
 }
 
 #[test]
-fn squares(rt: HostRuntime) -> Result<(), Fail> {
-    assert_rows(&rt, &SQUARES)
-}
-
-#[test]
 fn squares_across_the_first_axis(rt: HostRuntime) -> Result<(), Fail> {
-    let corners = [
-        Point::new(5, 0, 0),
-        Point::new(5, 0, 2),
-        Point::new(5, 2, 2),
-        Point::new(5, 2, 0),
-    ];
+    let corners = points_at![5 0 0, 5 0 2, 5 2 2, 5 2 0];
     assert_squares(&rt, &corners, &TURNED_SQUARE)
 }

@@ -2,11 +2,11 @@
 ghost use Rattle.std.specs.Prelude.{◌≡◌, IfOk, true};
 ghost use Rattle.qh_mesh.specs.contract.Replacement.{AreFacets};
 
+use qh_fixtures::{Host, points_at, table};
 use qh_mesh::{FacetNo, Mesh};
 use qh_model::{Id, Memory, Point};
 use qh_pred::{point_at, vol};
 use std::alloc::{AllocError, Global};
-use std::process::Abort;
 use std::test::Fail;
 
 mod refusals;
@@ -101,8 +101,7 @@ fn live(alloc: Global, mesh: &Mesh) -> Result<Vec<FacetNo>, AllocError> {
     Ok(out)
 }
 
-/// Returns true if the twin of each side of a facet runs in the opposite direction, and the side is the twin of its
-/// twin.
+/// Returns true if the twin of each side of a facet runs in the opposite direction, and has the side as its twin.
 fn has_twins(mesh: &Mesh, f: FacetNo) -> bool {
     for side in 0..3 {
         if f.index() >= mesh.places() || !mesh.is_live(f) {
@@ -139,43 +138,22 @@ fn first_simplex(alloc: Global, pts: &[Point]) -> Result<Mesh, Memory> {
 
 /// Returns seven points, each of which after the fourth is outside the hull of those before it.
 fn seven() -> [Point; 7] {
-    [
-        Point::new(0, 0, 0),
-        Point::new(1, 0, 0),
-        Point::new(0, 1, 0),
-        Point::new(0, 0, 1),
-        Point::new(1, 1, 1),
-        Point::new(3, 1, 1),
-        Point::new(100, 100, 100),
-    ]
+    points_at![0 0 0, 1 0 0, 0 1 0, 0 0 1, 1 1 1, 3 1 1, 100 100 100]
 }
 
-/// A step: its apex, the triangles that it sees, those of its cone, and the numbers of live facets and of places after
-/// it.
+/// A step: its apex, the triangles that it sees, those of its cone, and the live facets and places after it.
 type Row = (u32, &'static [Triangle], &'static [Triangle], usize, usize);
 
 /// The steps from the simplex of the first four of the seven points.
-const ROWS: [Row; 3] = [
-    (4, &[(1, 2, 3)], &[(1, 2, 4), (1, 4, 3), (2, 3, 4)], 6, 6),
-    (
-        5,
-        &[(1, 2, 4), (1, 4, 3)],
-        &[(1, 2, 5), (1, 5, 3), (2, 4, 5), (3, 5, 4)],
-        8,
-        8,
-    ),
-    (
-        6,
-        &[(2, 3, 4), (2, 4, 5), (3, 5, 4)],
-        &[(2, 3, 6), (2, 6, 5), (3, 5, 6)],
-        8,
-        8,
-    ),
+const ROWS: [Row; 3] = table![
+    (4, &[(1, 2, 3)], &[(1, 2, 4), (1, 4, 3), (2, 3, 4)], 6, 6);
+    (5, &[(1, 2, 4), (1, 4, 3)], &[(1, 2, 5), (1, 5, 3), (2, 4, 5), (3, 5, 4)], 8, 8);
+    (6, &[(2, 3, 4), (2, 4, 5), (3, 5, 4)], &[(2, 3, 6), (2, 6, 5), (3, 5, 6)], 8, 8);
 ];
 
 /// Asserts the triangles of a list at the step to an apex, in any order.
-fn assert_triangles<R: AllocGlobal + Abort>(
-    rt: &R,
+fn assert_triangles(
+    rt: &impl Host,
     mesh: &Mesh,
     list: &[FacetNo],
     want: &[Triangle],
@@ -186,10 +164,9 @@ fn assert_triangles<R: AllocGlobal + Abort>(
     Ok(())
 }
 
-/// Asserts the numbers of live facets and of places after the step to an apex, and that each side of a facet has its
-/// twin.
-fn assert_counts<R: AllocGlobal + Abort>(
-    rt: &R,
+/// Asserts the numbers of live facets and of places after a step, and that each side of a facet has its twin.
+fn assert_counts(
+    rt: &impl Host,
     mesh: &Mesh,
     facets: usize,
     places: usize,
@@ -203,12 +180,7 @@ fn assert_counts<R: AllocGlobal + Abort>(
 }
 
 /// Makes a step, asserts that its result is that of its row, and returns its cone.
-fn step<R: AllocGlobal + Abort>(
-    rt: &R,
-    mesh: &mut Mesh,
-    pts: &[Point],
-    row: Row,
-) -> Result<Vec<FacetNo>, Fail> {
+fn step(rt: &impl Host, mesh: &mut Mesh, pts: &[Point], row: Row) -> Result<Vec<FacetNo>, Fail> {
     let (apex, seen, cone, facets, places) = row;
     let visible = seen_by(rt.alloc(), mesh, pts, apex)?;
     assert_triangles(rt, mesh, &visible, seen, apex)?;
@@ -219,12 +191,7 @@ fn step<R: AllocGlobal + Abort>(
 }
 
 /// Asserts the triangles of all live facets after the step to an apex, in any order.
-fn assert_live<R: AllocGlobal + Abort>(
-    rt: &R,
-    mesh: &Mesh,
-    want: &[Triangle],
-    apex: u32,
-) -> Result<(), Fail> {
+fn assert_live(rt: &impl Host, mesh: &Mesh, want: &[Triangle], apex: u32) -> Result<(), Fail> {
     let all = live(rt.alloc(), mesh)?;
     assert_triangles(rt, mesh, &all, want, apex)
 }
@@ -249,26 +216,15 @@ fn replaces(rt: HostRuntime) -> Result<(), Fail> {
 
 /// Returns the corner of the unit cube, and a point in one plane with three of its points.
 fn five() -> [Point; 5] {
-    [
-        Point::new(0, 0, 0),
-        Point::new(1, 0, 0),
-        Point::new(0, 1, 0),
-        Point::new(0, 0, 1),
-        Point::new(1, 1, 0),
-    ]
+    points_at![0 0 0, 1 0 0, 0 1 0, 0 0 1, 1 1 0]
 }
 
 /// The step to the fifth of the five points.
 const LEVEL_ROW: Row = (4, &[(1, 2, 3)], &[(1, 2, 4), (1, 4, 3), (2, 3, 4)], 6, 6);
 
 /// The triangles after this step.
-const LEVEL_TRIANGLES: [Triangle; 6] = [
-    (0, 1, 3),
-    (0, 2, 1),
-    (0, 3, 2),
-    (1, 2, 4),
-    (1, 4, 3),
-    (2, 3, 4),
+const LEVEL_TRIANGLES: [Triangle; 6] = table![
+    (0, 1, 3); (0, 2, 1); (0, 3, 2); (1, 2, 4); (1, 4, 3); (2, 3, 4);
 ];
 
 #[test]

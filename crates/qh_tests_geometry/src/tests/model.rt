@@ -1,8 +1,8 @@
 //! Rows of cuts.
 
+use qh_fixtures::Host;
 use qh_model::{BLOCK_LIMIT, Cut, CutError, POINT_LIMIT};
 use std::alloc::Global;
-use std::process::Abort;
 
 mod refusals;
 
@@ -17,7 +17,7 @@ fn ends(cut: Result<Cut, CutError>) -> Answer {
 }
 
 /// Asserts the result of a cut. A failure names the row.
-fn assert_cut<R: Abort>(rt: &R, cut: Result<Cut, CutError>, want: Answer, row: &[u32]) {
+fn assert_cut(rt: &impl Host, cut: Result<Cut, CutError>, want: Answer, row: &[u32]) {
     assert_eq!(rt; ends(cut), want, "{row:?}");
 }
 

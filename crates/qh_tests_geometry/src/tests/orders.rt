@@ -1,6 +1,7 @@
 //! Along an axis the points of the curve rise, from the least coordinate to the greatest.
 use qh_fixtures::ids::{are, ids_of};
 use qh_fixtures::points::{LIMIT, point};
+use qh_fixtures::table;
 use qh_model::{Id, Memory, Point};
 use qh_surface::starts::{ends_of, morton_order};
 use std::alloc::Global;
@@ -25,14 +26,9 @@ fn ordered(alloc: Global, pts: &[Point], numbers: &[u32]) -> Result<Vec<Id>, Mem
 }
 
 /// Places on axes. Along the curve, the opposite point comes first, the middle of both second, and the place last.
-const ON_AXES: [(i32, i32, i32); 7] = [
-    (3, 0, 0),
-    (1048576, 0, 0),
-    (0, 1048576, 0),
-    (0, 0, 1048577),
-    (LIMIT, 0, 0),
-    (0, LIMIT, 0),
-    (0, 0, LIMIT),
+const ON_AXES: [(i32, i32, i32); 7] = table![
+    (3, 0, 0); (1048576, 0, 0); (0, 1048576, 0); (0, 0, 1048577); (LIMIT, 0, 0); (0, LIMIT, 0);
+    (0, 0, LIMIT);
 ];
 
 #[test]
@@ -47,13 +43,9 @@ fn ends_are_least_and_greatest(rt: HostRuntime) -> Result<(), Fail> {
 }
 
 /// Points of which several have the least or the greatest coordinate along an axis.
-const WITH_EQUAL_ENDS: [(i32, i32, i32); 6] = [
-    (0, 0, 0),
-    (-LIMIT, 5, 1),
-    (LIMIT, -5, 1),
-    (-LIMIT, LIMIT, -7),
-    (1, -LIMIT, LIMIT),
-    (LIMIT, LIMIT, -LIMIT),
+const WITH_EQUAL_ENDS: [(i32, i32, i32); 6] = table![
+    (0, 0, 0); (-LIMIT, 5, 1); (LIMIT, -5, 1); (-LIMIT, LIMIT, -7); (1, -LIMIT, LIMIT);
+    (LIMIT, LIMIT, -LIMIT);
 ];
 
 #[test]

@@ -1,13 +1,12 @@
 //! Rows of eight points of a square, and of repeated points.
 use qh_fixtures::ids::{are, ids_of};
+use qh_fixtures::{Host, points_at};
 use qh_model::{Id, Memory, POINT_LIMIT, Point, Polygon};
 use qh_plane::{distinct, distinct_alone};
 use qh_polygon::{Shape, polygon, rank};
 use qh_pred::{Normal, cross};
 use std::alloc::Global;
-use std::process::Abort;
 use std::test::Fail;
-use std::thread::Threads;
 
 mod id_marks;
 mod large_polygons;
@@ -15,33 +14,20 @@ mod many_points;
 mod refusals;
 
 /// Asserts that the ids have these numbers.
-fn assert_ids<R: Abort>(rt: &R, ids: &[Id], numbers: &[u32]) {
+fn assert_ids(rt: &impl Host, ids: &[Id], numbers: &[u32]) {
     assert!(rt; are(ids, numbers), "{ids:?} and {numbers:?}");
 }
 
 /// Returns the corners of a square, the middles of its sides but one, and its centre.
 fn square() -> [Point; 8] {
-    [
-        Point::new(0, 0, 0),
-        Point::new(1, 0, 0),
-        Point::new(2, 0, 0),
-        Point::new(2, 1, 0),
-        Point::new(2, 2, 0),
-        Point::new(1, 1, 0),
-        Point::new(0, 2, 0),
-        Point::new(0, 1, 0),
-    ]
+    points_at![0 0 0, 1 0 0, 2 0 0, 2 1 0, 2 2 0, 1 1 0, 0 2 0, 0 1 0]
 }
 
 /// The numbers of all eight points.
 const ALL_EIGHT: [u32; 8] = [0, 1, 2, 3, 4, 5, 6, 7];
 
 /// Returns the distinct ids of points, found by threads, if they are those that the calling thread finds alone.
-fn distinct_ids<R: Threads + Sync>(
-    rt: &R,
-    alloc: Global,
-    pts: &[Point],
-) -> Result<Option<Vec<Id>>, Memory> {
+fn distinct_ids(rt: &impl Host, alloc: Global, pts: &[Point]) -> Result<Option<Vec<Id>>, Memory> {
     if pts.len() > POINT_LIMIT as usize {
         return Ok(None);
     }
@@ -52,14 +38,7 @@ fn distinct_ids<R: Threads + Sync>(
 
 #[test]
 fn repeated_points(rt: HostRuntime) -> Result<(), Fail> {
-    let pts = [
-        Point::new(7, 0, 0),
-        Point::new(1, 0, 0),
-        Point::new(7, 0, 0),
-        Point::new(2, 1, 0),
-        Point::new(1, 0, 0),
-        Point::new(-1, 1, 0),
-    ];
+    let pts = points_at![7 0 0, 1 0 0, 7 0 0, 2 1 0, 1 0 0, -1 1 0];
     for (count, numbers) in [(6, [0, 1, 3, 5].as_slice()), (0, [].as_slice())] {
         let ids = distinct_ids(&rt, rt.alloc(), &pts[..count])?.ok_or("other ids alone")?;
         assert_ids(&rt, &ids, numbers);
@@ -79,8 +58,8 @@ fn polygon_of(
 }
 
 /// Asserts the polygons of some of the points, seen from the side of a normal and from the other side.
-fn assert_polygons<R: AllocGlobal + Abort>(
-    rt: &R,
+fn assert_polygons(
+    rt: &impl Host,
     pts: &[Point],
     numbers: &[u32],
     normal: &Normal,
@@ -108,12 +87,7 @@ fn triangles(rt: HostRuntime) -> Result<(), Fail> {
 }
 
 /// Asserts the shape of some of the points.
-fn assert_shape<R: AllocGlobal + Abort>(
-    rt: &R,
-    pts: &[Point],
-    numbers: &[u32],
-    wanted: Shape,
-) -> Result<(), Fail> {
+fn assert_shape(rt: &impl Host, pts: &[Point], numbers: &[u32], wanted: Shape) -> Result<(), Fail> {
     let ids = ids_of(rt.alloc(), pts, numbers)?;
     if ids.is_empty() {
         return Err("no ids".into());

@@ -2,6 +2,8 @@
 //! across two axes. The contract of each predicate states its value for all points.
 ghost use Rattle.qh_model.specs.headline.Limits.{IsCoordinate};
 
+use qh_fixtures::points::tetrahedron;
+use qh_fixtures::table;
 use qh_model::{COORDINATE_LIMIT, Point};
 use qh_pred::{cross, left, vol};
 use std::cmp::Ordering;
@@ -32,34 +34,20 @@ fn wrapping_tetrahedron(limit: i32) -> [Point; 4]
     ]
 }
 
-/// Returns the corner of the unit cube: the origin, and its neighbours along x, y and z.
-fn unit_corner() -> [Point; 4] {
-    [
-        Point::new(0, 0, 0),
-        Point::new(1, 0, 0),
-        Point::new(0, 1, 0),
-        Point::new(0, 0, 1),
-    ]
-}
-
 /// Returns the volume of four points.
 fn volume([a, b, c, d]: [Point; 4]) -> i128 {
     vol(a, b, c, d)
 }
 
 /// Limits with the volumes at them of the cube and of the tetrahedron.
-const VOLUMES: [(i32, i128, i128); 2] = [
-    (1048576, 9223372036854775808, -18446744073709551616),
-    (
-        LIMIT,
-        9903520314283042199192993792,
-        -19807040628566084398385987584,
-    ),
+const VOLUMES: [(i32, i128, i128); 2] = table![
+    (1048576, 9223372036854775808, -18446744073709551616);
+    (LIMIT, 9903520314283042199192993792, -19807040628566084398385987584);
 ];
 
 #[test]
 fn volumes(rt: HostRuntime) {
-    assert_eq!(rt; volume(unit_corner()), 1i128);
+    assert_eq!(rt; volume(tetrahedron()), 1i128);
     for (limit, cube, wrapping) in VOLUMES {
         let limit = limit.clamp(0, LIMIT);
         let found = (
@@ -72,7 +60,7 @@ fn volumes(rt: HostRuntime) {
 
 #[test]
 fn turns(rt: HostRuntime) {
-    let [o, x, y, z] = unit_corner();
+    let [o, x, y, z] = tetrahedron();
     let down = cross(o, x, y).opposite();
     let across = cross(o, x, z);
     let found = (left(&down, o, x, y), left(&across, o, x, z));

@@ -4,7 +4,7 @@ ghost use Rattle.qh_board.specs.contract.Closings.{closed_setup};
 
 use numbers::Numbers;
 use qh_board::{Closed, Mark};
-use std::process::Abort;
+use qh_fixtures::Host;
 
 mod numbers;
 mod passes;
@@ -50,7 +50,7 @@ type Row = (u32, u32, u64, u64);
 ///
 /// The steps are the events of the passes, each a claim, an arrival or the root's publication, and the end of each
 /// pass.
-fn assert_joined<R: Abort>(rt: &R, closed: Closed<Numbers>, met: usize, row: Row)
+fn assert_joined(rt: &impl Host, closed: Closed<Numbers>, met: usize, row: Row)
     requires { (closed_setup closed).passes ≡ row.1 }
 {
     let (blocks, passes, claims, steps) = row;

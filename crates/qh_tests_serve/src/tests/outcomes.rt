@@ -1,13 +1,13 @@
 //! Calls of `answer` and `serve` with settings given by their parts, and the outcomes as texts, for comparison in
 //! tests.
 
+use qh_fixtures::Host;
 use qh_model::Form;
 use qh_read::MemSource;
 use qh_run::Gate;
 use qh_serve::{Fault, Settings, SettingsError, answer, serve};
 use qh_write::{MemSink, Out};
 use std::alloc::{AllocError, Global};
-use std::thread::Threads;
 
 /// The parts of settings, from which [`Asked::settings`] creates them.
 #[derive(Clone, Copy, Debug)]
@@ -32,32 +32,28 @@ pub const SUMMARY: Asked<'static> = Asked {
 
 /// The parts of [`SUMMARY`], with another output.
 macro_rules! asked_for {
-    ($out:ident) => {
-        Asked {
-            outs: &[Out::$out],
-            ..SUMMARY
-        }
-    };
+    ($($out:ident),*) => { Asked { outs: &[$(Out::$out),*], ..SUMMARY } };
 }
 
-/// The same settings with the rank.
 pub const RANK: Asked<'static> = asked_for!(Rank);
 
-/// The same settings with the extreme points.
 pub const FX: Asked<'static> = asked_for!(Fx);
 
-/// The same settings with the faces as an OFF file.
 pub const OFF: Asked<'static> = asked_for!(Off);
-
-/// The same settings with fans of triangles.
+/// The faces of an OFF file cut into fans of triangles.
 pub const OFFT: Asked<'static> = asked_for!(OffTriangles);
 
 impl Asked<'_> {
+    /// Returns these parts with another number of workers and another size of blocks.
+    pub fn by(self, workers: u32, block: u32) -> Self {
+        Asked {
+            workers,
+            block,
+            ..self
+        }
+    }
+
     /// Returns the settings of these parts.
-    ///
-    /// # Errors
-    ///
-    /// Those of [`Settings::new`].
     pub fn settings(&self, alloc: Global) -> Result<Settings, SettingsError> {
         Settings::new(alloc, self.workers, self.block, self.outs, self.form)
     }
@@ -85,10 +81,6 @@ impl Outcome {
 }
 
 /// Returns the outcome of a fault.
-///
-/// # Errors
-///
-/// `AllocError` if an allocation fails.
 pub fn refusal(alloc: Global, fault: &Fault) -> Result<Outcome, AllocError> {
     Ok(Outcome {
         output: String::new(alloc),
@@ -98,10 +90,6 @@ pub fn refusal(alloc: Global, fault: &Fault) -> Result<Outcome, AllocError> {
 }
 
 /// Returns the outcome of a text; bytes that are not a text are shown as `not text`.
-///
-/// # Errors
-///
-/// `AllocError` if an allocation fails.
 pub fn shown(alloc: Global, bytes: &[u8]) -> Result<Outcome, AllocError> {
     let text = str::from_utf8(bytes).unwrap_or("not text");
     Ok(Outcome {
@@ -130,15 +118,7 @@ impl<'a, G: Gate> Call<'a, G> {
     }
 
     /// Returns the outcome of `answer`.
-    ///
-    /// # Errors
-    ///
-    /// `AllocError` if the outcome itself cannot be allocated.
-    pub fn answered<R: Threads + Sync>(
-        &self,
-        rt: &R,
-        alloc: Global,
-    ) -> Result<Outcome, AllocError> {
+    pub fn answered(&self, rt: &impl Host, alloc: Global) -> Result<Outcome, AllocError> {
         match answer(rt, alloc, self.input, self.settings, self.gate) {
             Ok(text) => shown(alloc, &text),
             Err(fault) => refusal(alloc, &fault),
@@ -146,11 +126,7 @@ impl<'a, G: Gate> Call<'a, G> {
     }
 
     /// Returns the outcome of `serve` with devices in memory.
-    ///
-    /// # Errors
-    ///
-    /// `AllocError` if the outcome itself cannot be allocated.
-    pub fn served<R: Threads + Sync>(&self, rt: &R, alloc: Global) -> Result<Outcome, AllocError> {
+    pub fn served(&self, rt: &impl Host, alloc: Global) -> Result<Outcome, AllocError> {
         let mut source = MemSource::new(self.input);
         let mut sink = MemSink::new(alloc);
         match serve(rt, alloc, &mut source, &mut sink, self.settings, self.gate) {
@@ -161,10 +137,6 @@ impl<'a, G: Gate> Call<'a, G> {
 }
 
 /// Appends a point to the text of a point file, as a line.
-///
-/// # Errors
-///
-/// `AllocError` if an allocation fails.
 pub fn push_point(
     text: &mut String,
     alloc: Global,

@@ -13,10 +13,9 @@ mod rows;
 mod solids;
 
 use crate::tests::outcomes::{Asked, Call, Told};
+use qh_fixtures::Host;
 use qh_run::NoGate;
-use std::process::Abort;
 use std::test::Fail;
-use std::thread::Threads;
 
 /// Returns the beginning of an input, for messages.
 fn beginning(input: &[u8]) -> &str {
@@ -24,12 +23,7 @@ fn beginning(input: &[u8]) -> &str {
 }
 
 /// Asserts the result of `answer` for an input and settings.
-fn assert_answered<R: AllocGlobal + Abort + Threads + Sync>(
-    rt: &R,
-    asked: Asked,
-    input: &[u8],
-    want: Told,
-) -> Result<(), Fail> {
+fn assert_answered(rt: &impl Host, asked: Asked, input: &[u8], want: Told) -> Result<(), Fail> {
     let settings = asked.settings(rt.alloc())?;
     let answered = Call::new(input, &settings, &NoGate).answered(rt, rt.alloc())?;
     let begins = beginning(input);
@@ -38,12 +32,7 @@ fn assert_answered<R: AllocGlobal + Abort + Threads + Sync>(
 }
 
 /// Asserts the results of `answer` and `serve` for an input and settings.
-fn assert_gives<R: AllocGlobal + Abort + Threads + Sync>(
-    rt: &R,
-    asked: Asked,
-    input: &[u8],
-    want: Told,
-) -> Result<(), Fail> {
+fn assert_gives(rt: &impl Host, asked: Asked, input: &[u8], want: Told) -> Result<(), Fail> {
     assert_answered(rt, asked, input, want)?;
     let settings = asked.settings(rt.alloc())?;
     let served = Call::new(input, &settings, &NoGate).served(rt, rt.alloc())?;
@@ -53,34 +42,15 @@ fn assert_gives<R: AllocGlobal + Abort + Threads + Sync>(
 }
 
 /// Asserts the text of each row, which has settings, an input and its text.
-fn assert_rows<R: AllocGlobal + Abort + Threads + Sync>(
-    rt: &R,
-    rows: &[(Asked, &str, &str)],
-) -> Result<(), Fail> {
+fn assert_rows(rt: &impl Host, rows: &[(Asked, &str, &str)]) -> Result<(), Fail> {
     for (asked, input, text) in rows {
         assert_gives(rt, *asked, input.as_bytes(), (text, "", 0))?;
     }
     Ok(())
 }
 
-/// Asserts the text of each row with the same settings; a row has an input and its text.
-fn assert_texts<R: AllocGlobal + Abort + Threads + Sync>(
-    rt: &R,
-    asked: Asked,
-    rows: &[(&str, &str)],
-) -> Result<(), Fail> {
-    for (input, text) in rows {
-        assert_gives(rt, asked, input.as_bytes(), (text, "", 0))?;
-    }
-    Ok(())
-}
-
 /// Asserts that each row with the same settings is refused with status 1; a row has an input and its fault line.
-fn assert_faults<R: AllocGlobal + Abort + Threads + Sync>(
-    rt: &R,
-    asked: Asked,
-    rows: &[(&str, &str)],
-) -> Result<(), Fail> {
+fn assert_faults(rt: &impl Host, asked: Asked, rows: &[(&str, &str)]) -> Result<(), Fail> {
     for (input, fault) in rows {
         assert_gives(rt, asked, input.as_bytes(), ("", fault, 1))?;
     }

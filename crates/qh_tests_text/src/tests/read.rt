@@ -10,10 +10,10 @@ mod rows;
 mod sources;
 mod threads;
 
+use qh_fixtures::{Host, table};
 use qh_model::{Form, Point};
 use qh_read::{FeedFault, ReadFault, Reader};
 use std::alloc::{AllocError, Global};
-use std::process::Abort;
 
 /// The coordinates of a point.
 type Place = (i32, i32, i32);
@@ -22,15 +22,8 @@ type Place = (i32, i32, i32);
 const TETRAHEDRON: [Place; 4] = [(0, 0, 0), (1, 0, 0), (0, 1, 0), (0, 0, 1)];
 
 /// The corners of the cube file.
-const CUBE_CORNERS: [Place; 8] = [
-    (0, 0, 0),
-    (0, 0, 1),
-    (0, 1, 0),
-    (0, 1, 1),
-    (1, 0, 0),
-    (1, 0, 1),
-    (1, 1, 0),
-    (1, 1, 1),
+const CUBE_CORNERS: [Place; 8] = table![
+    (0, 0, 0); (0, 0, 1); (0, 1, 0); (0, 1, 1); (1, 0, 0); (1, 0, 1); (1, 1, 0); (1, 1, 1);
 ];
 
 /// Returns true if the reading returned exactly these points, in this order.
@@ -61,8 +54,8 @@ enum Way {
 }
 
 /// Asserts that a reading returned exactly these points, in this order. A failure names the text and the way.
-fn assert_points<R: Abort>(
-    rt: &R,
+fn assert_points(
+    rt: &impl Host,
     outcome: Result<Vec<Point>, ReadFault>,
     places: &[Place],
     text: &str,
@@ -72,8 +65,8 @@ fn assert_points<R: Abort>(
 }
 
 /// Asserts that a reading returned this fault. A failure names the text and the way.
-fn assert_fault<R: Abort>(
-    rt: &R,
+fn assert_fault(
+    rt: &impl Host,
     outcome: Result<Vec<Point>, ReadFault>,
     fault: ReadFault,
     text: &str,
@@ -108,7 +101,7 @@ fn feed_times(reader: &mut Reader, piece: &[u8], times: u32) -> Result<(), FeedF
 }
 
 /// Asserts that a reader was fed the greatest number of bytes that it accepts.
-fn assert_full<R: Abort>(rt: &R, reader: &mut Reader) {
+fn assert_full(rt: &impl Host, reader: &mut Reader) {
     let answers = (reader.feed(b" "), reader.feed(b""));
     assert_eq!(rt; answers, (Err(FeedFault::Big), Ok(())));
 }

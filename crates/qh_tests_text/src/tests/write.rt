@@ -1,11 +1,12 @@
 //! Texts of small hulls, and the bytes that sinks receive.
 ghost use Rattle.std.specs.Prelude.{◌≡◌, [], ◌∷◌, IfOk};
 
+use qh_fixtures::files::TETRAHEDRON_OFF;
+use qh_fixtures::{Host, table};
 use qh_model::{Body, Hull, Id, Memory, Point, Polygon};
 use qh_write::fakes::{FailSink, SinkPlan};
 use qh_write::{MemSink, Out, SendFault, Sink, StdSink, send, text};
 use std::alloc::Global;
-use std::process::Abort;
 use std::test::Fail;
 
 mod many_points;
@@ -16,59 +17,47 @@ mod writers;
 fn one_point(alloc: Global) -> Result<Hull, Memory>
     ensures { IfOk result (λ h. h.body.extremes ≡ 0 ∷ []) }
 {
-    let extremes = Vec::from_array(alloc, [Id::new(0)])?;
-    let face = Vec::from_array(alloc, [Id::new(0)])?;
+    flat_hull(alloc, &[Id::new(0)], 0, 1, 0)
+}
+
+/// Returns the hull of points with one face, whose corners are all extreme ids.
+fn flat_hull(alloc: Global, ids: &[Id], dim: u8, points: u32, edges: u64) -> Result<Hull, Memory>
+    ensures { IfOk result (λ h. h.body.extremes ≡ ids.now) }
+{
+    let extremes = Vec::from_slice(alloc, ids)?;
     let mut polygons = Vec::new(alloc);
-    polygons.push(Polygon::of(face))?;
+    polygons.push(Polygon::of(Vec::from_slice(alloc, ids)?))?;
     let body = Body {
-        dim: 0,
+        dim,
         extremes,
         polygons,
-        edges: 0,
+        edges,
     };
     Ok(Hull {
-        given: 1,
-        distinct: 1,
+        given: points,
+        distinct: points,
         body,
     })
 }
 
 /// The texts of the hull of the point (5, 5, 5).
-const TEXTS: [(&[Out], &str); 2] = [
-    (
-        &[Out::Rank, Out::Fx, Out::Off, Out::OffTriangles, Out::Rank],
-        "1 1 0\n1\n0\nOFF\n1 1 0\n5 5 5\n1 0\nOFF\n1 1 0\n5 5 5\n1 0\n1 1 0\n",
-    ),
+const TEXTS: [(&[Out], &str); 2] = table![
+    (&[Out::Rank, Out::Fx, Out::Off, Out::OffTriangles, Out::Rank], "1 1 0\n1\n0\nOFF\n1 1 0\n5 5 5\n1 0\nOFF\n1 1 0\n5 5 5\n1 0\n1 1 0\n");
     (
         &[Out::Summary],
         "Convex hull of 1 points in 3-d:\n  dimension: 0\n  distinct points: 1\n  extreme points: 1\n  facets: 1\n  edges: 0\n",
-    ),
+    );
 ];
-
-/// Returns the texts of the hull of the point (5, 5, 5), one after the other.
-fn texts_of_point(alloc: Global, outs: &[Out]) -> Result<Vec<u8>, Memory> {
-    let hull = one_point(alloc)?;
-    text(alloc, &hull, &[Point::new(5, 5, 5)], outs)
-}
-
-/// Asserts the texts of the hull of the point (5, 5, 5).
-fn assert_texts<R: AllocGlobal + Abort>(rt: &R, outs: &[Out], want: &str) -> Result<(), Fail> {
-    let texts = texts_of_point(rt.alloc(), outs)?;
-    assert_eq!(rt; texts.as_slice(), want.as_bytes());
-    Ok(())
-}
 
 #[test]
 fn texts_of_one_point(rt: HostRuntime) -> Result<(), Fail> {
+    let hull = one_point(rt.alloc())?;
     for (outs, want) in TEXTS {
-        assert_texts(&rt, outs, want)?;
+        let texts = text(rt.alloc(), &hull, &[Point::new(5, 5, 5)], outs)?;
+        assert_eq!(rt; texts.as_slice(), want.as_bytes());
     }
     Ok(())
 }
-
-/// The text of `off` of the tetrahedron with three corners on the axes, 66 bytes.
-const TETRAHEDRON: &str =
-    "OFF\n4 4 6\n0 0 0\n1 0 0\n0 1 0\n0 0 1\n3 0 1 3\n3 0 2 1\n3 0 3 2\n3 1 2 3\n";
 
 fn plan(greatest_piece: usize, room: usize) -> SinkPlan {
     SinkPlan {
@@ -81,13 +70,8 @@ fn plan(greatest_piece: usize, room: usize) -> SinkPlan {
 
 /// Asserts the result of sending the tetrahedron to a device that fails according to a plan: `send` returns `want`, the
 /// device received the first `length` bytes, and it failed once if `want` is an error, else never.
-fn assert_sent<R: AllocGlobal + Abort>(
-    rt: &R,
-    plan: SinkPlan,
-    want: Result<(), SendFault>,
-    length: usize,
-) {
-    let bytes = TETRAHEDRON.as_bytes();
+fn assert_sent(rt: &impl Host, plan: SinkPlan, want: Result<(), SendFault>, length: usize) {
+    let bytes = TETRAHEDRON_OFF.as_bytes();
     let mut sink = FailSink::new(rt.alloc(), plan);
     let answer = send(&mut sink, bytes);
     let kept = (sink.bytes().len(), bytes.starts_with(sink.bytes()));
@@ -125,7 +109,7 @@ fn sends_a_beginning(rt: HostRuntime) {
 
 #[test]
 fn sends_to_memory(rt: HostRuntime) {
-    let bytes = TETRAHEDRON.as_bytes();
+    let bytes = TETRAHEDRON_OFF.as_bytes();
     let mut sink = MemSink::new(rt.alloc());
     let answer = send(&mut sink, bytes);
     assert!(rt; answer == Ok(()) && sink.bytes() == bytes, "{answer:?}");
@@ -134,6 +118,6 @@ fn sends_to_memory(rt: HostRuntime) {
 #[test]
 fn sends_to_a_writer(rt: HostRuntime) {
     let mut sink = StdSink::new(Vec::new(rt.alloc()));
-    let answer = send(&mut sink, TETRAHEDRON.as_bytes());
+    let answer = send(&mut sink, TETRAHEDRON_OFF.as_bytes());
     assert_eq!(rt; (answer, sink.failures()), (Ok(()), 0));
 }

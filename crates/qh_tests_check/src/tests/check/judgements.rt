@@ -1,18 +1,13 @@
 //! Worked rows: faces of a tetrahedron, and the judgements on them.
 use qh_check::{Judgement, SurfaceVerdict, judge_faces, judge_faces_alone};
 use qh_fixtures::faces::polygons_of;
+use qh_fixtures::points_at;
 use qh_model::Point;
 use std::test::Fail;
 
 /// Returns the corners of a tetrahedron, one of them twice.
 fn corners() -> [Point; 5] {
-    [
-        Point::new(0, 0, 0),
-        Point::new(1, 0, 0),
-        Point::new(0, 1, 0),
-        Point::new(0, 0, 1),
-        Point::new(1, 0, 0),
-    ]
+    points_at![0 0 0, 1 0 0, 0 1 0, 0 0 1, 1 0 0]
 }
 
 /// The faces of the tetrahedron, one of whose corners is named by both of its indices.

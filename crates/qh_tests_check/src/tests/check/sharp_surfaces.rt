@@ -5,34 +5,17 @@ use qh_check::convex::is_sharp_surface;
 use qh_fixtures::faces::polygons_of;
 use qh_fixtures::ids::ids_of;
 use qh_fixtures::points::cube;
+use qh_fixtures::{faces_of, points_at};
 use qh_model::{Memory, Point};
 use std::alloc::Global;
 use std::test::Fail;
 
 /// The faces of the octahedron, in any order, each from any corner.
-const FACES: [&[u32]; 8] = [
-    &[0, 1, 2],
-    &[1, 3, 2],
-    &[2, 3, 4],
-    &[0, 2, 4],
-    &[1, 0, 5],
-    &[5, 3, 1],
-    &[4, 3, 5],
-    &[0, 4, 5],
-];
+const FACES: [&[u32]; 8] = faces_of![0 1 2, 1 3 2, 2 3 4, 0 2 4, 1 0 5, 5 3 1, 4 3 5, 0 4 5];
 
 /// Returns the corners of an octahedron, its middle, and a point below a face.
 fn octahedron() -> [Point; 8] {
-    [
-        Point::new(9, 0, 0),
-        Point::new(0, 9, 0),
-        Point::new(0, 0, 9),
-        Point::new(-9, 0, 0),
-        Point::new(0, -9, 0),
-        Point::new(0, 0, -9),
-        Point::new(0, 0, 0),
-        Point::new(2, 2, 2),
-    ]
+    points_at![9 0 0, 0 9 0, 0 0 9, -9 0 0, 0 -9 0, 0 0 -9, 0 0 0, 2 2 2]
 }
 
 /// Returns true if faces of eight points are verified to be a surface with an angle at each edge.

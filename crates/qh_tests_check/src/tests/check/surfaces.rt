@@ -4,36 +4,18 @@ use qh_check::{Claim, FaceFault, SurfaceVerdict, check_surface};
 use qh_fixtures::faces::{CUBE_FACES, polygons_of};
 use qh_fixtures::ids::ids_of;
 use qh_fixtures::points::cube;
+use qh_fixtures::{Host, faces_of};
 use qh_model::{Id, Memory};
 use std::alloc::Global;
-use std::process::Abort;
 use std::test::Fail;
 
 /// The twelve triangles of a cube, as Qhull writes them, in reverse orientation.
-pub const TRIANGLES: [&[u32]; 12] = [
-    &[0, 2, 6],
-    &[0, 6, 4],
-    &[0, 4, 5],
-    &[0, 5, 1],
-    &[4, 6, 5],
-    &[7, 5, 6],
-    &[0, 3, 2],
-    &[0, 1, 3],
-    &[2, 3, 6],
-    &[7, 6, 3],
-    &[1, 5, 3],
-    &[7, 3, 5],
+pub const TRIANGLES: [&[u32]; 12] = faces_of![
+    0 2 6, 0 6 4, 0 4 5, 0 5 1, 4 6 5, 7 5 6, 0 3 2, 0 1 3, 2 3 6, 7 6 3, 1 5 3, 7 3 5
 ];
 
 /// The faces of a cube in any order, each from any corner.
-const TURNED_FACES: [&[u32]; 6] = [
-    &[6, 7, 5, 4],
-    &[3, 2, 0, 1],
-    &[1, 5, 7, 3],
-    &[4, 0, 2, 6],
-    &[2, 3, 7, 6],
-    &[5, 1, 0, 4],
-];
+const TURNED_FACES: [&[u32]; 6] = faces_of![6 7 5 4, 3 2 0 1, 1 5 7 3, 4 0 2 6, 2 3 7 6, 5 1 0 4];
 
 /// A triangle of a cube, seen from inside.
 const INWARD: [&[u32]; 1] = [&[0, 6, 2]];
@@ -83,8 +65,8 @@ fn verdict(
 }
 
 /// Asserts the verdict on polygons of some corners of a cube.
-fn assert_told<R: AllocGlobal + Abort>(
-    rt: &R,
+fn assert_told(
+    rt: &impl Host,
     numbers: &[u32],
     faces: &[&[u32]],
     wanted: SurfaceVerdict,
@@ -95,11 +77,7 @@ fn assert_told<R: AllocGlobal + Abort>(
 }
 
 /// Asserts the verdict on polygons of all corners of a cube.
-fn assert_verdict<R: AllocGlobal + Abort>(
-    rt: &R,
-    faces: &[&[u32]],
-    wanted: SurfaceVerdict,
-) -> Result<(), Fail> {
+fn assert_verdict(rt: &impl Host, faces: &[&[u32]], wanted: SurfaceVerdict) -> Result<(), Fail> {
     assert_told(rt, &EIGHT, faces, wanted)
 }
 
@@ -118,19 +96,11 @@ fn first_is_no_piece(fault: FaceFault) -> SurfaceVerdict {
 #[test]
 fn polygons_that_are_no_pieces(rt: HostRuntime) -> Result<(), Fail> {
     assert_verdict(&rt, &INWARD, first_is_no_piece(FaceFault::Above(any())))?;
-    assert_verdict(
-        &rt,
-        &BACK_TO_A_CORNER,
-        first_is_no_piece(FaceFault::OtherFace),
-    )?;
+    let back = first_is_no_piece(FaceFault::OtherFace);
+    assert_verdict(&rt, &BACK_TO_A_CORNER, back)?;
     assert_verdict(&rt, &EDGE, first_is_no_piece(FaceFault::NoPlane))?;
-    let few = [0, 1, 2, 4, 5, 6, 7];
-    assert_told(
-        &rt,
-        &few,
-        &CUBE_FACES[..1],
-        first_is_no_piece(FaceFault::NoPlane),
-    )
+    let (few, no_plane) = ([0, 1, 2, 4, 5, 6, 7], first_is_no_piece(FaceFault::NoPlane));
+    assert_told(&rt, &few, &CUBE_FACES[..1], no_plane)
 }
 
 #[test]
@@ -161,19 +131,9 @@ fn a_square_has_one_polygon(rt: HostRuntime) -> Result<(), Fail> {
 }
 
 /// The faces of a cube, each given twice.
-const EACH_TWICE: [&[u32]; 12] = [
-    &[0, 1, 3, 2],
-    &[0, 1, 3, 2],
-    &[0, 2, 6, 4],
-    &[0, 2, 6, 4],
-    &[0, 4, 5, 1],
-    &[0, 4, 5, 1],
-    &[1, 5, 7, 3],
-    &[1, 5, 7, 3],
-    &[2, 3, 7, 6],
-    &[2, 3, 7, 6],
-    &[4, 6, 7, 5],
-    &[4, 6, 7, 5],
+const EACH_TWICE: [&[u32]; 12] = faces_of![
+    0 1 3 2, 0 1 3 2, 0 2 6 4, 0 2 6 4, 0 4 5 1, 0 4 5 1, 1 5 7 3, 1 5 7 3, 2 3 7 6, 2 3 7 6,
+    4 6 7 5, 4 6 7 5
 ];
 
 #[test]

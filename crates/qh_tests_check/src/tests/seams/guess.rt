@@ -12,8 +12,7 @@ use qh_polygon::rising_ids;
 use std::alloc::{AllocError, Global};
 use std::test::Fail;
 
-/// The results for the first part: the number of its facets that stay, the number of corners of the other part with
-/// witnesses, the number of corners beside the gap, and true if the seam pays.
+/// The results for the first part: facets that stay, corners with witnesses, corners at the gap, and if a seam pays.
 #[derive(Clone, Copy, Debug, PartialEq, Eq, Drop)]
 struct Found {
     staying: usize,
@@ -76,8 +75,7 @@ fn numbers(alloc: Global, polygons: &[Polygon]) -> Result<Vec<u32>, AllocError> 
     Ok(numbers)
 }
 
-/// Returns the numbers of the corners of the polygons that close the gap if some faces of the cube are removed, and
-/// others stay.
+/// Returns the numbers of the corners of the polygons that close the gap that some faces of the cube leave.
 fn bridged(alloc: Global, go: &[&[u32]]) -> Result<Option<Vec<u32>>, Memory> {
     let pts = cube(0, 1);
     let seam = ids_of(alloc, &pts, &ALL)?;

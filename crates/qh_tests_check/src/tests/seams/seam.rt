@@ -6,6 +6,7 @@ ghost use Rattle.qh_surface.specs.contract.NamedMeshes.{IsNamedMesh};
 use super::{ALL, Halves, halves_of};
 use qh_block::PartedFaces;
 use qh_bodies::UnsortedFaces;
+use qh_fixtures::Host;
 use qh_fixtures::faces::{CUBE_FACES, are_round, polygons_of};
 use qh_fixtures::ids::ids_of;
 use qh_fixtures::points::cube;
@@ -18,7 +19,6 @@ use qh_pred::{point_at, vol};
 use qh_surface::NamedMesh;
 use std::alloc::{AllocError, Global};
 use std::test::Fail;
-use std::thread::Threads;
 
 /// The facets that are marked to stay.
 #[derive(Clone, Copy, Drop)]
@@ -99,8 +99,7 @@ fn runs_of(
     Ok(runs)
 }
 
-/// Returns the faces of the first part, separated into those that it contributes and the others, if the facets in the
-/// plane x = 0 are marked, or if all are.
+/// Returns the faces of the first part, separated into those that it contributes and the others, by a marking.
 fn first_faces(alloc: Global, marking: Marking) -> Result<Option<PartedFaces>, Memory> {
     let pts = cube(0, 1);
     let Some(halves) = halves_of(alloc, &pts)? else {
@@ -167,10 +166,9 @@ fn all_corners_of_the_cube_are_kept(rt: HostRuntime) -> Result<(), Fail> {
     Ok(())
 }
 
-/// Returns the hull of the cube from faces that its parts contribute and other polygons in place of the removed ones;
-/// `None` if these do not form the hull.
-fn cube_with<R: Threads>(
-    rt: &R,
+/// Returns the hull of the cube from faces of its parts and other polygons; `None` if these do not form the hull.
+fn cube_with(
+    rt: &impl Host,
     alloc: Global,
     given: &[&[u32]],
     gone: &[&[u32]],
@@ -195,13 +193,8 @@ fn cube_with<R: Threads>(
 
 #[test]
 fn six_faces_are_joined_to_a_cube(rt: HostRuntime) -> Result<(), Fail> {
-    let found = cube_with(
-        &rt,
-        rt.alloc(),
-        &CUBE_FACES[..1],
-        &CUBE_FACES[1..],
-        &CUBE_FACES[1..],
-    )?;
+    let (first, others) = (&CUBE_FACES[..1], &CUBE_FACES[1..]);
+    let found = cube_with(&rt, rt.alloc(), first, others, others)?;
     let told = match found {
         Some(body) => body.dim == 3 && body.extremes.len() == 8 && body.edges == 12,
         None => false,
@@ -212,13 +205,8 @@ fn six_faces_are_joined_to_a_cube(rt: HostRuntime) -> Result<(), Fail> {
 
 #[test]
 fn a_gap_is_not_joined(rt: HostRuntime) -> Result<(), Fail> {
-    let open = cube_with(
-        &rt,
-        rt.alloc(),
-        &CUBE_FACES[..1],
-        &CUBE_FACES[1..],
-        &CUBE_FACES[2..],
-    )?;
+    let (first, others) = (&CUBE_FACES[..1], &CUBE_FACES[1..]);
+    let open = cube_with(&rt, rt.alloc(), first, others, &CUBE_FACES[2..])?;
     assert!(rt; open.is_none());
     let none = cube_with(&rt, rt.alloc(), &[], &[], &[])?;
     assert!(rt; none.is_none());

@@ -3,25 +3,16 @@
 use super::{Row, is};
 use qh_block::hull;
 use qh_fixtures::ids::ids_of;
+use qh_fixtures::{faces_of, points_at};
 use qh_model::{Body, Memory, Point};
 use std::alloc::{AllocError, Global};
 use std::test::Fail;
 
 /// Returns the points of the corners.
 fn corners() -> [Point; 12] {
-    [
-        Point::new(0, -1, 1),
-        Point::new(1, 0, -1),
-        Point::new(0, -1, -1),
-        Point::new(-1, 1, 0),
-        Point::new(0, 1, -1),
-        Point::new(1, 0, 1),
-        Point::new(1, 1, 0),
-        Point::new(-1, 0, -1),
-        Point::new(1, -1, 0),
-        Point::new(-1, 0, 1),
-        Point::new(0, 1, 1),
-        Point::new(-1, -1, 0),
+    points_at![
+        0 -1 1, 1 0 -1, 0 -1 -1, -1 1 0, 0 1 -1, 1 0 1, 1 1 0, -1 0 -1, 1 -1 0, -1 0 1, 0 1 1,
+        -1 -1 0
     ]
 }
 
@@ -29,21 +20,10 @@ fn corners() -> [Point; 12] {
 const CUBOCTAHEDRON: Row<'static> = Row {
     dim: 3,
     extremes: &[2, 3, 4, 5, 6, 7, 8, 9, 2097151, 2097152, 2097153, 2097154],
-    faces: &[
-        &[2, 7, 2097153, 2097152],
-        &[2, 2097151, 7],
-        &[2, 2097152, 2097154],
-        &[2, 2097154, 4, 2097151],
-        &[3, 4, 9, 6],
-        &[3, 6, 8],
-        &[3, 8, 7, 2097151],
-        &[3, 2097151, 4],
-        &[4, 2097154, 9],
-        &[5, 6, 9],
-        &[5, 9, 2097154, 2097152],
-        &[5, 2097152, 2097153],
-        &[5, 2097153, 8, 6],
-        &[7, 8, 2097153],
+    faces: &faces_of![
+        2 7 2097153 2097152, 2 2097151 7, 2 2097152 2097154, 2 2097154 4 2097151, 3 4 9 6, 3 6 8,
+        3 8 7 2097151, 3 2097151 4, 4 2097154 9, 5 6 9, 5 9 2097154 2097152, 5 2097152 2097153,
+        5 2097153 8 6, 7 8 2097153
     ],
     edges: 24,
 };

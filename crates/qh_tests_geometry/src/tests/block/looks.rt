@@ -1,34 +1,16 @@
 //! Filters a set of few points and the lattice points of a cube, of which 8 are extreme, and extreme ids
 //! without a filter.
 use qh_block::{cull_interior, extremes_unculled};
+use qh_fixtures::Host;
+use qh_fixtures::points::grid;
 use qh_model::{Id, Memory, POINT_LIMIT, Point};
 use qh_plane::distinct_alone;
-use std::alloc::{AllocError, Global};
+use std::alloc::Global;
 use std::test::Fail;
-use std::thread::Threads;
 
-/// Returns the lattice points of a cube with 3 on each side.
-fn few(alloc: Global) -> Result<Vec<Point>, AllocError> {
-    let mut points = Vec::new(alloc);
-    for number in 0..27 {
-        points.push(Point::new(number / 9, number / 3 % 3, number % 3))?;
-    }
-    Ok(points)
-}
-
-/// Returns the lattice points of a cube with 40 on each side: 64,000.
-fn many(alloc: Global) -> Result<Vec<Point>, AllocError> {
-    let mut points = Vec::new(alloc);
-    for number in 0..64000 {
-        points.push(Point::new(number / 1600, number / 40 % 40, number % 40))?;
-    }
-    Ok(points)
-}
-
-/// Returns the ids that the filter leaves of a list of points, with a number of threads, and the extreme ones among
-/// them.
-fn left_of<R: Threads + Sync>(
-    rt: &R,
+/// Returns the ids that the filter leaves of points, with a number of threads, and the extreme ones.
+fn left_of(
+    rt: &impl Host,
     alloc: Global,
     points: &[Point],
     threads: u32,
@@ -46,8 +28,8 @@ fn left_of<R: Threads + Sync>(
 }
 
 /// Returns true if the filter finds no interior point in few points, of which eight are extreme.
-fn leaves_few<R: Threads + Sync>(rt: &R, alloc: Global) -> Result<bool, Memory> {
-    let points = few(alloc)?;
+fn leaves_few(rt: &impl Host, alloc: Global) -> Result<bool, Memory> {
+    let points = grid(alloc, [3; 3])?;
     let (left, extremes) = left_of(rt, alloc, &points, 4)?;
     Ok(left.is_none() && extremes.len() == 8)
 }
@@ -59,10 +41,9 @@ fn few_points(rt: HostRuntime) -> Result<(), Fail> {
     Ok(())
 }
 
-/// Returns true if the filter leaves less than half of many points, of which eight are extreme, and the same with three
-/// threads and with one.
-fn leaves_less_than_half<R: Threads + Sync>(rt: &R, alloc: Global) -> Result<bool, Memory> {
-    let points = many(alloc)?;
+/// Returns true if the filter leaves less than half of many points with three threads, and the same with one.
+fn leaves_less_than_half(rt: &impl Host, alloc: Global) -> Result<bool, Memory> {
+    let points = grid(alloc, [40; 3])?;
     let (left, extremes) = left_of(rt, alloc, &points, 3)?;
     let (alone, _) = left_of(rt, alloc, &points, 1)?;
     let is_less = match &left {

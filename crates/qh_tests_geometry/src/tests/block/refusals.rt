@@ -5,55 +5,24 @@ use super::surfaces::{is_surface, solid_surface, triangles};
 use super::{Row, SQUARE, hull_of, is};
 use qh_fixtures::ids::are;
 use qh_fixtures::points::{cube, octahedron, square};
-use qh_model::{Body, Id, Memory, Point};
+use qh_fixtures::{Host, again};
+use qh_model::{Memory, Point};
 use std::alloc::{AllocError, Global};
 use std::test::Fail;
-use std::thread::Threads;
-
-/// Returns the hull and the extreme ids. Repeats the call if an allocation failed.
-fn hull_again<R: Threads + Sync>(
-    rt: &R,
-    alloc: Global,
-    pts: &[Point],
-) -> Result<Option<(Body, Vec<Id>)>, Memory> {
-    match hull_of(rt, alloc, pts) {
-        Err(Memory) => hull_of(rt, alloc, pts),
-        found => found,
-    }
-}
 
 /// Returns true if the result is a surface; `None` if the points are flat. Repeats the call if an allocation failed.
-fn has_surface<R: Threads + Sync>(
-    rt: &R,
-    alloc: Global,
-    pts: &[Point],
-) -> Result<Option<bool>, Memory> {
-    let mesh = match solid_surface(rt, alloc, pts) {
-        Err(Memory) => solid_surface(rt, alloc, pts),
-        found => found,
-    };
+fn has_surface(rt: &impl Host, alloc: Global, pts: &[Point]) -> Result<Option<bool>, Memory> {
+    let mesh = again!(solid_surface(rt, alloc, pts), Memory);
     let Some(mesh) = mesh? else {
         return Ok(None);
     };
-    let list = match triangles(alloc, &mesh) {
-        Err(AllocError) => triangles(alloc, &mesh)?,
-        Ok(list) => list,
-    };
-    match is_surface(alloc, pts, &list) {
-        Err(AllocError) => Ok(Some(is_surface(alloc, pts, &list)?)),
-        Ok(holds) => Ok(Some(holds)),
-    }
+    let list = again!(triangles(alloc, &mesh), AllocError)?;
+    Ok(Some(again!(is_surface(alloc, pts, &list), AllocError)?))
 }
 
-/// Returns true if the hull, the extreme ids and the surface of some points are those of a row. Repeats each call if an
-/// allocation failed.
-fn comes_out_right<R: Threads + Sync>(
-    rt: &R,
-    alloc: Global,
-    pts: &[Point],
-    row: &Row,
-) -> Result<bool, Fail> {
-    let (body, corners) = hull_again(rt, alloc, pts)?.ok_or("no points")?;
+/// Returns true if the hull, the extreme ids and the surface are those of a row. Repeats each call that fails.
+fn comes_out_right(rt: &impl Host, alloc: Global, pts: &[Point], row: &Row) -> Result<bool, Fail> {
+    let (body, corners) = again!(hull_of(rt, alloc, pts), Memory)?.ok_or("no points")?;
     let surface = has_surface(rt, alloc, pts)?;
     let wanted = (row.dim == 3).then_some(true);
     Ok(is(&body, row) && are(&corners, row.extremes) && surface == wanted)

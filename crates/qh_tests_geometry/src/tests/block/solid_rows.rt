@@ -2,6 +2,7 @@
 
 use super::{Row, assert_hull};
 use qh_fixtures::faces::CUBE_FACES;
+use qh_fixtures::faces_of;
 use qh_fixtures::points::{LIMIT, cube, doubled_cube, lattice, octahedron, point, tetrahedron};
 use qh_model::Point;
 use std::alloc::{AllocError, Global};
@@ -17,16 +18,7 @@ pub(super) const CUBE: Row<'static> = Row {
 pub(super) const OCTAHEDRON: Row<'static> = Row {
     dim: 3,
     extremes: &[0, 2, 3, 5, 6, 9],
-    faces: &[
-        &[0, 2, 6],
-        &[0, 5, 9],
-        &[0, 6, 5],
-        &[0, 9, 2],
-        &[2, 3, 6],
-        &[2, 9, 3],
-        &[3, 5, 6],
-        &[3, 9, 5],
-    ],
+    faces: &faces_of![0 2 6, 0 5 9, 0 6 5, 0 9 2, 2 3 6, 2 9 3, 3 5 6, 3 9 5],
     edges: 12,
 };
 
@@ -41,14 +33,7 @@ const TETRAHEDRON: Row<'static> = Row {
 const DOUBLED_CUBE: Row<'static> = Row {
     dim: 3,
     extremes: &[0, 2, 4, 6, 8, 10, 12, 14],
-    faces: &[
-        &[0, 2, 6, 4],
-        &[0, 4, 12, 8],
-        &[0, 8, 10, 2],
-        &[2, 10, 14, 6],
-        &[4, 6, 14, 12],
-        &[8, 12, 14, 10],
-    ],
+    faces: &faces_of![0 2 6 4, 0 4 12 8, 0 8 10 2, 2 10 14 6, 4 6 14 12, 8 12 14 10],
     edges: 12,
 };
 
@@ -56,14 +41,7 @@ const DOUBLED_CUBE: Row<'static> = Row {
 const LATTICE: Row<'static> = Row {
     dim: 3,
     extremes: &[0, 2, 6, 8, 18, 20, 24, 26],
-    faces: &[
-        &[0, 2, 8, 6],
-        &[0, 6, 24, 18],
-        &[0, 18, 20, 2],
-        &[2, 20, 26, 8],
-        &[6, 8, 26, 24],
-        &[18, 24, 26, 20],
-    ],
+    faces: &faces_of![0 2 8 6, 0 6 24 18, 0 18 20 2, 2 20 26 8, 6 8 26 24, 18 24 26 20],
     edges: 12,
 };
 
@@ -71,13 +49,9 @@ const LATTICE: Row<'static> = Row {
 const GREATEST_AND_LEAST: Row<'static> = Row {
     dim: 3,
     extremes: &[0, 1, 198, 199, 19800, 19801, 19998, 19999],
-    faces: &[
-        &[0, 1, 19801, 19800],
-        &[0, 198, 199, 1],
-        &[0, 19800, 19998, 198],
-        &[1, 199, 19999, 19801],
-        &[198, 19998, 19999, 199],
-        &[19800, 19801, 19999, 19998],
+    faces: &faces_of![
+        0 1 19801 19800, 0 198 199 1, 0 19800 19998 198, 1 199 19999 19801, 198 19998 19999 199,
+        19800 19801 19999 19998
     ],
     edges: 12,
 };
@@ -85,6 +59,10 @@ const GREATEST_AND_LEAST: Row<'static> = Row {
 #[test]
 fn few_points(rt: HostRuntime) -> Result<(), Fail> {
     let (tetrahedron, octahedron) = (tetrahedron(), octahedron());
+    let (doubled, lattice) = (
+        doubled_cube(rt.alloc())?,
+        lattice(rt.alloc(), &[0, 1, 2], 1)?,
+    );
     let (unit, wide, widest) = (cube(0, 1), cube(-1048576, 1048576), cube(-LIMIT, LIMIT));
     for (pts, row) in [
         (tetrahedron.as_slice(), &TETRAHEDRON),
@@ -92,6 +70,8 @@ fn few_points(rt: HostRuntime) -> Result<(), Fail> {
         (wide.as_slice(), &CUBE),
         (widest.as_slice(), &CUBE),
         (octahedron.as_slice(), &OCTAHEDRON),
+        (doubled.as_slice(), &DOUBLED_CUBE),
+        (lattice.as_slice(), &LATTICE),
     ] {
         assert_hull(&rt, pts, row)?;
     }
@@ -117,14 +97,4 @@ fn points_at_the_greatest_and_least_coordinate(rt: HostRuntime) -> Result<(), Fa
         assert_hull(&rt, &pts, &GREATEST_AND_LEAST)?;
     }
     Ok(())
-}
-
-#[test]
-fn corners_given_twice(rt: HostRuntime) -> Result<(), Fail> {
-    assert_hull(&rt, &doubled_cube(rt.alloc())?, &DOUBLED_CUBE)
-}
-
-#[test]
-fn lattice_of_27(rt: HostRuntime) -> Result<(), Fail> {
-    assert_hull(&rt, &lattice(rt.alloc(), &[0, 1, 2], 1)?, &LATTICE)
 }

@@ -3,31 +3,18 @@
 ghost use Rattle.qh_model.specs.contract.IdSets.{IsIdSet, AreIndices};
 
 use qh_block::surface;
-use qh_fixtures::points::{LIMIT, lattice, octahedron, point, tetrahedron};
+use qh_fixtures::Host;
+use qh_fixtures::points::{LIMIT, lattice, octahedron, paraboloid, tetrahedron};
 use qh_mesh::Mesh;
 use qh_model::{Id, Memory, POINT_LIMIT, Point};
 use qh_plane::distinct;
 use qh_polygon::{Shape, rank};
 use qh_pred::Plane;
 use std::alloc::{AllocError, Global};
-use std::process::Abort;
 use std::test::Fail;
-use std::thread::Threads;
 
 /// The corners of a triangle, counterclockwise seen from outside.
 type Triangle = (u32, u32, u32);
-
-/// Returns the points (x, y, x^2 + y^2) with x below 50 and y below 40. Each is extreme.
-fn paraboloid(alloc: Global) -> Result<Vec<Point>, AllocError> {
-    let mut pts = Vec::new(alloc);
-    for x in 0..50i32 {
-        for y in 0..40i32 {
-            let z = x.wrapping_mul(x).wrapping_add(y.wrapping_mul(y));
-            pts.push(point(x, y, z))?;
-        }
-    }
-    Ok(pts)
-}
 
 /// Returns the surface of a set, if it is solid.
 fn surface_of_set(alloc: Global, pts: &[Point], ids: &[Id]) -> Result<Option<Mesh>, Memory>
@@ -44,11 +31,7 @@ fn surface_of_set(alloc: Global, pts: &[Point], ids: &[Id]) -> Result<Option<Mes
 }
 
 /// Returns the surface of the distinct points of a list, if they are solid.
-pub fn solid_surface<R: Threads + Sync>(
-    rt: &R,
-    alloc: Global,
-    pts: &[Point],
-) -> Result<Option<Mesh>, Memory> {
+pub fn solid_surface(rt: &impl Host, alloc: Global, pts: &[Point]) -> Result<Option<Mesh>, Memory> {
     if pts.len() > POINT_LIMIT as usize {
         return Ok(None);
     }
@@ -134,10 +117,7 @@ fn told(alloc: Global, pts: &[Point], mesh: &Mesh) -> Result<(bool, usize, usize
 }
 
 /// Returns the numbers of triangles and of corners of the surface of a solid set, and asserts that it is a surface.
-fn counts_of<R: AllocGlobal + Abort + Threads + Sync>(
-    rt: &R,
-    pts: &[Point],
-) -> Result<(usize, usize), Fail> {
+fn counts_of(rt: &impl Host, pts: &[Point]) -> Result<(usize, usize), Fail> {
     let mesh = solid_surface(rt, rt.alloc(), pts)?.ok_or("a flat set")?;
     let (is_sound, triangles, corners) = told(rt.alloc(), pts, &mesh)?;
     assert!(rt; is_sound, "{triangles} triangles, {corners} corners");
@@ -151,29 +131,22 @@ fn corner_tetrahedron(rt: HostRuntime) -> Result<(), Fail> {
     Ok(())
 }
 
-/// Asserts the numbers of triangles and corners of the surface of a cube, each corner of which is given several times.
-fn assert_cube<R: AllocGlobal + Abort + Threads + Sync>(
-    rt: &R,
-    low: i32,
-    high: i32,
-    times: usize,
-) -> Result<(), Fail> {
-    let pts = lattice(rt.alloc(), &[low, high], times)?;
-    let counts = counts_of(rt, &pts)?;
-    assert_eq!(rt;
-        counts,
-        (12, 8),
-        "{times} times a cube from {low} to {high}"
-    );
-    Ok(())
-}
-
 #[test]
 fn cubes(rt: HostRuntime) -> Result<(), Fail> {
-    assert_cube(&rt, 0, 1, 1)?;
-    assert_cube(&rt, 0, 1, 2)?;
-    assert_cube(&rt, -1048576, 1048576, 1)?;
-    assert_cube(&rt, -LIMIT, LIMIT, 1)
+    for (low, high, times) in [
+        (0, 1, 1),
+        (0, 1, 2),
+        (-1048576, 1048576, 1),
+        (-LIMIT, LIMIT, 1),
+    ] {
+        let counts = counts_of(&rt, &lattice(rt.alloc(), &[low, high], times)?)?;
+        assert_eq!(rt;
+            counts,
+            (12, 8),
+            "{times} times a cube from {low} to {high}"
+        );
+    }
+    Ok(())
 }
 
 #[test]
@@ -187,7 +160,7 @@ fn points_within_faces(rt: HostRuntime) -> Result<(), Fail> {
 
 #[test]
 fn points_of_a_paraboloid(rt: HostRuntime) -> Result<(), Fail> {
-    let (_, corners) = counts_of(&rt, &paraboloid(rt.alloc())?)?;
+    let (_, corners) = counts_of(&rt, &paraboloid(rt.alloc(), 50, 40)?)?;
     assert_eq!(rt; corners, 2000);
     Ok(())
 }

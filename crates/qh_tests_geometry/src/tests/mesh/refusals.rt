@@ -1,6 +1,7 @@
 //! The steps of the seven points, where one allocation fails. Each call that fails leaves the mesh unchanged, and is
 //! repeated. `scripts/trials/refusals.py` makes each allocation fail in turn.
 use super::{ROWS, Triangle, first_simplex, has_twins, seen_by, seven, triangle};
+use qh_fixtures::again;
 use qh_mesh::{EdgeNo, FacetNo, Mesh};
 use qh_model::{Id, Memory};
 use std::alloc::{AllocError, Global};
@@ -39,20 +40,13 @@ fn are(mesh: &Mesh, list: &[FacetNo], want: &[Triangle]) -> bool {
         && list.iter().all(|f| has_twins(mesh, *f))
 }
 
-/// Makes the steps, repeats each call that fails, and returns true if each step gives its row and each failure leaves
-/// the mesh unchanged.
+/// Returns true if each step, repeated if it fails, gives its row, and each failure leaves the mesh unchanged.
 fn steps(alloc: Global) -> Result<bool, Fail> {
     let pts = seven();
-    let mut mesh = match first_simplex(alloc, &pts) {
-        Ok(mesh) => mesh,
-        Err(Memory) => first_simplex(alloc, &pts)?,
-    };
+    let mut mesh = again!(first_simplex(alloc, &pts), Memory)?;
     let mut right = mesh.places() == 4;
     for (apex, _, cone, _, count) in ROWS {
-        let visible = match seen_by(alloc, &mesh, &pts, apex) {
-            Ok(visible) => visible,
-            Err(AllocError) => seen_by(alloc, &mesh, &pts, apex)?,
-        };
+        let visible = again!(seen_by(alloc, &mesh, &pts, apex), AllocError)?;
         let before = places(&mesh);
         let made = match mesh.replace(alloc, &pts, visible.as_slice(), Id::new(apex)) {
             Ok(made) => made,

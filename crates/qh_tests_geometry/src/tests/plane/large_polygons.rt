@@ -1,10 +1,10 @@
 //! A large grid in planes across each axis and in a slanted one: its inner points are dropped before the sort.
+use qh_fixtures::Host;
 use qh_model::{Memory, Point, Polygon};
 use qh_plane::distinct_alone;
 use qh_polygon::{outer_ids, polygon};
 use qh_pred::{Normal, cross};
 use std::alloc::Global;
-use std::process::Abort;
 use std::test::Fail;
 
 /// A grid with 70 points on each side.
@@ -51,11 +51,7 @@ pub fn polygon_of(alloc: Global, grid: &Grid, normal: &Normal) -> Result<Polygon
 }
 
 /// Asserts that the interior filter, seen from a side, leaves few ids of a grid.
-fn assert_few_left<R: AllocGlobal + Abort>(
-    rt: &R,
-    grid: &Grid,
-    normal: &Normal,
-) -> Result<(), Fail> {
+fn assert_few_left(rt: &impl Host, grid: &Grid, normal: &Normal) -> Result<(), Fail> {
     let left = left_of(rt.alloc(), grid, normal)?;
     assert!(rt; left < 1000, "{left}");
     Ok(())

@@ -1,10 +1,9 @@
 //! Lists that are long enough for threads, with and without repeated points.
+use qh_fixtures::Host;
 use qh_model::{Id, Memory, POINT_LIMIT, Point};
 use qh_plane::{distinct, distinct_alone, distinct_in_threads};
 use std::alloc::{AllocError, Global};
-use std::process::Abort;
 use std::test::Fail;
-use std::thread::Threads;
 
 /// The number of places. They differ in x, and lie neither close together nor in order.
 const PLACES: usize = 100_000;
@@ -40,8 +39,8 @@ fn grid(alloc: Global, count: usize) -> Result<Vec<Point>, AllocError> {
 }
 
 /// Returns the distinct ids with at most `threads` threads, or `None` if there are more than `POINT_LIMIT` points.
-fn ids_in_threads<R: Threads + Sync>(
-    rt: &R,
+fn ids_in_threads(
+    rt: &impl Host,
     alloc: Global,
     pts: &[Point],
     threads: u32,
@@ -52,10 +51,9 @@ fn ids_in_threads<R: Threads + Sync>(
     Ok(Some(distinct_in_threads(rt, alloc, pts, threads)?))
 }
 
-/// Returns the distinct ids with all processors and with the calling thread alone, or `None` if there are more than
-/// `POINT_LIMIT` points.
-fn ids_otherwise<R: Threads + Sync>(
-    rt: &R,
+/// Returns the distinct ids with all processors and with one; `None` if there are more than `POINT_LIMIT` points.
+fn ids_otherwise(
+    rt: &impl Host,
     alloc: Global,
     pts: &[Point],
 ) -> Result<Option<[Vec<Id>; 2]>, Memory> {
@@ -66,7 +64,7 @@ fn ids_otherwise<R: Threads + Sync>(
 }
 
 /// Asserts that the ids are those of the first points, one for each of `places` places.
-fn assert_first<R: Abort>(rt: &R, ids: &[Id], places: usize) {
+fn assert_first(rt: &impl Host, ids: &[Id], places: usize) {
     assert_eq!(rt; ids.len(), places);
     for (number, id) in ids.iter().enumerate() {
         assert_eq!(rt; id.index(), number);

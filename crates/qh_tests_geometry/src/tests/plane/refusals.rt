@@ -3,60 +3,27 @@
 use super::large_polygons::{self, grid_with_point_outside, normal_of};
 use super::{assert_ids, polygon_of};
 use qh_fixtures::points::{cube, square};
-use qh_model::{Id, Memory, POINT_LIMIT, Point, Polygon};
+use qh_fixtures::{Host, again, points_at};
+use qh_model::{Id, Memory, POINT_LIMIT, Point};
 use qh_plane::distinct;
 use qh_pred::{Normal, cross};
-use std::alloc::Global;
-use std::process::Abort;
 use std::test::Fail;
-use std::thread::Threads;
 
 /// Returns a side of an octahedron with the middles of its edges, one of them twice.
 fn side() -> [Point; 7] {
-    [
-        Point::new(2, 0, 0),
-        Point::new(1, 1, 0),
-        Point::new(0, 2, 0),
-        Point::new(0, 0, 2),
-        Point::new(1, 1, 0),
-        Point::new(1, 0, 1),
-        Point::new(0, 1, 1),
-    ]
+    points_at![2 0 0, 1 1 0, 0 2 0, 0 0 2, 1 1 0, 1 0 1, 0 1 1]
 }
 
 /// Returns the distinct ids, or `None` if there are too many points. Repeats the call if an allocation failed.
-fn distinct_again<R: AllocGlobal + Threads + Sync>(
-    rt: &R,
-    pts: &[Point],
-) -> Result<Option<Vec<Id>>, Memory> {
+fn distinct_again(rt: &impl Host, pts: &[Point]) -> Result<Option<Vec<Id>>, Memory> {
     if pts.len() > POINT_LIMIT as usize {
         return Ok(None);
     }
-    match distinct(rt, rt.alloc(), pts) {
-        Err(Memory) => Ok(Some(distinct(rt, rt.alloc(), pts)?)),
-        Ok(ids) => Ok(Some(ids)),
-    }
-}
-
-/// Returns the polygon of some of the points. Repeats the call if an allocation failed.
-fn polygon_again(
-    alloc: Global,
-    pts: &[Point],
-    numbers: &[u32],
-    normal: &Normal,
-) -> Result<Polygon, Memory> {
-    match polygon_of(alloc, pts, numbers, normal) {
-        Err(Memory) => polygon_of(alloc, pts, numbers, normal),
-        polygon => polygon,
-    }
+    Ok(Some(again!(distinct(rt, rt.alloc(), pts), Memory)?))
 }
 
 /// Asserts which ids are distinct. Repeats the call if an allocation failed.
-fn assert_distinct<R: AllocGlobal + Abort + Threads + Sync>(
-    rt: &R,
-    pts: &[Point],
-    wanted: &[u32],
-) -> Result<(), Fail> {
+fn assert_distinct(rt: &impl Host, pts: &[Point], wanted: &[u32]) -> Result<(), Fail> {
     let ids = distinct_again(rt, pts)?.ok_or("too many points")?;
     assert_ids(rt, &ids, wanted);
     Ok(())
@@ -70,14 +37,14 @@ fn tries_again_for_distinct_ids(rt: HostRuntime) -> Result<(), Fail> {
 }
 
 /// Asserts the polygon of some of the points. Repeats the call if an allocation failed.
-fn assert_polygon<R: AllocGlobal + Abort>(
-    rt: &R,
+fn assert_polygon(
+    rt: &impl Host,
     pts: &[Point],
     numbers: &[u32],
     normal: &Normal,
     wanted: &[u32],
 ) -> Result<(), Fail> {
-    let corners = polygon_again(rt.alloc(), pts, numbers, normal)?;
+    let corners = again!(polygon_of(rt.alloc(), pts, numbers, normal), Memory)?;
     assert_ids(rt, corners.ids(), wanted);
     Ok(())
 }
@@ -98,10 +65,10 @@ fn tries_again_for_polygons(rt: HostRuntime) -> Result<(), Fail> {
 fn tries_again_for_a_large_polygon(rt: HostRuntime) -> Result<(), Fail> {
     let grid = grid_with_point_outside();
     let normal = normal_of(&grid);
-    let corners = match large_polygons::polygon_of(rt.alloc(), &grid, &normal) {
-        Err(Memory) => large_polygons::polygon_of(rt.alloc(), &grid, &normal)?,
-        Ok(corners) => corners,
-    };
+    let corners = again!(
+        large_polygons::polygon_of(rt.alloc(), &grid, &normal),
+        Memory
+    )?;
     assert_ids(&rt, corners.ids(), &[0, 2450, 69, 4899, 4830]);
     Ok(())
 }

@@ -7,6 +7,7 @@ use super::assert_joined;
 use super::numbers::Numbers;
 use super::passes::{Log, run};
 use qh_board::{BoardError, Closed};
+use qh_fixtures::again;
 use std::alloc::Global;
 use std::test::Fail;
 
@@ -14,10 +15,7 @@ use std::test::Fail;
 fn run_again(alloc: Global, blocks: u32, passes: u32) -> Result<(Closed<Numbers>, Log), BoardError>
     ensures { IfOk result (λ r. (closed_setup r.0).passes ≡ passes) }
 {
-    match run(alloc, blocks, passes) {
-        Err(BoardError::Memory) => run(alloc, blocks, passes),
-        worked => worked,
-    }
+    again!(run(alloc, blocks, passes), BoardError::Memory)
 }
 
 #[test]

@@ -5,43 +5,20 @@ use super::passes::{Join, Met, first_gives_up, leave_at_once, run};
 use super::runs::run_side_by_side;
 use super::{Row, assert_joined, counted_root};
 use qh_board::{Board, BoardError, Mark};
-use std::alloc::{AllocGlobal, Global};
-use std::process::Abort;
+use qh_fixtures::{Host, table};
+use std::alloc::Global;
 use std::test::Fail;
 
 /// The events of the passes of a board of two blocks, and of one of seven, one pass after the other.
-const TWO_BLOCKS: [Met; 6] = [
-    Met::Block(0),
-    Met::Parked,
-    Met::Block(1),
-    Met::Both(1),
-    Met::Root,
-    Met::Over,
+const TWO_BLOCKS: [Met; 6] = table![
+    Met::Block(0); Met::Parked; Met::Block(1); Met::Both(1); Met::Root; Met::Over;
 ];
 
-const SEVEN_BLOCKS: [Met; 22] = [
-    Met::Block(0),
-    Met::Parked,
-    Met::Block(1),
-    Met::Parked,
-    Met::Block(2),
-    Met::Both(4),
-    Met::Parked,
-    Met::Block(3),
-    Met::Parked,
-    Met::Block(4),
-    Met::Both(5),
-    Met::Both(2),
-    Met::Parked,
-    Met::Block(5),
-    Met::Parked,
-    Met::Block(6),
-    Met::Both(6),
-    Met::Both(3),
-    Met::Both(1),
-    Met::Root,
-    Met::Over,
-    Met::Over,
+const SEVEN_BLOCKS: [Met; 22] = table![
+    Met::Block(0); Met::Parked; Met::Block(1); Met::Parked; Met::Block(2); Met::Both(4);
+    Met::Parked; Met::Block(3); Met::Parked; Met::Block(4); Met::Both(5); Met::Both(2);
+    Met::Parked; Met::Block(5); Met::Parked; Met::Block(6); Met::Both(6); Met::Both(3);
+    Met::Both(1); Met::Root; Met::Over; Met::Over;
 ];
 
 /// A node and the lists of its children.
@@ -70,14 +47,8 @@ fn are_joined(joins: &[Join], want: &[Lists]) -> bool {
     joins.len() == want.len()
 }
 
-/// Asserts that a board is joined as in a row, and that its passes have these events and join these lists, one after
-/// the other.
-fn assert_met<R: AllocGlobal + Abort>(
-    rt: &R,
-    row: Row,
-    want: &[Met],
-    joined: &[Lists],
-) -> Result<(), BoardError> {
+/// Asserts that a board is joined as in a row, by these events and these joined lists, one after the other.
+fn assert_met(rt: &impl Host, row: Row, want: &[Met], joined: &[Lists]) -> Result<(), BoardError> {
     let (blocks, passes, _, _) = row;
     let (closed, log) = run(rt.alloc(), blocks, passes)?;
     assert!(rt; log.met.as_slice() == want, "{blocks} blocks");

@@ -6,8 +6,8 @@ use super::numbers::Numbers;
 use super::passes::{Log, Met, work_but};
 use super::{counted, counted_root, passes_left};
 use qh_board::{Board, BoardError, Closed, Left, Pass};
+use qh_fixtures::Host;
 use std::alloc::{AllocError, Global};
-use std::process::Abort;
 use std::test::Fail;
 use std::thread::{Threads, join};
 
@@ -90,8 +90,8 @@ fn work_side_by_side<R: Threads + Sync>(
 }
 
 /// Returns a board whose passes were run to their ends in parallel, and their events.
-pub fn run_side_by_side<R: Threads + Sync>(
-    rt: &R,
+pub fn run_side_by_side(
+    rt: &impl Host,
     alloc: Global,
     blocks: u32,
     passes: u32,
@@ -129,8 +129,8 @@ fn roots_of(met: &[Met]) -> usize {
 
 /// Asserts that no block was got twice. Asserts that, if all blocks were claimed and every pass left, all were got and
 /// one root has them all, and else that there is no root. The passes got the blocks `got` and published `roots` roots.
-fn assert_root<R: Abort>(
-    rt: &R,
+fn assert_root(
+    rt: &impl Host,
     closed: Closed<Numbers>,
     got: &[u32],
     roots: usize,
@@ -153,8 +153,8 @@ fn assert_root<R: Abort>(
 }
 
 /// Makes the assertions of [`assert_root`] for a board whose passes run in parallel.
-fn assert_run<R: Abort + Threads + Sync>(
-    rt: &R,
+fn assert_run(
+    rt: &impl Host,
     alloc: Global,
     blocks: u32,
     passes: u32,

@@ -3,15 +3,14 @@ ghost use Rattle.std.specs.Prelude.{◌<◌};
 
 use crate::tests::outcomes::OFF;
 use qh_fixtures::files::{CUBE, CUBE_OFF, ONE_POINT, TETRAHEDRON, TETRAHEDRON_OFF};
+use qh_fixtures::{Host, table};
 use qh_read::fakes::FailSource;
 use qh_read::{MemSource, ReadFault, Source};
 use qh_run::NoGate;
 use qh_serve::{Fault, serve};
 use qh_write::fakes::{FailSink, SinkPlan};
 use qh_write::{MemSink, Sink};
-use std::process::Abort;
 use std::test::Fail;
-use std::thread::Threads;
 
 /// A plan that never fails.
 const FREE: SinkPlan = SinkPlan {
@@ -25,8 +24,8 @@ const FREE: SinkPlan = SinkPlan {
 type Served<'a> = (Result<(), Fault>, &'a [u8], u64, u64);
 
 /// Asserts the result of `off` of an input with a plan of the source, and a sink that never fails.
-fn assert_read<R: AllocGlobal + Abort + Threads + Sync>(
-    rt: &R,
+fn assert_read(
+    rt: &impl Host,
     input: &[u8],
     piece: usize,
     failing_read: u64,
@@ -44,12 +43,7 @@ fn assert_read<R: AllocGlobal + Abort + Threads + Sync>(
 }
 
 /// Asserts the result of `off` of an input with a plan of the sink.
-fn assert_written<R: AllocGlobal + Abort + Threads + Sync>(
-    rt: &R,
-    input: &[u8],
-    plan: SinkPlan,
-    want: Served,
-) -> Result<(), Fail> {
+fn assert_written(rt: &impl Host, input: &[u8], plan: SinkPlan, want: Served) -> Result<(), Fail> {
     let settings = OFF.settings(rt.alloc())?;
     let mut source = MemSource::new(input);
     let mut sink = FailSink::new(rt.alloc(), plan);
@@ -68,13 +62,8 @@ fn a_failing_source_sends_nothing(rt: HostRuntime) -> Result<(), Fail> {
     for k in 1..54u64 {
         assert_read(&rt, CUBE.as_bytes(), 1, k, UNREAD)?;
     }
-    assert_read(
-        &rt,
-        CUBE.as_bytes(),
-        1,
-        54,
-        (Ok(()), CUBE_OFF.as_bytes(), 0, 0),
-    )?;
+    let all = (Ok(()), CUBE_OFF.as_bytes(), 0, 0);
+    assert_read(&rt, CUBE.as_bytes(), 1, 54, all)?;
     // The first read returns 4 bytes, the second fails.
     assert_read(&rt, TETRAHEDRON.as_bytes(), 4, 2, UNREAD)
 }
@@ -98,25 +87,10 @@ fn a_failing_sink_has_a_beginning(rt: HostRuntime) -> Result<(), Fail> {
 #[test]
 fn the_worked_failures(rt: HostRuntime) -> Result<(), Fail> {
     // An input, a plan of the sink, and the bytes that are sent before it fails.
-    let rows = [
-        (ONE_POINT, SinkPlan { room: 7, ..FREE }, "OFF\n1 1"),
-        (
-            ONE_POINT,
-            SinkPlan {
-                flush_fails: true,
-                ..FREE
-            },
-            "OFF\n1 1 0\n5 5 5\n1 0\n",
-        ),
-        (
-            TETRAHEDRON,
-            SinkPlan {
-                greatest_piece: 1,
-                flush_fails: true,
-                ..FREE
-            },
-            TETRAHEDRON_OFF,
-        ),
+    let rows = table![
+        (ONE_POINT, SinkPlan { room: 7, ..FREE }, "OFF\n1 1");
+        (ONE_POINT, SinkPlan { flush_fails: true, ..FREE }, "OFF\n1 1 0\n5 5 5\n1 0\n");
+        (TETRAHEDRON, SinkPlan { greatest_piece: 1, flush_fails: true, ..FREE }, TETRAHEDRON_OFF);
     ];
     for (input, plan, sent) in rows {
         let want = (Err(Fault::Send), sent.as_bytes(), 0, 1);

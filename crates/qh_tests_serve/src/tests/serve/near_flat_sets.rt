@@ -2,11 +2,10 @@
 //! to 2^20, and with the same faces and coordinates up to 2^30. Their numbers of corners and facets are those that
 //! programs with exact arithmetic find.
 use super::assert_answered;
-use crate::tests::outcomes::{Asked, SUMMARY, push_point};
+use crate::tests::outcomes::{SUMMARY, push_point};
+use qh_fixtures::Host;
 use std::alloc::{AllocError, Global};
-use std::process::Abort;
 use std::test::Fail;
-use std::thread::Threads;
 
 /// Returns the combination i u + j v + k w of three edges of a lattice cell of volume 1 and of sides about m.
 fn combined(m: i64, i: i64, j: i64, k: i64) -> [i64; 3] {
@@ -81,17 +80,8 @@ const BASIS: &str =
     "Convex hull of 123 points in 3-d:\n  dimension: 3\n  distinct points: 123\n  extreme points: 30\n  facets: 56\n  edges: 84\n";
 
 /// Asserts the summary of a set.
-fn assert_summary<R: AllocGlobal + Abort + Threads + Sync>(
-    rt: &R,
-    text: &str,
-    summary: &str,
-) -> Result<(), Fail> {
-    let small_blocks = Asked {
-        workers: 3,
-        block: 5,
-        ..SUMMARY
-    };
-    for asked in [SUMMARY, small_blocks] {
+fn assert_summary(rt: &impl Host, text: &str, summary: &str) -> Result<(), Fail> {
+    for asked in [SUMMARY, SUMMARY.by(3, 5)] {
         assert_answered(rt, asked, text.as_bytes(), (summary, "", 0))?;
     }
     Ok(())

@@ -3,6 +3,7 @@ use super::solids::{LATTICE_OFF, LIMIT_CUBE_OFF, WIDE_CUBE_OFF};
 use super::{assert_faults, assert_gives};
 use crate::tests::outcomes::{Asked, FX, OFF, RANK};
 use qh_fixtures::files::{CUBE_OFF, OCTAHEDRON_OFF, SQUARE_OFF, TETRAHEDRON_OFF};
+use qh_fixtures::table;
 use qh_model::Form;
 use std::test::Fail;
 
@@ -30,19 +31,16 @@ const ONE_POINT: [&str; 4] = [
 ];
 
 /// OFF files and their fault lines, with status 1 and nothing on standard output.
-const FAULTS: [(&str, &str); 9] = [
-    ("COFF\n1 0 0\n5 5 5\n", "qconvex: 14: NotOff"),
-    ("3\n1\n5 5 5\n", "qconvex: 14: NotOff"),
-    ("OFF BINARY\n", "qconvex: 2: BadNumber at line 1"),
-    ("", "qconvex: 1: NoHeader"),
-    ("OFF\n1 1\n", "qconvex: 1: NoHeader"),
-    ("OFF\n0 0 0\n", "qconvex: 4: Count"),
-    ("OFF\n2 0 0\n1 2 3\n4 5\n", "qconvex: 7: Short"),
-    ("OFF\n1 0 0\n1 2 3.0\n", "qconvex: 2: BadNumber at line 3"),
-    (
-        "OFF\n1 0 0\n1 2 1073741825\n",
-        "qconvex: 5: Range at line 3",
-    ),
+const FAULTS: [(&str, &str); 9] = table![
+    ("COFF\n1 0 0\n5 5 5\n", "qconvex: 14: NotOff");
+    ("3\n1\n5 5 5\n", "qconvex: 14: NotOff");
+    ("OFF BINARY\n", "qconvex: 2: BadNumber at line 1");
+    ("", "qconvex: 1: NoHeader");
+    ("OFF\n1 1\n", "qconvex: 1: NoHeader");
+    ("OFF\n0 0 0\n", "qconvex: 4: Count");
+    ("OFF\n2 0 0\n1 2 3\n4 5\n", "qconvex: 7: Short");
+    ("OFF\n1 0 0\n1 2 3.0\n", "qconvex: 2: BadNumber at line 3");
+    ("OFF\n1 0 0\n1 2 1073741825\n", "qconvex: 5: Range at line 3");
 ];
 
 #[test]

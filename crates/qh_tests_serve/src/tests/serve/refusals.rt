@@ -1,14 +1,14 @@
 //! Calls during which one allocation fails: the text is right, or the call is out of memory and returns the right text
 //! when it is repeated. `scripts/trials/refusals.py` makes each allocation fail in turn.
-use crate::tests::outcomes::{Asked, OFF};
+use crate::tests::outcomes::OFF;
 use qh_fixtures::files::{CUBE, CUBE_OFF, OCTAHEDRON, OCTAHEDRON_OFF, SQUARE, SQUARE_OFF};
+use qh_fixtures::{Host, again};
 use qh_read::{MemSource, ReadFault};
 use qh_run::NoGate;
 use qh_serve::{Fault, Settings, SettingsError, answer, serve};
 use qh_write::{MemSink, Sink};
 use std::alloc::Global;
 use std::test::Fail;
-use std::thread::Threads;
 
 /// An input, the size of its blocks, and the text of `off`.
 const ROWS: [(&str, u32, &str); 3] = [
@@ -17,31 +17,12 @@ const ROWS: [(&str, u32, &str); 3] = [
     (OCTAHEDRON, 3, OCTAHEDRON_OFF),
 ];
 
-/// Returns settings for `off`. Repeats the call if an allocation failed.
-fn settings_again(alloc: Global, workers: u32, block: u32) -> Result<Settings, SettingsError> {
-    let asked = Asked {
-        workers,
-        block,
-        ..OFF
-    };
-    match asked.settings(alloc) {
-        Err(SettingsError::Memory) => asked.settings(alloc),
-        settings => settings,
-    }
-}
-
 /// Returns true if `answer` returns this text. Repeats the call if an allocation failed.
-fn answers<R: Threads + Sync>(
-    rt: &R,
-    alloc: Global,
-    input: &[u8],
-    settings: &Settings,
-    want: &[u8],
-) -> bool {
-    let text = match answer(rt, alloc, input, settings, &NoGate) {
-        Err(Fault::Read(ReadFault::Memory)) => answer(rt, alloc, input, settings, &NoGate),
-        text => text,
-    };
+fn answers(rt: &impl Host, alloc: Global, input: &[u8], settings: &Settings, want: &[u8]) -> bool {
+    let text = again!(
+        answer(rt, alloc, input, settings, &NoGate),
+        Fault::Read(ReadFault::Memory)
+    );
     text.is_ok_and(|text| text.as_slice() == want)
 }
 
@@ -56,8 +37,8 @@ enum Served {
     Wrong,
 }
 
-fn served_once<R: Threads + Sync>(
-    rt: &R,
+fn served_once(
+    rt: &impl Host,
     alloc: Global,
     input: &[u8],
     settings: &Settings,
@@ -76,14 +57,14 @@ fn served_once<R: Threads + Sync>(
 }
 
 /// Returns true if each row comes out right, by `answer` and by `serve`.
-fn rows_come_out_right<R: AllocGlobal + Threads + Sync>(
-    rt: &R,
-    workers: u32,
-) -> Result<bool, Fail> {
+fn rows_come_out_right(rt: &impl Host, workers: u32) -> Result<bool, Fail> {
     let alloc = rt.alloc();
     for (input, block, want) in ROWS {
         let (input, want) = (input.as_bytes(), want.as_bytes());
-        let settings = settings_again(alloc, workers, block)?;
+        let settings = again!(
+            OFF.by(workers, block).settings(alloc),
+            SettingsError::Memory
+        )?;
         if !answers(rt, alloc, input, &settings, want) {
             return Ok(false);
         }
@@ -99,23 +80,11 @@ fn rows_come_out_right<R: AllocGlobal + Threads + Sync>(
 }
 
 #[test]
-fn tries_again_with_one_worker(rt: HostRuntime) -> Result<(), Fail> {
-    let are_right = rows_come_out_right(&rt, 1)?;
-    assert!(rt; are_right);
-    Ok(())
-}
-
-#[test]
-fn tries_again_with_two_workers(rt: HostRuntime) -> Result<(), Fail> {
-    let are_right = rows_come_out_right(&rt, 2)?;
-    assert!(rt; are_right);
-    Ok(())
-}
-
-#[test]
-fn tries_again_with_seven_workers(rt: HostRuntime) -> Result<(), Fail> {
-    let are_right = rows_come_out_right(&rt, 7)?;
-    assert!(rt; are_right);
+fn tries_again(rt: HostRuntime) -> Result<(), Fail> {
+    for workers in [1, 2, 7] {
+        let are_right = rows_come_out_right(&rt, workers)?;
+        assert!(rt; are_right, "{workers} workers");
+    }
     Ok(())
 }
 
@@ -123,12 +92,7 @@ fn tries_again_with_seven_workers(rt: HostRuntime) -> Result<(), Fail> {
 /// fails if an allocation of the calling thread fails.
 #[test]
 fn falls_back(rt: HostRuntime) -> Result<(), Fail> {
-    let asked = Asked {
-        workers: 1,
-        block: 3,
-        ..OFF
-    };
-    let settings = asked.settings(rt.alloc())?;
+    let settings = OFF.by(1, 3).settings(rt.alloc())?;
     let text = answer(&rt, rt.alloc(), OCTAHEDRON.as_bytes(), &settings, &NoGate);
     assert!(rt; text.is_ok_and(|text| text.as_slice() == OCTAHEDRON_OFF.as_bytes()));
     Ok(())

@@ -4,6 +4,7 @@ use crate::tests::outcomes::{Asked, FX, OFF, SUMMARY};
 use qh_fixtures::files::{
     COMMENTED_TETRAHEDRON, CUBE, CUBE_OFF, OCTAHEDRON, OCTAHEDRON_OFF, TETRAHEDRON, TETRAHEDRON_OFF,
 };
+use qh_fixtures::table;
 use qh_write::Out;
 use std::test::Fail;
 
@@ -59,76 +60,30 @@ const LIMIT_SLIVER_OFF: &str =
     "OFF\n4 4 6\n0 0 0\n1073741823 1073741820 0\n0 1073741823 1073741820\n357913942 715827883 357913941\n3 0 1 3\n3 0 2 1\n3 0 3 2\n3 1 2 3\n";
 
 /// Settings, an input and its text.
-const ROWS: [(Asked, &str, &str); 23] = [
-    (OFF, TETRAHEDRON, TETRAHEDRON_OFF),
-    (OFF, "4 3\n0 0 0\n1 0 0\n0 1 0\n0 0 1\n", TETRAHEDRON_OFF),
-    (OFF, COMMENTED_TETRAHEDRON, TETRAHEDRON_OFF),
-    (OFF, CUBE, CUBE_OFF),
-    (
-        Asked {
-            workers: 1,
-            block: 1,
-            ..OFF
-        },
-        CUBE,
-        CUBE_OFF,
-    ),
-    (
-        Asked {
-            outs: &[Out::Rank, Out::Fx],
-            ..SUMMARY
-        },
-        DOUBLED_CUBE,
-        "16 8 3\n8\n0\n2\n4\n6\n8\n10\n12\n14\n",
-    ),
-    (OFF, DOUBLED_CUBE, CUBE_OFF),
-    (FX, LATTICE, "8\n0\n2\n6\n8\n18\n20\n24\n26\n"),
-    (OFF, LATTICE, LATTICE_OFF),
-    (
-        Asked {
-            block: 1,
-            workers: 64,
-            ..OFF
-        },
-        LATTICE,
-        LATTICE_OFF,
-    ),
-    (
-        Asked {
-            block: 7,
-            workers: 3,
-            ..OFF
-        },
-        LATTICE,
-        LATTICE_OFF,
-    ),
-    (OFF, WIDE_CUBE, WIDE_CUBE_OFF),
-    (OFF, LIMIT_CUBE, LIMIT_CUBE_OFF),
-    (OFF, OCTAHEDRON, OCTAHEDRON_OFF),
-    (Asked { block: 3, ..OFF }, OCTAHEDRON, OCTAHEDRON_OFF),
-    (
-        Asked {
-            block: 3,
-            workers: 2,
-            ..FX
-        },
-        OCTAHEDRON,
-        "6\n0\n2\n3\n5\n6\n9\n",
-    ),
-    (SUMMARY, OCTAHEDRON, OCTAHEDRON_SUMMARY),
-    (OFF, NEAR_FLAT, NEAR_FLAT_OFF),
-    (OFF, LIMIT_NEAR_FLAT, LIMIT_NEAR_FLAT_OFF),
-    (OFF, SLIVER, SLIVER_OFF),
-    (OFF, LIMIT_SLIVER, LIMIT_SLIVER_OFF),
+const ROWS: [(Asked, &str, &str); 23] = table![
+    (OFF, TETRAHEDRON, TETRAHEDRON_OFF);
+    (OFF, "4 3\n0 0 0\n1 0 0\n0 1 0\n0 0 1\n", TETRAHEDRON_OFF);
+    (OFF, COMMENTED_TETRAHEDRON, TETRAHEDRON_OFF);
+    (OFF, CUBE, CUBE_OFF);
+    (Asked { workers: 1, block: 1, ..OFF }, CUBE, CUBE_OFF);
+    (Asked { outs: &[Out::Rank, Out::Fx], ..SUMMARY }, DOUBLED_CUBE, "16 8 3\n8\n0\n2\n4\n6\n8\n10\n12\n14\n");
+    (OFF, DOUBLED_CUBE, CUBE_OFF);
+    (FX, LATTICE, "8\n0\n2\n6\n8\n18\n20\n24\n26\n");
+    (OFF, LATTICE, LATTICE_OFF);
+    (Asked { block: 1, workers: 64, ..OFF }, LATTICE, LATTICE_OFF);
+    (Asked { block: 7, workers: 3, ..OFF }, LATTICE, LATTICE_OFF);
+    (OFF, WIDE_CUBE, WIDE_CUBE_OFF);
+    (OFF, LIMIT_CUBE, LIMIT_CUBE_OFF);
+    (OFF, OCTAHEDRON, OCTAHEDRON_OFF);
+    (Asked { block: 3, ..OFF }, OCTAHEDRON, OCTAHEDRON_OFF);
+    (Asked { block: 3, workers: 2, ..FX }, OCTAHEDRON, "6\n0\n2\n3\n5\n6\n9\n");
+    (SUMMARY, OCTAHEDRON, OCTAHEDRON_SUMMARY);
+    (OFF, NEAR_FLAT, NEAR_FLAT_OFF);
+    (OFF, LIMIT_NEAR_FLAT, LIMIT_NEAR_FLAT_OFF);
+    (OFF, SLIVER, SLIVER_OFF);
+    (OFF, LIMIT_SLIVER, LIMIT_SLIVER_OFF);
     // One point three times, and three others: the lowest index represents the equal ones.
-    (
-        Asked {
-            outs: &[Out::Rank, Out::Fx],
-            ..SUMMARY
-        },
-        "3\n6\n1 0 0\n0 0 0\n0 1 0\n0 0 0\n0 0 1\n0 0 0\n",
-        "6 4 3\n4\n0\n1\n2\n4\n",
-    ),
+    (Asked { outs: &[Out::Rank, Out::Fx], ..SUMMARY }, "3\n6\n1 0 0\n0 0 0\n0 1 0\n0 0 0\n0 0 1\n0 0 0\n", "6 4 3\n4\n0\n1\n2\n4\n");
     // Each corner is in its own block.
     (
         Asked {
@@ -137,7 +92,7 @@ const ROWS: [(Asked, &str, &str); 23] = [
         },
         CUBE,
         "Convex hull of 8 points in 3-d:\n  dimension: 3\n  distinct points: 8\n  extreme points: 8\n  facets: 6\n  edges: 12\n",
-    ),
+    );
 ];
 
 #[test]
@@ -148,13 +103,13 @@ fn answers_solid_rows(rt: HostRuntime) -> Result<(), Fail> {
 #[test]
 fn gives_the_same_each_time(rt: HostRuntime) -> Result<(), Fail> {
     for (workers, block) in [(2, 1), (4, 2), (8, 5), (64, 3)] {
-        let asked = Asked {
-            workers,
-            block,
-            ..OFF
-        };
         for _ in 0..8 {
-            assert_answered(&rt, asked, OCTAHEDRON.as_bytes(), (OCTAHEDRON_OFF, "", 0))?;
+            assert_answered(
+                &rt,
+                OFF.by(workers, block),
+                OCTAHEDRON.as_bytes(),
+                (OCTAHEDRON_OFF, "", 0),
+            )?;
         }
     }
     Ok(())

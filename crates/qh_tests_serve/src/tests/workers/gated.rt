@@ -6,6 +6,7 @@ ghost use Rattle.std.specs.Prelude.{◌≤◌, length};
 ghost use Rattle.qh_model.specs.declared.limits.TheConstants.{POINT_LIMIT};
 
 use crate::tests::outcomes::{Asked, Call, OFF, Outcome, refusal, shown};
+use qh_fixtures::Host;
 use qh_fixtures::files::{OCTAHEDRON, OCTAHEDRON_OFF};
 use qh_fixtures::points::octahedron;
 use qh_model::{Body, Cut, Id, Memory, Point};
@@ -15,10 +16,8 @@ use qh_run::{Gate, NoGate, RunError, run_hull};
 use qh_serve::{Fault, Settings};
 use qh_write::text;
 use std::alloc::Global;
-use std::process::Abort;
 use std::sync::atomic::{AtomicU64, Ordering};
 use std::test::Fail;
-use std::thread::Threads;
 
 /// The greatest number of turns for which a worker is blocked.
 const TURNS: u64 = 1000000000;
@@ -131,8 +130,8 @@ pub(super) enum Watched {
 pub(super) const WATCHED: [Watched; 3] = [Watched::RunHull, Watched::Answer, Watched::Serve];
 
 /// Returns the text of the hull that `run_hull` computes for the points, in blocks of 3.
-fn text_by<R: Threads + Sync, G: Gate>(
-    rt: &R,
+fn text_by<G: Gate>(
+    rt: &impl Host,
     alloc: Global,
     points: &[Point],
     settings: &Settings,
@@ -151,8 +150,8 @@ fn text_by<R: Threads + Sync, G: Gate>(
 }
 
 /// Returns the outcome of `run_hull`, observed by a gate.
-fn hulled_by<R: Threads + Sync, G: Gate>(
-    rt: &R,
+fn hulled_by<G: Gate>(
+    rt: &impl Host,
     alloc: Global,
     settings: &Settings,
     gate: &G,
@@ -165,8 +164,8 @@ fn hulled_by<R: Threads + Sync, G: Gate>(
 }
 
 /// Returns the outcome of a call on the points with settings, observed by a gate.
-pub(super) fn outcome_by<R: AllocGlobal + Threads + Sync, G: Gate>(
-    rt: &R,
+pub(super) fn outcome_by<G: Gate>(
+    rt: &impl Host,
     watched: Watched,
     asked: Asked,
     gate: &G,
@@ -180,35 +179,8 @@ pub(super) fn outcome_by<R: AllocGlobal + Threads + Sync, G: Gate>(
     }
 }
 
-/// The texts of `off` with blocks of 3 points.
-pub(super) const BY_THREES: Asked<'static> = Asked { block: 3, ..OFF };
-
-/// Settings, and the blocks that a gate holds.
-const HELD: [(Asked, Holds); 2] = [
-    (
-        Asked {
-            workers: 2,
-            ..BY_THREES
-        },
-        Holds::FirstUntilSecond,
-    ),
-    (
-        Asked {
-            workers: 3,
-            ..BY_THREES
-        },
-        Holds::ThreeUntilAll,
-    ),
-];
-
-/// Asserts that no other worker waits for the blocks that a gate holds, and that holding them does not change the
-/// result.
-fn assert_held<R: AllocGlobal + Abort + Threads + Sync>(
-    rt: &R,
-    watched: Watched,
-    asked: Asked,
-    holds: Holds,
-) -> Result<(), Fail> {
+/// Asserts that no other worker waits for the blocks that a gate holds, and that the result is the same.
+fn assert_held(rt: &impl Host, watched: Watched, asked: Asked, holds: Holds) -> Result<(), Fail> {
     let gate = Hold::new(holds);
     let outcome = outcome_by(rt, watched, asked, &gate)?;
     assert!(rt; gate.came_in_time(), "{watched:?}, {holds:?}");
@@ -219,39 +191,21 @@ fn assert_held<R: AllocGlobal + Abort + Threads + Sync>(
 #[test]
 fn workers_run_at_once(rt: HostRuntime) -> Result<(), Fail> {
     for watched in WATCHED {
-        for (asked, holds) in &HELD {
-            assert_held(&rt, watched, *asked, *holds)?;
+        for (workers, holds) in [(2, Holds::FirstUntilSecond), (3, Holds::ThreeUntilAll)] {
+            assert_held(&rt, watched, OFF.by(workers, 3), holds)?;
         }
-    }
-    Ok(())
-}
-
-/// Asserts that a call is out of memory if its gate returns no hull.
-fn assert_no_hull<R: AllocGlobal + Abort + Threads + Sync>(
-    rt: &R,
-    watched: Watched,
-    rows: &[Asked],
-) -> Result<(), Fail> {
-    for asked in rows {
-        let outcome = outcome_by(rt, watched, *asked, &NoHull)?;
-        let want = ("", "qconvex: 8: Memory", 3);
-        assert_eq!(rt; outcome.told(), want, "{watched:?} at {asked:?}");
     }
     Ok(())
 }
 
 #[test]
 fn the_gate_takes_the_hull(rt: HostRuntime) -> Result<(), Fail> {
-    let alone = Asked {
-        workers: 1,
-        ..BY_THREES
-    };
-    let three = Asked {
-        workers: 3,
-        ..BY_THREES
-    };
     for watched in WATCHED {
-        assert_no_hull(&rt, watched, &[alone, three, OFF])?;
+        for asked in [OFF.by(1, 3), OFF.by(3, 3), OFF] {
+            let outcome = outcome_by(&rt, watched, asked, &NoHull)?;
+            let want = ("", "qconvex: 8: Memory", 3);
+            assert_eq!(rt; outcome.told(), want, "{watched:?} at {asked:?}");
+        }
     }
     Ok(())
 }

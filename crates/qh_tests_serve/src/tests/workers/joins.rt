@@ -1,16 +1,15 @@
 //! Runs in many small blocks: the tree joins the results of two blocks.
-use super::paraboloid::{asked_in, points};
+use super::paraboloid::{OUTPUTS, points};
 use super::stored_points::STORED;
 use crate::tests::outcomes::{Asked, Call};
+use qh_fixtures::Host;
 use qh_model::{Body, Id, Memory, Point};
 use qh_run::{Gate, NoGate};
 use std::alloc::{AllocError, Global};
 use std::sync::atomic::{AtomicU64, Ordering};
 use std::test::Fail;
-use std::thread::Threads;
 
-/// A gate that counts the nodes whose children are both delivered blocks: the pass that arrived second took the extreme
-/// ids of both together.
+/// A gate that counts the nodes whose children are both delivered blocks: the second pass there joined them.
 #[derive(Drop)]
 pub struct Joins {
     blocks: u32,
@@ -57,12 +56,7 @@ impl Gate for Joins {
 }
 
 /// Returns the number of nodes that joined the values of two blocks, in a run with an answer and this number of blocks.
-fn joins_of<R: AllocGlobal + Threads + Sync>(
-    rt: &R,
-    asked: Asked,
-    input: &[u8],
-    blocks: u32,
-) -> Result<u64, Fail> {
+fn joins_of(rt: &impl Host, asked: Asked, input: &[u8], blocks: u32) -> Result<u64, Fail> {
     let gate = Joins::of(rt.alloc(), blocks)?;
     let settings = asked.settings(rt.alloc())?;
     let outcome = Call::new(input, &settings, &gate).answered(rt, rt.alloc())?;
@@ -75,7 +69,7 @@ fn joins_of<R: AllocGlobal + Threads + Sync>(
 #[test]
 fn the_stored_run_joins_all_pairs(rt: HostRuntime) -> Result<(), Fail> {
     // 264 distinct points in blocks of 3 are 88 blocks, each of which has a sibling.
-    let joins = joins_of(&rt, asked_in((7, 3)), STORED.as_bytes(), 88)?;
+    let joins = joins_of(&rt, OUTPUTS.by(7, 3), STORED.as_bytes(), 88)?;
     assert_eq!(rt; joins, 44);
     Ok(())
 }
@@ -84,7 +78,7 @@ fn the_stored_run_joins_all_pairs(rt: HostRuntime) -> Result<(), Fail> {
 fn the_paraboloid_joins_until_a_pass_gives_up(rt: HostRuntime) -> Result<(), Fail> {
     // No pass gives up below a node of 256 blocks, which have 1,024 points.
     let input = points(rt.alloc(), 20000)?;
-    let joins = joins_of(&rt, asked_in((7, 4)), input.as_bytes(), 5000)?;
+    let joins = joins_of(&rt, OUTPUTS.by(7, 4), input.as_bytes(), 5000)?;
     assert!(rt; joins >= 100, "{joins} joins");
     Ok(())
 }

@@ -1,13 +1,12 @@
 //! The 20,000 points of a paraboloid, all of them extreme, with four settings, and 60,000 points whose hull is computed
 //! by several threads.
 use crate::tests::outcomes::{Asked, Call, OFFT, Outcome, SUMMARY, push_point};
+use qh_fixtures::Host;
 use qh_run::{Gate, NoGate};
 use qh_serve::Threaded;
 use qh_write::Out;
 use std::alloc::{AllocError, Global};
-use std::process::Abort;
 use std::test::Fail;
-use std::thread::Threads;
 
 /// The greatest number of points that are created: their coordinates fit.
 const COUNT_LIMIT: u32 = 60000;
@@ -16,23 +15,10 @@ const BEGINNING: &str =
     "Convex hull of 20000 points in 3-d:\n  dimension: 3\n  distinct points: 20000\n  extreme points: 20000\n  facets: 19706\n  edges: 39704\n";
 
 /// The outputs whose text begins with the summary.
-const OUTPUTS: Asked<'static> = Asked {
+pub const OUTPUTS: Asked<'static> = Asked {
     outs: &[Out::Summary, Out::Fx, Out::Off],
     ..SUMMARY
 };
-
-/// Numbers of workers and sizes of blocks.
-const WAYS: [(u32, u32); 4] = [(1, 20000), (2, 4096), (7, 4), (64, 4096)];
-
-/// Returns the outputs with a number of workers and a block size.
-pub fn asked_in(way: (u32, u32)) -> Asked<'static> {
-    let (workers, block) = way;
-    Asked {
-        workers,
-        block,
-        ..OUTPUTS
-    }
-}
 
 /// Returns the first points (x, y, x x + y y) for y below 100.
 pub fn points(alloc: Global, count: u32) -> Result<String, AllocError> {
@@ -45,8 +31,8 @@ pub fn points(alloc: Global, count: u32) -> Result<String, AllocError> {
 }
 
 /// Returns the outcome of `answer` for an input with settings, observed by a gate.
-fn outcome_of<R: AllocGlobal + Threads + Sync, G: Gate>(
-    rt: &R,
+fn outcome_of<G: Gate>(
+    rt: &impl Host,
     asked: Asked,
     input: &[u8],
     gate: &G,
@@ -55,25 +41,14 @@ fn outcome_of<R: AllocGlobal + Threads + Sync, G: Gate>(
     Ok(Call::new(input, &settings, gate).answered(rt, rt.alloc())?)
 }
 
-/// Asserts that the text of an input with these settings equals another text.
-fn assert_same<R: AllocGlobal + Abort + Threads + Sync>(
-    rt: &R,
-    way: (u32, u32),
-    input: &[u8],
-    other: &Outcome,
-) -> Result<(), Fail> {
-    let outcome = outcome_of(rt, asked_in(way), input, &NoGate)?;
-    assert!(rt; outcome.output == other.output, "{way:?}");
-    Ok(())
-}
-
 #[test]
 fn has_one_text_in_all_settings(rt: HostRuntime) -> Result<(), Fail> {
     let input = points(rt.alloc(), 20000)?;
-    let first = outcome_of(&rt, asked_in(WAYS[0]), input.as_bytes(), &NoGate)?;
+    let first = outcome_of(&rt, OUTPUTS.by(1, 20000), input.as_bytes(), &NoGate)?;
     assert!(rt; first.output.starts_with(BEGINNING));
-    for way in &WAYS[1..] {
-        assert_same(&rt, *way, input.as_bytes(), &first)?;
+    for (workers, block) in [(2, 4096), (7, 4), (64, 4096)] {
+        let outcome = outcome_of(&rt, OUTPUTS.by(workers, block), input.as_bytes(), &NoGate)?;
+        assert!(rt; outcome.output == first.output, "{workers} workers");
     }
     Ok(())
 }
@@ -99,7 +74,7 @@ const LARGE_BEGINNING: &str =
 #[test]
 fn has_the_same_text_by_parts(rt: HostRuntime) -> Result<(), Fail> {
     let input = points(rt.alloc(), 60000)?;
-    let asked = asked_in((4, 4096));
+    let asked = OUTPUTS.by(4, 4096);
     let whole = outcome_of(&rt, asked, input.as_bytes(), &NoGate)?;
     let gate = Threaded {
         rt: &rt,

@@ -1,14 +1,13 @@
 //! A gate that records the notifications: the passes that claimed and delivered each block.
-use super::gated::{BY_THREES, WATCHED, Watched, outcome_by};
-use crate::tests::outcomes::Asked;
+use super::gated::{WATCHED, Watched, outcome_by};
+use crate::tests::outcomes::OFF;
+use qh_fixtures::Host;
 use qh_fixtures::files::OCTAHEDRON_OFF;
 use qh_model::{Body, Id, Memory, Point};
 use qh_run::{Gate, NoGate};
 use std::alloc::{AllocError, Global};
-use std::process::Abort;
 use std::sync::atomic::{AtomicU64, Ordering};
 use std::test::Fail;
-use std::thread::Threads;
 
 /// The number of blocks of 3 points.
 const BLOCKS: u32 = 6;
@@ -87,39 +86,20 @@ impl Gate for Keeper {
 const PASSES: [(u32, u32); 5] = [(1, 1), (2, 2), (5, 5), (6, 6), (64, 6)];
 
 /// Asserts the notifications of a call, with a number of workers and of passes.
-fn assert_told<R: AllocGlobal + Abort + Threads + Sync>(
-    rt: &R,
-    watched: Watched,
-    workers: u32,
-    passes: u32,
-) -> Result<(), Fail> {
+fn assert_told(rt: &impl Host, watched: Watched, workers: u32, passes: u32) -> Result<(), Fail> {
     let gate = Keeper::new(rt.alloc(), passes)?;
-    let asked = Asked {
-        workers,
-        ..BY_THREES
-    };
-    let outcome = outcome_by(rt, watched, asked, &gate)?;
+    let outcome = outcome_by(rt, watched, OFF.by(workers, 3), &gate)?;
     assert!(rt; gate.was_told_right(), "{watched:?}, {workers} workers");
     assert_eq!(rt; outcome.told(), (OCTAHEDRON_OFF, "", 0));
-    Ok(())
-}
-
-/// Asserts the notifications of a call, with each number of workers and of passes.
-fn assert_each_told<R: AllocGlobal + Abort + Threads + Sync>(
-    rt: &R,
-    watched: Watched,
-    rows: &[(u32, u32)],
-) -> Result<(), Fail> {
-    for (workers, passes) in rows {
-        assert_told(rt, watched, *workers, *passes)?;
-    }
     Ok(())
 }
 
 #[test]
 fn each_block_is_told_once_with_its_pass(rt: HostRuntime) -> Result<(), Fail> {
     for watched in WATCHED {
-        assert_each_told(&rt, watched, &PASSES)?;
+        for (workers, passes) in PASSES {
+            assert_told(&rt, watched, workers, passes)?;
+        }
     }
     Ok(())
 }

@@ -1,10 +1,10 @@
 //! The limits of numbers that are parsed as a whole: in both forms, with many bytes after them or few.
 
 use super::{Place, Way, assert_fault, assert_points, joined, read_cut};
+use qh_fixtures::{Host, table};
 use qh_model::Form;
 use qh_read::{FeedFault, ReadFault, Reader, read_points};
 use std::alloc::{AllocError, Global};
-use std::process::Abort;
 use std::test::Fail;
 
 /// More bytes than the fast path for a point requires.
@@ -14,64 +14,49 @@ const BLANKS: &str = "                                                          
 const HEADS: [(Form, &str); 2] = [(Form::Qhull, "3\n2\n"), (Form::Off, "OFF\n2 0 0\n")];
 
 /// Texts that may follow a head, each with the two points.
-const READ: [(&str, &[Place]); 12] = [
-    (
-        "1234567 -12345678 123456789\n-987654321 +99999999 0000000\n",
-        &[(1234567, -12345678, 123456789), (-987654321, 99999999, 0)],
-    ),
+const READ: [(&str, &[Place]); 12] = table![
+    ("1234567 -12345678 123456789\n-987654321 +99999999 0000000\n", &[(1234567, -12345678, 123456789), (-987654321, 99999999, 0)]);
     (
         "999999999 -999999999 +999999999\n1000000000 -1000000000 +1000000000\n",
         &[
             (999999999, -999999999, 999999999),
             (1000000000, -1000000000, 1000000000),
         ],
-    ),
-    (
-        "1073741824 -1073741824 0\n1073741823 -1073741823 0\n",
-        &[(1073741824, -1073741824, 0), (1073741823, -1073741823, 0)],
-    ),
-    (
-        "000000012 0000000034 00000000056\n-000000012 -0000000034 -00000000056\n",
-        &[(12, 34, 56), (-12, -34, -56)],
-    ),
-    ("+1 -2 +3\n-0 +0 -00\n", &[(1, -2, 3), (0, 0, 0)]),
-    ("1\t2\t3\r\n4\x0b5\x0c6\r\n", &[(1, 2, 3), (4, 5, 6)]),
-    (
-        "  1  22   333\r\n\r\n\n  4444\t 55555 \t666666 \n",
-        &[(1, 22, 333), (4444, 55555, 666666)],
-    ),
-    ("1 2 3 4 5 6", &[(1, 2, 3), (4, 5, 6)]),
-    ("1\n2\n3\n4\n5\n6\n", &[(1, 2, 3), (4, 5, 6)]),
-    ("1 2\n3 4\n5\r6\n", &[(1, 2, 3), (4, 5, 6)]),
-    ("1 2 3 # 4 5\n6 7 # 8\n9 #", &[(1, 2, 3), (6, 7, 9)]),
-    ("# 1\n2 3 # 4\n5 6\n7 #\n\n8\n", &[(2, 3, 5), (6, 7, 8)]),
+    );
+    ("1073741824 -1073741824 0\n1073741823 -1073741823 0\n", &[(1073741824, -1073741824, 0), (1073741823, -1073741823, 0)]);
+    ("000000012 0000000034 00000000056\n-000000012 -0000000034 -00000000056\n", &[(12, 34, 56), (-12, -34, -56)]);
+    ("+1 -2 +3\n-0 +0 -00\n", &[(1, -2, 3), (0, 0, 0)]);
+    ("1\t2\t3\r\n4\x0b5\x0c6\r\n", &[(1, 2, 3), (4, 5, 6)]);
+    ("  1  22   333\r\n\r\n\n  4444\t 55555 \t666666 \n", &[(1, 22, 333), (4444, 55555, 666666)]);
+    ("1 2 3 4 5 6", &[(1, 2, 3), (4, 5, 6)]);
+    ("1\n2\n3\n4\n5\n6\n", &[(1, 2, 3), (4, 5, 6)]);
+    ("1 2\n3 4\n5\r6\n", &[(1, 2, 3), (4, 5, 6)]);
+    ("1 2 3 # 4 5\n6 7 # 8\n9 #", &[(1, 2, 3), (6, 7, 9)]);
+    ("# 1\n2 3 # 4\n5 6\n7 #\n\n8\n", &[(2, 3, 5), (6, 7, 8)]);
 ];
 
 /// Texts that may follow a head, each with the first fault in both forms.
-const REFUSED: [(&str, ReadFault); 15] = [
-    ("1 2 3\n4 5 1073741825\n", ReadFault::Range(4)),
-    ("1 2 3\n-1073741825 5 6\n", ReadFault::Range(4)),
-    ("1 2 3\n4 9999999999 6\n", ReadFault::Range(4)),
-    ("1 2 10737418240\n4 5 6\n", ReadFault::Range(3)),
-    ("4294967297 2 3\n4 5 6\n", ReadFault::Range(3)),
-    ("1 -18446744073709551617 3\n4 5 6\n", ReadFault::Range(3)),
-    ("1 2 3\r\n\r\n4\n5.5 6\n", ReadFault::BadNumber(6)),
-    ("1 2 3\n4 - 6\n", ReadFault::BadNumber(4)),
-    ("1 2 3\n+-4 5 6\n", ReadFault::BadNumber(4)),
-    ("1 2-3 3\n4 5 6\n", ReadFault::BadNumber(3)),
-    ("1 2 3a\n4 5 6\n", ReadFault::BadNumber(3)),
-    ("1 2 3\n4 5 6/7\n", ReadFault::BadNumber(4)),
-    ("1 2 3:4 5 6\n", ReadFault::BadNumber(3)),
-    (
-        "123456789 123456789 123456789.\n4 5 6\n",
-        ReadFault::BadNumber(3),
-    ),
-    ("1 2 3\n4 5\n", ReadFault::Short),
+const REFUSED: [(&str, ReadFault); 15] = table![
+    ("1 2 3\n4 5 1073741825\n", ReadFault::Range(4));
+    ("1 2 3\n-1073741825 5 6\n", ReadFault::Range(4));
+    ("1 2 3\n4 9999999999 6\n", ReadFault::Range(4));
+    ("1 2 10737418240\n4 5 6\n", ReadFault::Range(3));
+    ("4294967297 2 3\n4 5 6\n", ReadFault::Range(3));
+    ("1 -18446744073709551617 3\n4 5 6\n", ReadFault::Range(3));
+    ("1 2 3\r\n\r\n4\n5.5 6\n", ReadFault::BadNumber(6));
+    ("1 2 3\n4 - 6\n", ReadFault::BadNumber(4));
+    ("1 2 3\n+-4 5 6\n", ReadFault::BadNumber(4));
+    ("1 2-3 3\n4 5 6\n", ReadFault::BadNumber(3));
+    ("1 2 3a\n4 5 6\n", ReadFault::BadNumber(3));
+    ("1 2 3\n4 5 6/7\n", ReadFault::BadNumber(4));
+    ("1 2 3:4 5 6\n", ReadFault::BadNumber(3));
+    ("123456789 123456789 123456789.\n4 5 6\n", ReadFault::BadNumber(3));
+    ("1 2 3\n4 5\n", ReadFault::Short);
 ];
 
 /// Asserts the points of a head and a body, for each position at which they are cut in two.
-fn assert_read<R: AllocGlobal + Abort>(
-    rt: &R,
+fn assert_read(
+    rt: &impl Host,
     form: Form,
     head: &str,
     row: (&str, &[Place]),
@@ -85,30 +70,19 @@ fn assert_read<R: AllocGlobal + Abort>(
     Ok(())
 }
 
-/// Asserts the points of each body after a head.
-fn assert_all_read<R: AllocGlobal + Abort>(
-    rt: &R,
-    form: Form,
-    head: &str,
-    rows: &[(&str, &[Place])],
-) -> Result<(), AllocError> {
-    for row in rows {
-        assert_read(rt, form, head, *row)?;
-    }
-    Ok(())
-}
-
 #[test]
 fn reads_points_at_once(rt: HostRuntime) -> Result<(), Fail> {
     for (form, head) in HEADS {
-        assert_all_read(&rt, form, head, &READ)?;
+        for row in READ {
+            assert_read(&rt, form, head, row)?;
+        }
     }
     Ok(())
 }
 
 /// Asserts the first fault of a head and a body, for each position at which they are cut in two.
-fn assert_refused<R: AllocGlobal + Abort>(
-    rt: &R,
+fn assert_refused(
+    rt: &impl Host,
     form: Form,
     head: &str,
     row: (&str, ReadFault),
@@ -122,29 +96,17 @@ fn assert_refused<R: AllocGlobal + Abort>(
     Ok(())
 }
 
-/// Asserts the first fault of each body after a head.
-fn assert_all_refused<R: AllocGlobal + Abort>(
-    rt: &R,
-    form: Form,
-    head: &str,
-    rows: &[(&str, ReadFault)],
-) -> Result<(), AllocError> {
-    for row in rows {
-        assert_refused(rt, form, head, *row)?;
-    }
-    Ok(())
-}
-
 #[test]
 fn finds_faults_after_points_at_once(rt: HostRuntime) -> Result<(), Fail> {
     for (form, head) in HEADS {
-        assert_all_refused(&rt, form, head, &REFUSED)?;
+        for row in REFUSED {
+            assert_refused(&rt, form, head, row)?;
+        }
     }
     Ok(())
 }
 
-/// Returns a file of 400 points, in which every second point shares its line with words that are not numbers, and its
-/// points.
+/// Returns a file of 400 points, half of which share their lines with words that are not numbers, and its points.
 fn long_file(alloc: Global) -> Result<(Vec<u8>, Vec<Place>), AllocError> {
     let mut text = Vec::from_slice(alloc, b"3\n400\n")?;
     let mut places = Vec::new(alloc);
@@ -182,12 +144,7 @@ fn feed_late_point(reader: &mut Reader) -> Result<(), FeedFault> {
 fn goes_over_blanks_before_a_point_once(rt: HostRuntime) -> Result<(), Fail> {
     let mut reader = Reader::new(rt.alloc());
     feed_late_point(&mut reader)?;
-    assert_points(
-        &rt,
-        reader.finish(),
-        &[(5, 5, 5)],
-        "after blanks",
-        Way::Pieces(65536),
-    );
+    let way = Way::Pieces(65536);
+    assert_points(&rt, reader.finish(), &[(5, 5, 5)], "after blanks", way);
     Ok(())
 }

@@ -1,39 +1,29 @@
 //! OFF files: whole, from a source, and in pieces.
 use super::threads::assert_read_in_sizes;
 use super::{Place, Way, assert_fault, assert_full, assert_points, read_in_pieces};
+use qh_fixtures::table;
 use qh_model::{BYTE_LIMIT, Form, Point};
 use qh_read::fakes::{FailSource, Spaces};
 use qh_read::{MemSource, ReadFault, Reader, read_off, read_off_from};
 use std::alloc::Global;
-use std::process::Abort;
 use std::test::Fail;
-use std::thread::Threads;
 
 /// OFF files with their vertices. Source: the rows of texts, comments and ignored faces.
-const READ: [(&str, &[Place]); 14] = [
-    ("OFF\n1 1 0\n5 5 5\n1 0\n", &[(5, 5, 5)]),
-    ("OFF\n2 1 1\n0 0 0\n2 2 2\n2 0 1\n", &[(0, 0, 0), (2, 2, 2)]),
-    (
-        "OFF\n4 1 4\n0 0 0\n2 0 0\n2 2 0\n0 2 0\n4 0 1 2 3\n",
-        &[(0, 0, 0), (2, 0, 0), (2, 2, 0), (0, 2, 0)],
-    ),
-    ("OFF 1 0 0 # one\n5 5 5", &[(5, 5, 5)]),
-    ("OFF\n1 1 0\n5 5 5\n1 zero\n", &[(5, 5, 5)]),
-    ("OFF\n1 0 0\n5 5 5 9 9 9\n", &[(5, 5, 5)]),
-    ("#OFF 2\nOFF#1\n1#7 7\n0 0\n5#.5\n5 5", &[(5, 5, 5)]),
-    (
-        "OFF\n2 0 0\n1 2 3 # 4 5 6\n7 8 9\n",
-        &[(1, 2, 3), (7, 8, 9)],
-    ),
-    ("OFF 1 0 0 5\r5\x0b5", &[(5, 5, 5)]),
-    ("OFF +1 -7 99999999999 -0 +0 0005", &[(0, 0, 5)]),
-    (
-        "OFF\n1 0 0\n-1073741824 1073741824 -1\n",
-        &[(-1073741824, 1073741824, -1)],
-    ),
-    ("OFF 1 0 0 1 2 3 4 x (", &[(1, 2, 3)]),
-    ("\n\n  OFF\t1 0 0 1 2 3#", &[(1, 2, 3)]),
-    ("OFF 1 0 0 1 2 3#4", &[(1, 2, 3)]),
+const READ: [(&str, &[Place]); 14] = table![
+    ("OFF\n1 1 0\n5 5 5\n1 0\n", &[(5, 5, 5)]);
+    ("OFF\n2 1 1\n0 0 0\n2 2 2\n2 0 1\n", &[(0, 0, 0), (2, 2, 2)]);
+    ("OFF\n4 1 4\n0 0 0\n2 0 0\n2 2 0\n0 2 0\n4 0 1 2 3\n", &[(0, 0, 0), (2, 0, 0), (2, 2, 0), (0, 2, 0)]);
+    ("OFF 1 0 0 # one\n5 5 5", &[(5, 5, 5)]);
+    ("OFF\n1 1 0\n5 5 5\n1 zero\n", &[(5, 5, 5)]);
+    ("OFF\n1 0 0\n5 5 5 9 9 9\n", &[(5, 5, 5)]);
+    ("#OFF 2\nOFF#1\n1#7 7\n0 0\n5#.5\n5 5", &[(5, 5, 5)]);
+    ("OFF\n2 0 0\n1 2 3 # 4 5 6\n7 8 9\n", &[(1, 2, 3), (7, 8, 9)]);
+    ("OFF 1 0 0 5\r5\x0b5", &[(5, 5, 5)]);
+    ("OFF +1 -7 99999999999 -0 +0 0005", &[(0, 0, 5)]);
+    ("OFF\n1 0 0\n-1073741824 1073741824 -1\n", &[(-1073741824, 1073741824, -1)]);
+    ("OFF 1 0 0 1 2 3 4 x (", &[(1, 2, 3)]);
+    ("\n\n  OFF\t1 0 0 1 2 3#", &[(1, 2, 3)]);
+    ("OFF 1 0 0 1 2 3#4", &[(1, 2, 3)]);
 ];
 
 /// OFF files with their first faults.
@@ -69,39 +59,29 @@ pub const REFUSED: [(&str, ReadFault); 28] = [
     ("\u{feff}OFF\n1 0 0\n5 5 5\n", ReadFault::NotOff),
 ];
 
-/// Asserts the vertices of each file: whole, from a source, in pieces, and by threads.
-fn assert_read<R: AllocGlobal + Abort + Threads + Sync>(rt: &R, rows: &[(&str, &[Place])]) {
-    for (text, places) in rows {
-        let bytes = text.as_bytes();
-        assert_points(rt, read_off(rt.alloc(), bytes), places, text, Way::Whole);
-        let streamed = read_off_from(rt.alloc(), &mut MemSource::new(bytes));
-        assert_points(rt, streamed, places, text, Way::Source);
-        let pieces = read_in_pieces(rt.alloc(), Form::Off, bytes, 1);
-        assert_points(rt, pieces, places, text, Way::Pieces(1));
-        assert_read_in_sizes(rt, Form::Off, bytes, places, text);
-    }
-}
-
 #[test]
 fn reads_vertices(rt: HostRuntime) {
-    assert_read(&rt, &READ);
-}
-
-/// Asserts the first fault of each file: whole, from a source and in pieces.
-fn assert_refused<R: AllocGlobal + Abort>(rt: &R, rows: &[(&str, ReadFault)]) {
-    for (text, fault) in rows {
+    for (text, places) in READ {
         let bytes = text.as_bytes();
-        assert_fault(rt, read_off(rt.alloc(), bytes), *fault, text, Way::Whole);
+        assert_points(&rt, read_off(rt.alloc(), bytes), places, text, Way::Whole);
         let streamed = read_off_from(rt.alloc(), &mut MemSource::new(bytes));
-        assert_fault(rt, streamed, *fault, text, Way::Source);
+        assert_points(&rt, streamed, places, text, Way::Source);
         let pieces = read_in_pieces(rt.alloc(), Form::Off, bytes, 1);
-        assert_fault(rt, pieces, *fault, text, Way::Pieces(1));
+        assert_points(&rt, pieces, places, text, Way::Pieces(1));
+        assert_read_in_sizes(&rt, Form::Off, bytes, places, text);
     }
 }
 
 #[test]
 fn finds_first_faults(rt: HostRuntime) {
-    assert_refused(&rt, &REFUSED);
+    for (text, fault) in REFUSED {
+        let bytes = text.as_bytes();
+        assert_fault(&rt, read_off(rt.alloc(), bytes), fault, text, Way::Whole);
+        let streamed = read_off_from(rt.alloc(), &mut MemSource::new(bytes));
+        assert_fault(&rt, streamed, fault, text, Way::Source);
+        let pieces = read_in_pieces(rt.alloc(), Form::Off, bytes, 1);
+        assert_fault(&rt, pieces, fault, text, Way::Pieces(1));
+    }
 }
 
 /// Returns the result of reading one vertex byte by byte, where the read with this number fails.
@@ -113,23 +93,14 @@ fn read_failing(alloc: Global, fails_at: u64) -> Result<Vec<Point>, ReadFault> {
 #[test]
 fn tells_devices(rt: HostRuntime) {
     for fails_at in 1..18 {
-        let outcome = read_failing(rt.alloc(), fails_at);
-        assert_fault(
-            &rt,
-            outcome,
-            ReadFault::Device,
-            "one vertex",
+        let (outcome, way) = (
+            read_failing(rt.alloc(), fails_at),
             Way::FailingRead(fails_at),
         );
+        assert_fault(&rt, outcome, ReadFault::Device, "one vertex", way);
     }
-    let outcome = read_failing(rt.alloc(), 18);
-    assert_points(
-        &rt,
-        outcome,
-        &[(5, 5, 5)],
-        "one vertex",
-        Way::FailingRead(18),
-    );
+    let (outcome, way) = (read_failing(rt.alloc(), 18), Way::FailingRead(18));
+    assert_points(&rt, outcome, &[(5, 5, 5)], "one vertex", way);
 }
 
 #[test]
@@ -140,12 +111,7 @@ fn tells_lengths(rt: HostRuntime) -> Result<(), Fail> {
     let mut reader = Reader::new_off(rt.alloc());
     reader.feed(&blanks)?;
     assert_full(&rt, &mut reader);
-    assert_fault(
-        &rt,
-        reader.finish(),
-        ReadFault::NoHeader,
-        "blanks",
-        Way::Pieces(blanks.len()),
-    );
+    let way = Way::Pieces(blanks.len());
+    assert_fault(&rt, reader.finish(), ReadFault::NoHeader, "blanks", way);
     Ok(())
 }

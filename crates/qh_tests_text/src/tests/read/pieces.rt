@@ -13,22 +13,10 @@ use std::test::Fail;
 fn cuts_change_nothing(rt: HostRuntime) {
     let bytes = COMMENTED_TETRAHEDRON.as_bytes();
     let outcome = read_in_pieces(rt.alloc(), Form::Qhull, bytes, 1);
-    assert_points(
-        &rt,
-        outcome,
-        &TETRAHEDRON,
-        COMMENTED_TETRAHEDRON,
-        Way::Pieces(1),
-    );
+    assert_points(&rt, outcome, &TETRAHEDRON, "a tetrahedron", Way::Pieces(1));
     for cut in 0..bytes.len() {
         let outcome = read_cut(rt.alloc(), Form::Qhull, bytes, cut);
-        assert_points(
-            &rt,
-            outcome,
-            &TETRAHEDRON,
-            COMMENTED_TETRAHEDRON,
-            Way::Cut(cut),
-        );
+        assert_points(&rt, outcome, &TETRAHEDRON, "a tetrahedron", Way::Cut(cut));
     }
 }
 
@@ -48,13 +36,8 @@ fn tells_long_words_without_keeping_them(rt: HostRuntime) -> Result<(), Fail> {
     assert_points(&rt, outcome, &[(5, 0, 0)], "zeros", Way::Pieces(4096));
     let nines = long_word(rt.alloc(), b"3\n1\n0 0 ", b'9', b"")?;
     let outcome = read_in_pieces(rt.alloc(), Form::Qhull, &nines, 4096);
-    assert_fault(
-        &rt,
-        outcome,
-        ReadFault::Range(3),
-        "nines",
-        Way::Pieces(4096),
-    );
+    let way = Way::Pieces(4096);
+    assert_fault(&rt, outcome, ReadFault::Range(3), "nines", way);
     Ok(())
 }
 
@@ -87,12 +70,7 @@ fn takes_just_the_greatest_length(rt: HostRuntime) -> Result<(), Fail> {
     let mut reader = Reader::new(rt.alloc());
     fill(&mut reader)?;
     assert_full(&rt, &mut reader);
-    assert_points(
-        &rt,
-        reader.finish(),
-        &[(5, 5, 5)],
-        "full",
-        Way::Pieces(65536),
-    );
+    let way = Way::Pieces(65536);
+    assert_points(&rt, reader.finish(), &[(5, 5, 5)], "full", way);
     Ok(())
 }

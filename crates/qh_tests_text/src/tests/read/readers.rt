@@ -63,8 +63,7 @@ fn reads_one_piece_too_many(rt: HostRuntime) {
     );
 }
 
-/// Returns the fault of a reading whose reader fails at one read, the number of failures that the source counted, and
-/// the number of reads.
+/// Returns the fault of a reading whose reader fails at one read, the failures of the source, and the reads.
 fn read_failing(alloc: Global, kind: ErrorKind, fails_at: u64) -> (Option<ReadFault>, u64, u64) {
     let reads = AtomicU64::new(0);
     let rest = b"3\n1\n5 5 5\n".as_slice();

@@ -16,15 +16,11 @@ fn reads_to_the_end(rt: HostRuntime) {
     assert_eq!(rt; source.failures(), 0);
 }
 
-/// Returns the number of points of the cube file, read byte by byte where the read with this number fails, or the
-/// fault, and the number of failures that the source counted.
+/// Returns the number of points of the cube file, or its fault, where one read fails, and the failures of the source.
 fn read_failing(alloc: Global, fails_at: u64) -> (Result<usize, ReadFault>, u64) {
     let mut source = FailSource::new(CUBE.as_bytes(), 1, Some(fails_at));
     let outcome = read_from(alloc, &mut source);
-    let count = match outcome {
-        Ok(points) => Ok(points.len()),
-        Err(fault) => Err(fault),
-    };
+    let count = outcome.map(|points| points.len());
     (count, source.failures())
 }
 
@@ -44,13 +40,8 @@ fn tells_a_failing_read(rt: HostRuntime) {
 fn goes_on_after_a_fault_of_the_text(rt: HostRuntime) {
     let mut source = FailSource::new(b"x\n1 2 3\n", 2, Some(4));
     let outcome = read_from(rt.alloc(), &mut source);
-    assert_fault(
-        &rt,
-        outcome,
-        ReadFault::Device,
-        "a fault",
-        Way::FailingRead(4),
-    );
+    let way = Way::FailingRead(4);
+    assert_fault(&rt, outcome, ReadFault::Device, "a fault", way);
 }
 
 #[test]

@@ -3,13 +3,12 @@
 //! A segment contains points only after the end of its first line, and only from numbers that are followed by eleven
 //! bytes, so these texts are longer than those of the other rows.
 use super::{Place, Way, assert_fault, assert_points, joined, off, rows};
+use qh_fixtures::{Host, table};
 use qh_model::{Form, Point};
 use qh_read::fakes::{FailSource, Spaces};
 use qh_read::{MemSource, ReadFault, Sizes, Source, read_form_sizes, read_form_threads};
 use std::alloc::{AllocError, Global};
-use std::process::Abort;
 use std::test::Fail;
-use std::thread::Threads;
 
 /// A line for each point, in every layout.
 const LINES: [&str; 24] = [
@@ -82,42 +81,18 @@ const FACES: &str =
     "4 0 1 2 3\n4 0 1 2 3\n4 0 1 2 3\n4 0 1 2 3\n4 0 1 2 3\n4 0 1 2 3\n4 0 1 2 3\n4 0 1 2 3\n4 0 1 2 3\n4 0 1 2 3\n";
 
 /// Sizes of a few bytes.
-const SMALL: [Sizes; 6] = [
-    Sizes {
-        start: 0,
-        batch: 1,
-        segments: 2,
-    },
-    Sizes {
-        start: 0,
-        batch: 16,
-        segments: 1,
-    },
-    Sizes {
-        start: 16,
-        batch: 64,
-        segments: 1,
-    },
-    Sizes {
-        start: 0,
-        batch: 151,
-        segments: 2,
-    },
-    Sizes {
-        start: 7,
-        batch: 230,
-        segments: 3,
-    },
-    Sizes {
-        start: 0,
-        batch: 4096,
-        segments: 4,
-    },
+const SMALL: [Sizes; 6] = table![
+    Sizes { start: 0, batch: 1, segments: 2 };
+    Sizes { start: 0, batch: 16, segments: 1 };
+    Sizes { start: 16, batch: 64, segments: 1 };
+    Sizes { start: 0, batch: 151, segments: 2 };
+    Sizes { start: 7, batch: 230, segments: 3 };
+    Sizes { start: 0, batch: 4096, segments: 4 };
 ];
 
 /// Returns the result of reading these bytes in these sizes.
-fn read_sizes<R: Threads + Sync>(
-    rt: &R,
+pub fn read_sizes(
+    rt: &impl Host,
     alloc: Global,
     form: Form,
     bytes: &[u8],
@@ -137,8 +112,8 @@ fn with_line(alloc: Global, header: &str, place: usize, line: &str) -> Result<Ve
 }
 
 /// Asserts the points of a text, in each of the small sizes.
-pub fn assert_read_in_sizes<R: AllocGlobal + Abort + Threads + Sync>(
-    rt: &R,
+pub fn assert_read_in_sizes(
+    rt: &impl Host,
     form: Form,
     bytes: &[u8],
     places: &[Place],
@@ -151,34 +126,21 @@ pub fn assert_read_in_sizes<R: AllocGlobal + Abort + Threads + Sync>(
 }
 
 /// Asserts the first fault of a text, in each of some sizes.
-fn assert_refused<R: AllocGlobal + Abort + Threads + Sync>(
-    rt: &R,
-    form: Form,
-    bytes: &[u8],
-    fault: ReadFault,
-    all: &[Sizes],
-) {
+fn assert_refused(rt: &impl Host, form: Form, bytes: &[u8], fault: ReadFault, all: &[Sizes]) {
     for sizes in all {
         let outcome = read_sizes(rt, rt.alloc(), form, bytes, *sizes);
         assert_fault(rt, outcome, fault, "by threads", Way::Pieces(sizes.batch));
     }
 }
 
-/// Asserts the first fault of each text, in small sizes.
-fn assert_all_refused<R: AllocGlobal + Abort + Threads + Sync>(
-    rt: &R,
-    form: Form,
-    rows: &[(&str, ReadFault)],
-) {
-    for (text, fault) in rows {
-        assert_refused(rt, form, text.as_bytes(), *fault, &SMALL);
-    }
-}
-
 #[test]
 fn finds_faults_of_rows_in_any_sizes(rt: HostRuntime) {
-    assert_all_refused(&rt, Form::Qhull, &rows::REFUSED);
-    assert_all_refused(&rt, Form::Off, &off::REFUSED);
+    for (text, fault) in rows::REFUSED {
+        assert_refused(&rt, Form::Qhull, text.as_bytes(), fault, &SMALL);
+    }
+    for (text, fault) in off::REFUSED {
+        assert_refused(&rt, Form::Off, text.as_bytes(), fault, &SMALL);
+    }
 }
 
 #[test]
@@ -227,21 +189,15 @@ fn tells_points_too_few_or_too_many(rt: HostRuntime) -> Result<(), Fail> {
 /// Returns the lines between two texts.
 fn between(alloc: Global, front: &[&str], back: &str) -> Result<Vec<u8>, AllocError> {
     let mut bytes = joined(alloc, front)?;
-    for line in &LINES {
-        bytes.extend_from_slice(line.as_bytes())?;
-    }
+    bytes.extend_from_slice(&joined(alloc, &LINES)?)?;
     bytes.extend_from_slice(back.as_bytes())?;
     Ok(bytes)
 }
 
 #[test]
 fn reads_no_comment_and_no_face(rt: HostRuntime) -> Result<(), Fail> {
-    let commented = with_line(
-        rt.alloc(),
-        "3\n24\n",
-        0,
-        "0 -1 0 x 1 1 1 1 1 1 1 1 1 1 1 1 1 1 1 1 1 1 1 1 1 1 1 1 1 1 1\n",
-    )?;
+    let line = "0 -1 0 x 1 1 1 1 1 1 1 1 1 1 1 1 1 1 1 1 1 1 1 1 1 1 1 1 1 1 1\n";
+    let commented = with_line(rt.alloc(), "3\n24\n", 0, line)?;
     assert_read_in_sizes(&rt, Form::Qhull, &commented, &PLACES, "a comment");
     let long = between(rt.alloc(), &["3\n24\n", LONG_COMMENT, LONG_COMMENT], "")?;
     assert_read_in_sizes(&rt, Form::Qhull, &long, &PLACES, "two long comments");
@@ -250,10 +206,9 @@ fn reads_no_comment_and_no_face(rt: HostRuntime) -> Result<(), Fail> {
     Ok(())
 }
 
-/// Returns the result of reading one point byte by byte in batches of four, where the read with this number fails, and
-/// the number of failures that the source counted.
-fn read_failing<R: Threads + Sync>(
-    rt: &R,
+/// Returns the result of reading one point in batches of four where one read fails, and the failures of the source.
+fn read_failing(
+    rt: &impl Host,
     alloc: Global,
     fails_at: u64,
 ) -> (Result<Vec<Point>, ReadFault>, u64) {

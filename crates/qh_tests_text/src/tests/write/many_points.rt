@@ -1,6 +1,7 @@
 //! The text of a hull with few vertices among many points, whose numbers are found by search.
 ghost use Rattle.std.specs.Prelude.{◌≡◌, ◌<◌, [], ◌∷◌, IfOk, length};
 
+use qh_fixtures::files::TETRAHEDRON_OFF;
 use qh_model::{Body, Hull, Id, Memory, Point, Polygon};
 use qh_write::{Out, text};
 use std::alloc::{AllocError, Global};
@@ -63,6 +64,6 @@ fn numbers_few_vertices_of_many_points(rt: HostRuntime) -> Result<(), Fail> {
     let hull = hull(rt.alloc())?;
     let pts = points(rt.alloc())?;
     let texts = text(rt.alloc(), &hull, &pts, &[Out::Off])?;
-    assert_eq!(rt; texts.as_slice(), super::TETRAHEDRON.as_bytes());
+    assert_eq!(rt; texts.as_slice(), TETRAHEDRON_OFF.as_bytes());
     Ok(())
 }

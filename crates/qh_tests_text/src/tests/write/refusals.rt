@@ -2,7 +2,9 @@
 //! result when it is repeated. `scripts/trials/refusals.py` makes each allocation fail in turn.
 ghost use Rattle.std.specs.Prelude.{◌≡◌, [], ◌∷◌, IfOk};
 
-use qh_model::{Body, Hull, Id, Memory, Point, Polygon};
+use super::flat_hull;
+use qh_fixtures::{again, points, table};
+use qh_model::{Hull, Id, Memory};
 use qh_write::{MemSink, Out, Sink, send, text};
 use std::alloc::Global;
 use std::test::Fail;
@@ -11,59 +13,20 @@ use std::test::Fail;
 fn square(alloc: Global) -> Result<Hull, Memory>
     ensures { IfOk result (λ h. h.body.extremes ≡ 0 ∷ 1 ∷ 2 ∷ 3 ∷ []) }
 {
-    let corners = [Id::new(0), Id::new(1), Id::new(2), Id::new(3)];
-    let extremes = Vec::from_array(alloc, corners)?;
-    let face = Vec::from_array(alloc, corners)?;
-    let mut polygons = Vec::new(alloc);
-    polygons.push(Polygon::of(face))?;
-    let body = Body {
-        dim: 2,
-        extremes,
-        polygons,
-        edges: 4,
-    };
-    Ok(Hull {
-        given: 5,
-        distinct: 5,
-        body,
-    })
+    flat_hull(alloc, &[0, 1, 2, 3].map(Id::new), 2, 5, 4)
 }
 
-const OUTS: [Out; 5] = [
-    Out::Rank,
-    Out::Summary,
-    Out::Fx,
-    Out::Off,
-    Out::OffTriangles,
+const OUTS: [Out; 5] = table![
+    Out::Rank; Out::Summary; Out::Fx; Out::Off; Out::OffTriangles;
 ];
 
 const SQUARE_TEXT: &str =
     "5 5 2\nConvex hull of 5 points in 3-d:\n  dimension: 2\n  distinct points: 5\n  extreme points: 4\n  facets: 1\n  edges: 4\n4\n0\n1\n2\n3\nOFF\n4 1 4\n0 0 0\n2 0 0\n2 2 0\n0 2 0\n4 0 1 2 3\nOFF\n4 2 5\n0 0 0\n2 0 0\n2 2 0\n0 2 0\n3 0 1 2\n3 0 2 3\n";
 
-/// Returns the same hull. Repeats the call if an allocation failed.
-fn square_again(alloc: Global) -> Result<Hull, Memory>
-    ensures { IfOk result (λ h. h.body.extremes ≡ 0 ∷ 1 ∷ 2 ∷ 3 ∷ []) }
-{
-    match square(alloc) {
-        Err(Memory) => square(alloc),
-        hull => hull,
-    }
-}
-
-/// Returns all texts of that hull. Repeats the call if an allocation failed.
+/// Returns all texts of that hull. Repeats each call if an allocation failed.
 fn texts_again(alloc: Global) -> Result<Vec<u8>, Memory> {
-    let pts = [
-        Point::new(0, 0, 0),
-        Point::new(2, 0, 0),
-        Point::new(2, 2, 0),
-        Point::new(0, 2, 0),
-        Point::new(1, 1, 0),
-    ];
-    let hull = square_again(alloc)?;
-    match text(alloc, &hull, &pts, &OUTS) {
-        Err(Memory) => text(alloc, &hull, &pts, &OUTS),
-        texts => texts,
-    }
+    let hull = again!(square(alloc), Memory)?;
+    again!(text(alloc, &hull, &points::square(), &OUTS), Memory)
 }
 
 #[test]
@@ -73,8 +36,7 @@ fn tries_again_for_texts(rt: HostRuntime) -> Result<(), Fail> {
     Ok(())
 }
 
-/// Returns true if a memory sink receives all bytes that are sent. If an allocation fails, the failure is counted once,
-/// no byte is kept, and the call is repeated.
+/// Returns true if a memory sink receives all bytes; a failed allocation counts once, and the call is repeated.
 fn sends_again(alloc: Global, bytes: &[u8]) -> bool {
     let mut sink = MemSink::new(alloc);
     if send(&mut sink, bytes).is_err() {

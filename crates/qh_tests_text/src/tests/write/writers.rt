@@ -1,8 +1,8 @@
 //! A sink over a writer of std: the calls of the writer, and its failures.
+use qh_fixtures::Host;
 use qh_write::{SendFault, Sink, StdSink, send};
 use std::io;
 use std::io::{ErrorKind, Write};
-use std::process::Abort;
 use std::sync::atomic::{AtomicU64, Ordering};
 
 /// The behaviour of a writer.
@@ -98,8 +98,7 @@ fn fails_to_flush(kind: ErrorKind) -> Manner {
     }
 }
 
-/// Returns the result of sending bytes to a writer, the number of failures of the sink, and the calls that the writer
-/// received.
+/// Returns the result of sending bytes to a writer, the failures of the sink, and the calls of the writer.
 fn calls_of(manner: Manner, bytes: &[u8]) -> (Result<(), SendFault>, u64, [u64; 4]) {
     let calls = Calls::none();
     let mut sink = StdSink::new(Counting {
@@ -111,8 +110,8 @@ fn calls_of(manner: Manner, bytes: &[u8]) -> (Result<(), SendFault>, u64, [u64; 
 }
 
 /// Asserts the result of sending bytes to a writer, and the calls that the writer received.
-fn assert_calls<R: Abort>(
-    rt: &R,
+fn assert_calls(
+    rt: &impl Host,
     manner: Manner,
     bytes: &[u8],
     want: Result<(), SendFault>,
