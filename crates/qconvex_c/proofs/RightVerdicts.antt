@@ -7,7 +7,7 @@ use Rattle.qh_model.proofs.{DistinctIds.distinct_apart, Members.in_at, hulls.Uni
 use Rattle.qh_check.specs.contract.{Surfaces.IsHullSurface, Judging.IsJudgement, Judging.IsTold, Judging.IsStrangeFace}
 use Rattle.qh_check.specs.contract.Naming.{AreNamed, AreNamedFaces, IsNamed}
 use Rattle.qh_check.specs.declared.fault.FaceFault.TheVariants.{NoPlane, Above, OtherFace}
-use Rattle.qh_check.specs.declared.flaw.SurfaceVerdict.TheVariants.{Right, OtherPolygons, NoPiece, Open, Twice}
+use Rattle.qh_check.specs.declared.verdict.SurfaceVerdict.TheVariants.{Right, OtherPolygons, NoPiece, Open, Twice}
 use Rattle.qh_check.specs.declared.judgement.Judgement.{Judgement, TheVariants.Told, TheVariants.Stranger}
 use Rattle.qconvex_c.specs.contract.Checked.{AreFacesIn, AreHullFaces, IsVerdictOn, verdict_of}
 use Rattle.qconvex_c.specs.{contract.Codes.QCONVEX_RIGHT, declared.verdict.Verdict.Verdict}

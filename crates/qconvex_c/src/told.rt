@@ -1,7 +1,7 @@
 //! Converts judgements on faces to the numbers that C uses.
 ghost use Rattle.std.specs.Prelude.{◌≡◌, ◌≤◌, ◌<◌, IfOk, length};
 ghost use Rattle.std.specs.List.{All};
-ghost use Rattle.qh_check.specs.declared.flaw.SurfaceVerdict.TheVariants.{NoPiece};
+ghost use Rattle.qh_check.specs.declared.verdict.SurfaceVerdict.TheVariants.{NoPiece};
 ghost use Rattle.qh_check.specs.declared.judgement.Judgement.TheVariants.{Told};
 ghost use Rattle.qh_model.specs.{contract.Places.IsPlace, declared.limits.TheConstants.POINT_LIMIT};
 ghost use Rattle.qconvex_c.specs.contract.Checked.{IsVerdictOn, of_kind, on_edge, on_face, verdict_of};

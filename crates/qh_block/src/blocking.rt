@@ -22,12 +22,6 @@ pub const BLOCK_ALONE: usize = 65_536;
 /// The calling thread alone divides sets of more ids than this. Two blocks gain nothing.
 pub const WHOLE_ALONE: usize = 2 * BLOCK_ALONE;
 
-/// A block is joined to the following blocks if the interior filter kept fewer ids of it than this.
-///
-/// Most of a few ids are extreme, and their hull saves nothing. Blocks of 1,024 ids took longer, with one worker and
-/// with several.
-pub const LEAST_LEFT: usize = 4_096;
-
 /// Returns true if at most half of the ids are extreme, so that hulling parts first pays.
 ///
 /// If most ids are extreme, each division computes the hull of nearly all ids once more.

@@ -4,6 +4,7 @@ ghost use Rattle.qh_model.specs.contract.IdSets.{IsIdSet, AreIndices};
 ghost use Rattle.qh_model.specs.headline.{Hull.AreExtremes, Hull.IsBody, Predicates.place, Sets.Members};
 ghost use Rattle.qh_block.specs.steps.IdSets.{AreExtremesOf, IsHullOf};
 
+use crate::blocking::{TELLING, are_few};
 use crate::bodies::{flat_body, polygon_of};
 use crate::flat_sets::{polygon_hull, segment_hull};
 use crate::gathered::{ids_at, positions_below};
@@ -93,6 +94,23 @@ pub fn extremes(alloc: Global, pts: &[Point], ids: &[Id]) -> Result<Vec<Id>, Mem
         Some(outer) => extremes_of_all(alloc, IdSet { pts, ids: &outer }),
         None => extremes_of_all(alloc, set),
     }
+}
+
+/// Returns true if a set has more than `TELLING` ids, and at most half of the first `TELLING` are extreme among these.
+/// Then most ids of the set are likely to be inside.
+///
+/// # Errors
+///
+/// `Memory` if an allocation failed.
+pub fn few_are_extreme(alloc: Global, pts: &[Point], ids: &[Id]) -> Result<bool, Memory>
+    requires { AreIndices pts.now ids.now }
+{
+    if ids.len() <= TELLING {
+        return Ok(false);
+    }
+    let (sample, _) = ids.split_at(TELLING);
+    let found = extremes(alloc, pts, sample)?;
+    Ok(are_few(found.len(), TELLING))
 }
 
 /// Returns the hull of a set: its dimension, its extreme ids, its faces and the number of its edges.

@@ -1,7 +1,7 @@
 //! The interior filter, which drops points inside a large set before Quickhull sees them.
 //!
-//! [`cull_alone`] is the filter by the calling thread, [`cull_interior`] that by several. A single thread first drops what
-//! lies in the box between a few points of the set ([`CornerBox`](crate::regions::CornerBox)).
+//! [`cull_alone`] is the filter by the calling thread, [`cull_interior`] that by several threads. `cull_alone` first drops
+//! what lies in a box between a few points of the set ([`CornerBox`](crate::regions::CornerBox)).
 //!
 //! Planes close under those of the hull of a small sample of the set (`sample`) cut each column of a grid into
 //! cells. The few planes near a cell decide which of its points are strictly inside the hull of the sample. Those

@@ -9,8 +9,8 @@
 //! [`regions`]). `qh_surface` makes the surface. A walk finds the triangles of one plane (`plane_walk`), and `faces` makes
 //! the polygon from them. `qh_bodies` sorts the faces and counts their edges, and `solids` makes the hull from them.
 //! `gathered` puts the points of a set next to each other. `blocking` has the rules of how a set is divided, for this
-//! crate and those above. `segment` finds the ends of a line, `normals` the side from which a polygon is seen, and
-//! `bodies` makes the hulls of flat sets.
+//! crate and those above. `flat_sets` makes the hulls of sets in a line or a plane, by `segment`, which finds the ends of a
+//! line, and `normals`, the side from which a polygon is seen.
 #![tactic(auto)]
 
 mod blocking;
@@ -26,8 +26,8 @@ pub mod regions;
 mod segment;
 mod solids;
 
-pub use blocking::{BLOCK_ALONE, LEAST_LEFT, TELLING, WHOLE_ALONE, are_few, block_size, tree_pays};
+pub use blocking::{BLOCK_ALONE, TELLING, WHOLE_ALONE, are_few, block_size, tree_pays};
 pub use faces::{PartedFaces, parted_faces};
-pub use hulls::{extremes, extremes_unculled, hull};
+pub use hulls::{extremes, extremes_unculled, few_are_extreme, hull};
 pub use interior::cull_interior;
 pub use qh_surface::surface;

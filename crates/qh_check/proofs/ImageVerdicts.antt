@@ -10,8 +10,8 @@ use Rattle.qh_lattice.proofs.SameHulls.{image_keeps, image_set}
 use Rattle.qh_check.specs.contract.{Claims.IsFaceFault, Pieces.BeginsWith, Pieces.IsOfPlane, Pieces.IsPiece}
 use Rattle.qh_check.specs.contract.{Surfaces.IsHullSurface, Surfaces.IsSurfaceReason, Surfaces.IsSurfaceVerdictOf, Naming.AreNamed, Naming.AreNamedFaces}
 use Rattle.qh_check.specs.declared.fault.FaceFault.{FaceFault, TheVariants.NoPlane, TheVariants.Above, TheVariants.OtherFace}
-use Rattle.qh_check.specs.declared.flaw.SurfaceVerdict.{SurfaceVerdict}
-use Rattle.qh_check.specs.declared.flaw.SurfaceVerdict.TheVariants.{Right, OtherPolygons, NoPiece, Open, Twice}
+use Rattle.qh_check.specs.declared.verdict.SurfaceVerdict.{SurfaceVerdict}
+use Rattle.qh_check.specs.declared.verdict.SurfaceVerdict.TheVariants.{Right, OtherPolygons, NoPiece, Open, Twice}
 use Rattle.qh_check.specs.steps.Corners.{HaveCornersIn}
 
 -- ---- polygons of members

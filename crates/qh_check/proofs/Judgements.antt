@@ -3,7 +3,7 @@ use Rattle.std.proofs.Common.{ℕ, List}
 use Rattle.qh_model.specs.{contract.IdSets.IsIdSet, headline.DistinctIds.AreDistinctIds, headline.Vector.Vector}
 use Rattle.qh_plane.proofs.DistinctLists.{id_set}
 use Rattle.qh_check.specs.contract.{Surfaces.IsSurfaceVerdictOf, Judging.IsTold, Naming.AreNamedFaces}
-use Rattle.qh_check.specs.declared.flaw.SurfaceVerdict.{SurfaceVerdict}
+use Rattle.qh_check.specs.declared.verdict.SurfaceVerdict.{SurfaceVerdict}
 
 -- distinct ids are ids of distinct points, so the verdict on the polygons is the verdict on the faces
 pub told : (pts named : List Vector) (faces : List (List ℕ)) (ids : List ℕ) (polygons : List (List ℕ)) (v : SurfaceVerdict)

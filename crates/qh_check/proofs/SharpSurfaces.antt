@@ -3,7 +3,7 @@ use Rattle.std.proofs.Common.{ℕ, List, [], ◌∷◌, arith, refl, sym, subst,
 use Rattle.qh_model.specs.{contract.ClosedSurface.Triple, headline.Vector.Vector, headline.Predicates.place, headline.Sets.Members}
 use Rattle.qh_laws.specs.contract.LocallyConvex.{IsRound}
 use Rattle.qh_check.specs.contract.{SharpSurface.IsSharpSurface, SharpSurface.IsTriangleFace, Pieces.IsMetRound, Pieces.IsPiece}
-use Rattle.qh_check.specs.{contract.Surfaces.IsHullSurface, contract.Surfaces.IsSurfaceVerdictOf, declared.flaw.SurfaceVerdict.TheVariants.Right}
+use Rattle.qh_check.specs.{contract.Surfaces.IsHullSurface, contract.Surfaces.IsSurfaceVerdictOf, declared.verdict.SurfaceVerdict.TheVariants.Right}
 
 -- a walk round a triangle from any of its corners meets all corners
 met_round : (t : Triple) (u v w : ℕ) → IsRound t u v w → IsMetRound (t.i ∷ t.j ∷ t.k ∷ []) (u ∷ v ∷ w ∷ [])

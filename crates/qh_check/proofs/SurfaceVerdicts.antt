@@ -5,8 +5,8 @@ use Rattle.qh_model.specs.headline.{Predicates.place, Sets.Members, Dimension.Is
 use Rattle.qh_model.proofs.Members.{All-In, In-get_or}
 use Rattle.qh_check.specs.contract.Claims.{ArePolygonsOf}
 use Rattle.qh_check.specs.contract.Surfaces.{IsFaceSurface, IsHullSurface, IsSurfaceReason, IsSurfaceVerdictOf}
-use Rattle.qh_check.specs.declared.{findings.Finding.Finding, flaw.SurfaceVerdict.SurfaceVerdict}
-use Rattle.qh_check.specs.declared.flaw.SurfaceVerdict.TheVariants.{Right, OtherPolygons, NoPiece, Open, Twice}
+use Rattle.qh_check.specs.declared.{findings.Finding.Finding, verdict.SurfaceVerdict.SurfaceVerdict}
+use Rattle.qh_check.specs.declared.verdict.SurfaceVerdict.TheVariants.{Right, OtherPolygons, NoPiece, Open, Twice}
 use Rattle.qh_check.specs.steps.{Faces.IsFaceOf, Findings.IsFound}
 use Rattle.qh_bodies.specs.contract.OpenSteps.{IsOpen}
 use Rattle.qh_check.proofs.Pieces.{no_piece}

@@ -8,9 +8,12 @@ use qh_model::{Id, Point, Polygon};
 ///
 /// The caller ensures that the ids rise and have distinct points (`IsIdSet`).
 #[derive(Clone, Copy, Drop)]
-pub struct Claim<'a> {
+pub struct ClaimedPolygons<'a> {
+    /// The points.
     pub pts: &'a [Point],
+    /// The ids of the set.
     pub ids: &'a [Id],
+    /// The polygons, which may be any lists of ids.
     pub polygons: &'a [Polygon],
     ghost some: { 0 < length ids.now },
     ghost indices: { AreIndices pts.now ids.now },

@@ -3,7 +3,7 @@ ghost use Rattle.std.specs.Prelude.{◌≡◌, ◌↔◌, IfOk, IsTrue};
 ghost use Rattle.qh_model.specs.{contract.IdSets.IsIdSet, headline.Predicates.place, headline.Sets.Members};
 ghost use Rattle.qh_check.specs.contract.Claims.{ArePolygonsOf};
 
-use crate::claim::Claim;
+use crate::claim::ClaimedPolygons;
 use crate::faces::are_same;
 use qh_block::hull;
 use qh_model::{Memory, Polygon};
@@ -25,7 +25,7 @@ fn are_same_polygons(polygons: &[Polygon], others: &[Polygon]) -> bool
 }
 
 /// Returns true if polygons are those of the hull of a set.
-pub(crate) fn are_polygons_of(alloc: Global, claim: Claim) -> Result<bool, Memory>
+pub(crate) fn are_polygons_of(alloc: Global, claim: ClaimedPolygons) -> Result<bool, Memory>
     ensures { IfOk result (λ b. IsIdSet claim.entry.pts.now claim.entry.ids.now → IsTrue b
         ↔ ArePolygonsOf (place claim.entry.pts.now) (Members claim.entry.ids.now) claim.entry.polygons.now) }
 {

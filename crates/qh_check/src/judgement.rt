@@ -2,7 +2,7 @@
 ghost use Rattle.std.specs.Prelude.{Some};
 ghost use Rattle.qh_check.specs.contract.Texts.{judgement_text};
 
-use crate::flaw::SurfaceVerdict;
+use crate::verdict::SurfaceVerdict;
 use std::fmt;
 
 /// A judgement on faces.

@@ -3,7 +3,7 @@ ghost use Rattle.std.specs.Prelude.{◌<◌, ◌≤◌, IfOk, length};
 ghost use Rattle.qh_model.specs.{declared.limits.TheConstants.POINT_LIMIT, headline.DistinctIds.AreDistinctIds};
 ghost use Rattle.qh_check.specs.contract.Judging.{IsJudgement};
 
-use crate::claim::Claim;
+use crate::claim::ClaimedPolygons;
 use crate::judgement::Judgement;
 use crate::mapped::verdict_on;
 use crate::naming::polygons_of;
@@ -27,7 +27,7 @@ fn judge_distinct(
     ensures { IfOk result (IsJudgement pts.now named.now faces.now) }
 {
     if are_own(pts, ids, named, faces) {
-        let claim = Claim {
+        let claim = ClaimedPolygons {
             pts,
             ids,
             polygons: faces,
@@ -37,7 +37,7 @@ fn judge_distinct(
     }
     match polygons_of(alloc, pts, ids, named, faces)? {
         Ok(polygons) => {
-            let claim = Claim {
+            let claim = ClaimedPolygons {
                 pts,
                 ids,
                 polygons: &polygons,

@@ -1,11 +1,11 @@
-//! The search for a polygon that is no piece of a face. The hull is computed, and each polygon is looked up in it. The
-//! first polygon that is not found is tested by its plane, so a fault costs no more than one test of each point.
+//! The search for the first polygon that is no piece of a face. The hull is computed, and each polygon is looked up in
+//! it. A polygon that is not found is tested by its plane.
 ghost use Rattle.std.specs.{Prelude.IfOk, Prelude.MatchOption, List.All};
 ghost use Rattle.qh_model.specs.{contract.IdSets.IsIdSet, headline.Dimension.IsDimension, headline.Predicates.place};
 ghost use Rattle.qh_model.specs.headline.Sets.{Members};
 ghost use Rattle.qh_check.specs.steps.{Faces.IsFaceOf, Faces.IsFaultOf, Findings.IsFound, Findings.IsSeen};
 
-use crate::claim::Claim;
+use crate::claim::ClaimedPolygons;
 use crate::face_table::FaceTable;
 use crate::faces::fault_of;
 use crate::fault::FaceFault;
@@ -19,7 +19,7 @@ use std::alloc::Global;
 /// scratch for its corners.
 fn fault_beside(
     alloc: Global,
-    claim: Claim,
+    claim: ClaimedPolygons,
     faces: &[Polygon],
     table: &FaceTable,
     polygon: &Polygon,
@@ -40,7 +40,11 @@ fn fault_beside(
 
 /// Returns a polygon of a claim that is no piece of a face of the hull, if there is one. The faces of the hull are
 /// given.
-fn fault_among(alloc: Global, claim: Claim, faces: &[Polygon]) -> Result<Option<Finding>, Memory>
+fn fault_among(
+    alloc: Global,
+    claim: ClaimedPolygons,
+    faces: &[Polygon],
+) -> Result<Option<Finding>, Memory>
     ensures { IfOk result (λ found. MatchOption found
         (All (IsSeen claim.entry.pts.now claim.entry.ids.now faces.now) claim.entry.polygons.now)
         (IsFound claim.entry.pts.now claim.entry.ids.now claim.entry.polygons.now)) }
@@ -58,7 +62,7 @@ fn fault_among(alloc: Global, claim: Claim, faces: &[Polygon]) -> Result<Option<
 }
 
 /// Returns a polygon of a claim that is no piece of a face of its set, if there is one. The set is a solid.
-pub(crate) fn find_fault(alloc: Global, claim: Claim) -> Result<Option<Finding>, Memory>
+pub(crate) fn find_fault(alloc: Global, claim: ClaimedPolygons) -> Result<Option<Finding>, Memory>
     ensures { IfOk result (λ found. IsIdSet claim.entry.pts.now claim.entry.ids.now
         → IsDimension (place claim.entry.pts.now) (Members claim.entry.ids.now) 3
         → MatchOption found (All (IsFaceOf claim.entry.pts.now claim.entry.ids.now) claim.entry.polygons.now)

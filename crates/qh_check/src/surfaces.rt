@@ -5,10 +5,10 @@ ghost use Rattle.qh_model.specs.{contract.IdSets.IsIdSet, headline.Dimension.IsD
 ghost use Rattle.qh_model.specs.headline.{Sets.Members, Vector.Vector};
 ghost use Rattle.qh_check.specs.{contract.Surfaces.IsSurfaceVerdictOf, steps.Faces.IsFaceOf};
 
-use crate::claim::Claim;
+use crate::claim::ClaimedPolygons;
 use crate::claims::are_polygons_of;
-use crate::flaw::SurfaceVerdict;
 use crate::search::find_fault;
+use crate::verdict::SurfaceVerdict;
 use qh_bodies::{open_step, repeated_step};
 use qh_model::{Memory, Polygon};
 use qh_polygon::{Shape, rank};
@@ -30,7 +30,7 @@ fn judge_steps(alloc: Global, polygons: &[Polygon]) -> Result<SurfaceVerdict, Me
 }
 
 /// Checks polygons of a solid set. There is at least one polygon.
-fn check_solid_surface(alloc: Global, claim: Claim) -> Result<SurfaceVerdict, Memory>
+fn check_solid_surface(alloc: Global, claim: ClaimedPolygons) -> Result<SurfaceVerdict, Memory>
     requires { 0 < length claim.polygons.now }
     ensures { IfOk result (λ v. IsIdSet claim.entry.pts.now claim.entry.ids.now
         → IsDimension (place claim.entry.pts.now) (Members claim.entry.ids.now) 3
@@ -43,7 +43,7 @@ fn check_solid_surface(alloc: Global, claim: Claim) -> Result<SurfaceVerdict, Me
 }
 
 /// Checks polygons of a set that is not solid.
-fn compare_surface(alloc: Global, claim: Claim) -> Result<SurfaceVerdict, Memory>
+fn compare_surface(alloc: Global, claim: ClaimedPolygons) -> Result<SurfaceVerdict, Memory>
     ensures { IfOk result (λ v. IsIdSet claim.entry.pts.now claim.entry.ids.now
         → ¬ (IsDimension (place claim.entry.pts.now) (Members claim.entry.ids.now) 3)
         → IsSurfaceVerdictOf claim.entry.pts.now claim.entry.ids.now claim.entry.polygons.now v) }
@@ -61,7 +61,7 @@ fn compare_surface(alloc: Global, claim: Claim) -> Result<SurfaceVerdict, Memory
 ///
 /// The verdict is `Right` exactly if the polygons are a closed surface. Otherwise it names a fault: first a polygon
 /// that is no piece of a face, then an open edge, then a step that is taken twice. If several polygons are no pieces,
-/// it names the first.
+/// it names the first. `OtherPolygons` is the fault of a solid set without any polygon, and of every set that is not solid.
 ///
 /// It computes the hull of the set, looks up each polygon in it, and tests the plane of a polygon that is not found
 /// there. So it takes little longer than the hull, whatever the fault.
@@ -71,7 +71,7 @@ fn compare_surface(alloc: Global, claim: Claim) -> Result<SurfaceVerdict, Memory
 /// `Memory` if an allocation failed.
 ///
 /// Source: this project's own.
-pub fn check_surface(alloc: Global, claim: Claim) -> Result<SurfaceVerdict, Memory>
+pub fn check_surface(alloc: Global, claim: ClaimedPolygons) -> Result<SurfaceVerdict, Memory>
     ensures { IfOk result (λ v. IsIdSet claim.entry.pts.now claim.entry.ids.now
         → IsSurfaceVerdictOf claim.entry.pts.now claim.entry.ids.now claim.entry.polygons.now v) }
 {

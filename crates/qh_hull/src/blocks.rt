@@ -4,7 +4,7 @@ ghost use Rattle.std.specs.Prelude.{◌<◌, IfOk, length};
 ghost use Rattle.qh_model.specs.{contract.IdSets.AreIndices, contract.IdSets.IsIdSet, headline.Hull.IsBody};
 ghost use Rattle.qh_model.specs.{headline.Predicates.place, headline.Sets.Members, laws.HullLaws.HasExtremes};
 
-use qh_block::{BLOCK_ALONE, TELLING, WHOLE_ALONE, are_few, extremes, hull};
+use qh_block::{BLOCK_ALONE, WHOLE_ALONE, are_few, extremes, few_are_extreme, hull};
 use qh_lattice::reduced;
 use qh_model::{Body, Id, Memory, Point};
 use qh_polygon::rising_ids;
@@ -14,12 +14,7 @@ use std::alloc::Global;
 fn blocks_pay(alloc: Global, pts: &[Point], ids: &[Id]) -> Result<bool, Memory>
     requires { AreIndices pts.now ids.now }
 {
-    if ids.len() <= WHOLE_ALONE {
-        return Ok(false);
-    }
-    let (sample, _) = ids.split_at(TELLING);
-    let found = extremes(alloc, pts, sample)?;
-    Ok(are_few(found.len(), TELLING))
+    Ok(ids.len() > WHOLE_ALONE && few_are_extreme(alloc, pts, ids)?)
 }
 
 /// Returns the ids that are extreme in their block, and all ids after the first block in which most ids are extreme.

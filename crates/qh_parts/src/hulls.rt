@@ -5,9 +5,9 @@ ghost use Rattle.qh_model.specs.headline.{Predicates.place, Sets.Members};
 
 use crate::joining::hull_of_parts;
 use crate::pieces::parts_along_curve;
-use qh_block::{TELLING, are_few, extremes, hull};
+use qh_block::{few_are_extreme, hull};
 use qh_model::{Body, Id, Memory, Point};
-use qh_parts_guess::gap::is_worth_parting;
+use qh_parts_guess::gap::{is_worth_parting, trial_sample};
 use std::alloc::Global;
 use std::thread::Threads;
 
@@ -37,16 +37,17 @@ pub struct Parting {
     pub seams: Seams,
 }
 
-/// Returns true if few ids appear to be extreme, judged by the first ones. A hull by one thread drops the others early.
-fn few_stand_out(alloc: Global, pts: &[Point], ids: &[Id]) -> Result<bool, Memory>
-    requires { AreIndices pts.now ids.now }
+/// Returns true if dividing a set into `count` parts is likely to pay.
+fn parts_pay(alloc: Global, pts: &[Point], ids: &[Id], count: usize) -> Result<bool, Memory>
+    requires some { 0 < length ids.now }
+    requires indices { AreIndices pts.now ids.now }
 {
-    if ids.len() <= TELLING {
-        return Ok(false);
+    let sampled = trial_sample(alloc, pts, ids)?;
+    if sampled.is_empty() {
+        return Ok(true);
     }
-    let (sample, _) = ids.split_at(TELLING);
-    let found = extremes(alloc, pts, sample)?;
-    Ok(are_few(found.len(), TELLING))
+    let body = hull(alloc, pts, &sampled)?;
+    is_worth_parting(alloc, pts, sampled, &body, count)
 }
 
 /// Returns the hull of a set by parts of it, however small it is. Returns `None` if the attempt fails: a part lies in a
@@ -97,17 +98,14 @@ pub fn hull_in_parts<R: Threads>(
     requires indices { AreIndices pts.now ids.now }
     ensures { IfOk result (λ b. IsIdSet pts.now ids.now → IsBody (place pts.now) (Members ids.now) b) }
 {
-    if workers < LEAST_WORKERS || ids.len() < LARGE {
-        return hull(alloc, pts, ids);
-    }
-    if few_stand_out(alloc, pts, ids)? {
+    if workers < LEAST_WORKERS || ids.len() < LARGE || few_are_extreme(alloc, pts, ids)? {
         return hull(alloc, pts, ids);
     }
     let parting = Parting {
         parts: PARTS.min(workers as usize),
         seams: Seams::WhereTheyPay,
     };
-    if !is_worth_parting(alloc, pts, ids, parting.parts)? {
+    if !parts_pay(alloc, pts, ids, parting.parts)? {
         return hull(alloc, pts, ids);
     }
     match hull_by_parts(rt, alloc, pts, ids, workers, parting)? {

@@ -4,11 +4,13 @@ ghost use Rattle.qh_parts_join.specs.contract.Parts.{IsPartOf};
 ghost use Rattle.qh_parts.specs.steps.{Given.AreGivenOf, Kept.HaveKept};
 
 use crate::given::{Given, given_in_threads};
+use qh_block::hull;
 use qh_bodies::UnsortedFaces;
-use qh_model::{Id, Memory, Polygon};
+use qh_model::{Id, Memory, Point, Polygon};
 use qh_parts_guess::Outline;
-use qh_parts_guess::gap::bridge_over;
+use qh_parts_guess::gap::{Border, bridge_over, indices_among};
 use qh_parts_join::{Divided, Part, kept_ids};
+use qh_polygon::rising_ids;
 use std::alloc::Global;
 use std::thread::{Threads, join};
 
@@ -38,6 +40,21 @@ fn merged_if_kept(
     };
     let merged = faces.merged()?;
     Ok(Some(merged))
+}
+
+/// Returns the polygons that close the gap between borders, from the hull of the ids of the seam. It is a guess.
+fn bridges_between(
+    alloc: Global,
+    pts: &[Point],
+    borders: &[Border],
+    seam: &[Id],
+) -> Result<Option<Vec<Polygon>>, Memory> {
+    let ids = indices_among(alloc, pts, &rising_ids(alloc, seam)?)?;
+    if ids.is_empty() {
+        return Ok(Some(Vec::new(alloc)));
+    }
+    let body = hull(alloc, pts, &ids)?;
+    Ok(bridge_over(alloc, body.polygons, borders)?)
 }
 
 /// Returns the faces that the parts of a set contribute, with those between them; `None` if the attempt fails. One
@@ -72,7 +89,7 @@ pub(crate) fn joint_of<R: Threads>(
             ensures same { IfOk result (λ found. IfSome found (IsPermutation faces)) }
             ensures kept { IfOk result (λ found. IfSome found (λ _. HaveKept parts.entry.now shared.entry.now ids.entry.now)) }
         { merged_if_kept(alloc, parts, shared, ids, faces) },
-        || -> Result<Option<Vec<Polygon>>, Memory> { bridge_over(alloc, pts, &borders, &seam) },
+        || -> Result<Option<Vec<Polygon>>, Memory> { bridges_between(alloc, pts, &borders, &seam) },
     );
     let Some(bridges) = bridges? else {
         return Ok(None);

@@ -12,7 +12,7 @@ use std::thread::Threads;
 
 /// A list of ids that is cut into pieces of one size, the last perhaps shorter, with ids that belong to every piece.
 #[derive(Clone, Copy, Drop)]
-pub(crate) struct Pieces<'a> {
+pub(crate) struct CurvePieces<'a> {
     pub pts: &'a [Point],
     pub listed: &'a [Id],
     pub shared: &'a [Id],
@@ -33,7 +33,7 @@ pub(crate) fn are_indices(pts: &[Point], ids: &[Id]) -> bool
     true
 }
 
-impl Pieces<'_> {
+impl CurvePieces<'_> {
     /// Returns the part of the piece with this number, if its points do not lie in one plane.
     fn part(self, alloc: Global, number: usize) -> Result<Option<Part>, Memory>
         ensures { IfOk result (λ found. IfSome found (IsPartOf self.entry.pts.now self.entry.shared.now)) }
@@ -50,7 +50,7 @@ impl Pieces<'_> {
 /// Returns the parts in results; `None` if a result has no part.
 fn all_parts(
     alloc: Global,
-    pieces: Pieces,
+    pieces: CurvePieces,
     mut made: Vec<Result<Option<Part>, Memory>>,
 ) -> Result<Option<Vec<Part>>, Memory>
     requires { All (λ r. IfOk r (λ found. IfSome found (IsPartOf pieces.pts.now pieces.shared.now))) made.items }
@@ -71,7 +71,7 @@ fn all_parts(
 pub(crate) fn parts_in_threads<R: Threads>(
     rt: &R,
     alloc: Global,
-    pieces: Pieces,
+    pieces: CurvePieces,
     count: usize,
 ) -> Result<Option<Vec<Part>>, Memory>
     ensures { IfOk result (λ found. IfSome found (λ v. All (IsPartOf pieces.entry.pts.now pieces.entry.shared.now) v.items)) }
@@ -121,7 +121,7 @@ pub(crate) fn parts_along_curve<R: Threads>(
         return Ok(None);
     }
     let count = count.max(1);
-    let pieces = Pieces {
+    let pieces = CurvePieces {
         pts,
         listed: &listed,
         shared: &shared,

@@ -5,7 +5,7 @@ use qh_model::Point;
 /// Points between two corners of a box, given by its middle and half its extents, that reach no further than
 /// `reach` beyond the middle along a direction of length 1.
 #[derive(Clone, Copy, Drop)]
-pub(crate) struct Block {
+pub(crate) struct BoundingVolume {
     pub middle: Vector,
     pub half: Vector,
     pub way: Vector,
@@ -14,14 +14,14 @@ pub(crate) struct Block {
 
 /// The corners of a box: the least and the greatest coordinates of points.
 #[derive(Clone, Copy, Drop)]
-struct Bounds {
+struct BoxCorners {
     low: Vector,
     high: Vector,
 }
 
-impl Bounds {
+impl BoxCorners {
     /// Returns the bounds of points.
-    fn around(points: &[Point]) -> Bounds {
+    fn around(points: &[Point]) -> BoxCorners {
         let [mut west, mut south, mut bottom] = [i32::MAX; 3];
         let [mut east, mut north, mut top] = [i32::MIN; 3];
         for point in points {
@@ -32,23 +32,23 @@ impl Bounds {
             bottom = bottom.min(point.z());
             top = top.max(point.z());
         }
-        Bounds {
+        BoxCorners {
             low: Vector::of(west, south, bottom),
             high: Vector::of(east, north, top),
         }
     }
 }
 
-impl Block {
+impl BoundingVolume {
     /// Returns the block of points for a direction of length 1, or for the zero vector.
-    pub fn around(points: &[Point], way: Vector) -> Block {
-        let bounds = Bounds::around(points);
+    pub fn around(points: &[Point], way: Vector) -> BoundingVolume {
+        let bounds = BoxCorners::around(points);
         let middle = bounds.high.plus(bounds.low).times(0.5);
         let mut reach = -f64::INFINITY;
         for point in points {
             reach = reach.max(way.dot(Vector::to(*point).minus(middle)));
         }
-        Block {
+        BoundingVolume {
             middle,
             half: bounds.high.minus(bounds.low).times(0.5),
             way,

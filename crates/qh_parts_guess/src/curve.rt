@@ -12,6 +12,6 @@ mod cells;
 mod ranges;
 mod shared;
 
-pub use cells::Cell;
+pub use cells::CurveCell;
 pub use ranges::along_curve;
 pub use shared::shared_ids;

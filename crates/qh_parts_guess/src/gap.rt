@@ -13,5 +13,5 @@ mod nearness;
 mod trial;
 
 pub use edges::{Border, border_of};
-pub use flood::bridge_over;
-pub use trial::is_worth_parting;
+pub use flood::{bridge_over, indices_among};
+pub use trial::{is_worth_parting, trial_sample};

@@ -1,5 +1,5 @@
 //! The outline of a part: its own corners in their order, with a hierarchy of blocks over them.
-use crate::blocks::Block;
+use crate::blocks::BoundingVolume;
 use crate::sights::Sight;
 use crate::vector::Vector;
 use qh_model::Point;
@@ -23,12 +23,12 @@ const LEVELS: u32 = 8;
 #[derive(Drop)]
 pub struct Outline {
     points: Vec<Point>,
-    levels: Vec<Vec<Block>>,
+    levels: Vec<Vec<BoundingVolume>>,
 }
 
 /// A block of an outline.
 #[derive(Clone, Copy, Drop)]
-pub(crate) struct Cursor {
+pub(crate) struct BlockCursor {
     level: usize,
     index: usize,
 }
@@ -71,7 +71,7 @@ fn level_over(
     points: &[Point],
     ways: &[Vector],
     level: u32,
-) -> Result<Vec<Block>, AllocError> {
+) -> Result<Vec<BoundingVolume>, AllocError> {
     let size = size_at(level);
     let mut blocks = Vec::new(alloc);
     for number in 0..points.len() {
@@ -79,7 +79,7 @@ fn level_over(
         if own.is_empty() {
             break;
         }
-        blocks.push(Block::around(own, way_at(ways, size, number)))?;
+        blocks.push(BoundingVolume::around(own, way_at(ways, size, number)))?;
     }
     Ok(blocks)
 }
@@ -114,27 +114,27 @@ impl Outline {
     }
 
     /// Returns the first block of the highest level.
-    pub(crate) fn top(&self) -> Cursor {
-        Cursor {
+    pub(crate) fn top(&self) -> BlockCursor {
+        BlockCursor {
             level: self.levels.len().saturating_sub(1),
             index: 0,
         }
     }
 
     /// Returns the block at a cursor, if there is one.
-    pub(crate) fn block(&self, cursor: Cursor) -> Option<&Block> {
+    pub(crate) fn block(&self, cursor: BlockCursor) -> Option<&BoundingVolume> {
         self.levels.get(cursor.level)?.get(cursor.index)
     }
 
     /// Returns the points of a block.
-    pub(crate) fn points_of(&self, cursor: Cursor) -> &[Point] {
+    pub(crate) fn points_of(&self, cursor: BlockCursor) -> &[Point] {
         let level = u32::try_from(cursor.level).unwrap_or(LEVELS);
         piece(&self.points, size_at(level), cursor.index)
     }
 
     /// Returns the largest block that begins after all points of a block.
-    pub(crate) fn after(&self, cursor: Cursor) -> Cursor {
-        let mut next = Cursor {
+    pub(crate) fn after(&self, cursor: BlockCursor) -> BlockCursor {
+        let mut next = BlockCursor {
             level: cursor.level,
             index: cursor.index.saturating_add(1),
         };
@@ -142,7 +142,7 @@ impl Outline {
             if next.index % BRANCHES != 0 {
                 break;
             }
-            next = Cursor {
+            next = BlockCursor {
                 level: next.level.saturating_add(1),
                 index: next.index / BRANCHES,
             };
@@ -152,7 +152,7 @@ impl Outline {
 
     /// Returns true if all points of a block of the lowest level are strictly below a plane, and the budget is not
     /// exhausted.
-    fn are_hidden(&self, cursor: Cursor, sight: &Sight, budget: &mut Budget) -> bool {
+    fn are_hidden(&self, cursor: BlockCursor, sight: &Sight, budget: &mut Budget) -> bool {
         let own = self.points_of(cursor);
         budget.spend(own.len()) && own.iter().all(|point| sight.hides(*point))
     }
@@ -181,11 +181,11 @@ impl Outline {
     }
 }
 
-impl Cursor {
+impl BlockCursor {
     /// Returns the first block inside a block, unless that is of the lowest level.
-    pub fn first_within(self) -> Option<Cursor> {
+    pub fn first_within(self) -> Option<BlockCursor> {
         let level = self.level.checked_sub(1)?;
-        Some(Cursor {
+        Some(BlockCursor {
             level,
             index: self.index.saturating_mul(BRANCHES),
         })

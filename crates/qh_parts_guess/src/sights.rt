@@ -1,5 +1,5 @@
 //! Planes of facets, and tests for blocks that lie wholly on one side of them.
-use crate::blocks::Block;
+use crate::blocks::BoundingVolume;
 use crate::vector::Vector;
 use qh_model::Point;
 use qh_pred::Plane;
@@ -52,14 +52,14 @@ impl Sight {
     }
 
     /// Returns true if all points of a block are shown to lie strictly above the plane.
-    pub fn sees_all(&self, block: &Block) -> bool {
+    pub fn sees_all(&self, block: &BoundingVolume) -> bool {
         let height = self.normal.dot(block.middle) - self.offset;
         height - self.normal.most_within(block.half) > self.slack
     }
 
     /// Returns true if all points of a block are shown to lie strictly below the plane: by the box alone, or by the
     /// reach of the points along the block's direction, multiplied so that the rest of the normal is least.
-    pub fn hides_all(&self, block: &Block) -> bool {
+    pub fn hides_all(&self, block: &BoundingVolume) -> bool {
         let height = self.normal.dot(block.middle) - self.offset;
         if height + self.normal.most_within(block.half) < -self.slack {
             return true;

@@ -21,7 +21,7 @@ const LOOKED_FOR_EACH: u32 = 384;
 
 /// The number of tested facets, and the number of removed ones among them.
 #[derive(Clone, Copy, Drop)]
-struct Tally {
+struct FacetTally {
     asked: usize,
     gone: usize,
 }
@@ -31,9 +31,9 @@ fn first_sight(facets: Facets, place: usize) -> Option<Sight> {
     facets.sight(facets.first_from(place)?)
 }
 
-impl Tally {
+impl FacetTally {
     /// Returns the tally after testing some facets of a part, until the budget is exhausted.
-    fn with(self, part: &Part, others: Others, budget: &mut Budget) -> Tally {
+    fn with(self, part: &Part, others: Others, budget: &mut Budget) -> FacetTally {
         let facets = Facets::of(&part.surface);
         let step = facets.places() / ASKED + 1;
         let mut tally = self;
@@ -66,7 +66,7 @@ pub(crate) fn is_worth_above(few: usize, set: Divided, outlines: &[Outline]) -> 
     if corner_count(set) <= few {
         return false;
     }
-    let mut tally = Tally { asked: 0, gone: 0 };
+    let mut tally = FacetTally { asked: 0, gone: 0 };
     let mut budget = Budget::for_each(set.parts.len().saturating_mul(ASKED), LOOKED_FOR_EACH);
     for number in 0..set.parts.len() {
         let others = Others { outlines, number };

@@ -17,13 +17,16 @@ use qh_surface::starts::Simplex;
 use qh_surface::{NamedMesh, surface_along};
 use std::alloc::{AllocError, Global};
 
-/// A part of a set: its ids, rising, their finished mesh, and the corners of the mesh that are not shared ids. The
-/// corners are in the order in which the ids were listed, with their points by blocks.
+/// A part of a set, with its finished mesh.
 #[derive(Drop)]
 pub struct Part {
+    /// The ids of the part, rising.
     pub ids: Vec<Id>,
+    /// Their finished mesh.
     pub surface: NamedMesh,
+    /// The corners of the mesh that are not shared ids, in the order in which the ids were listed.
     pub own: Vec<Id>,
+    /// The points of these corners, by blocks.
     pub places: Places,
 }
 

@@ -12,11 +12,3 @@ root_stands pts ids bounds found distinct cut whole right = record {
   within = right_within pts ids bounds (InSpan (block_count bounds) 1) found right;
   hull = λ b h. hull_of_root pts ids bounds found b distinct cut whole right h;
 }
-
--- if a part has the hull of the ids, ids with the hull of the part have that of all ids
-pub part_stands : (pts : List Vector) (ids part found : List ℕ) → StandsFor pts ids part → StandsFor pts part found → StandsFor pts ids found
-part_stands pts ids part found one two = record {
-  rising = two.rising;
-  within = λ i m. one.within i (two.within i m);
-  hull = λ b h. one.hull b (two.hull b h);
-}

@@ -9,8 +9,8 @@ use std::alloc::Global;
 
 /// Is notified of the blocks of a run, from the workers' threads, and takes the hull at its end.
 ///
-/// The blocks are those of the cut after the interior filter: blocks with few ids left are put together. A pass that gives
-/// up claims no more of them.
+/// The blocks are those of the cut that the run was given. A pass gives up where the tree does not pay, and claims no more
+/// of them then.
 ///
 /// A gate may block the thread that calls it. No other worker waits for that thread.
 pub trait Gate: Sync {

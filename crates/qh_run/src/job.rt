@@ -1,5 +1,4 @@
-//! The points of a list, their distinct ids and a cut of these: what `run_hull` starts from, and the spans of a board
-//! that a caller works at by `work`.
+//! The points of a list, their distinct ids and a cut of these: the spans of a board at which a caller works by `work`.
 ghost use Rattle.std.specs.Prelude.{◌≡◌, length};
 ghost use Rattle.qh_model.specs.contract.{Cut.block_count, Cut.positions, RightValue.RightValue};
 ghost use Rattle.qh_model.specs.headline.DistinctIds.{AreDistinctIds};
@@ -13,8 +12,11 @@ use std::alloc::Global;
 /// The points, their distinct ids, rising, as `qh_plane::distinct` returns them, and a cut of the ids' positions.
 #[derive(Drop)]
 pub struct Job<'a> {
+    /// The points.
     pub pts: &'a [Point],
+    /// Their distinct ids.
     pub ids: &'a [Id],
+    /// A cut of the positions of the ids.
     pub cut: &'a Cut,
     ghost distinct: { ∥ AreDistinctIds pts.now ids.now ∥₁ },
     ghost whole: { positions cut.now ≡ length ids.now },

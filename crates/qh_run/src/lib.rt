@@ -3,8 +3,8 @@
 //! [`run_hull`] puts the blocks on a board of `qh_board`, a combining tree. Workers claim blocks and deliver their
 //! extreme ids. The second pass that arrives at a node takes the extreme ids of the union of both children's lists: an
 //! id that is not extreme in its part is not extreme in the whole. The calling thread takes the hull of the ids at the
-//! root or, if a worker gave up, of all ids that remain after the filter. So the hull is the same for every cut, every
-//! number of workers and every order of their steps. [`work`] is the same for a board of a [`Job`] that a caller makes.
+//! root or, if a worker gave up, of all ids. So the hull is the same for every cut, every number of workers and every order
+//! of their steps. [`run_body`] is the same for any set of ids, and [`work`] for a board of a [`Job`] that a caller makes.
 //!
 //! A [`Gate`] is notified of the blocks, and takes that hull; [`NoGate`] ignores the blocks.
 //!
@@ -12,7 +12,6 @@
 #![tactic(auto)]
 
 mod blocks;
-mod filtered;
 mod gate;
 mod job;
 mod passes;
@@ -26,5 +25,5 @@ mod worker;
 pub use blocks::Extremes;
 pub use gate::{Gate, NoGate};
 pub use job::Job;
-pub use run::{RunError, run_hull};
+pub use run::{RunError, run_body, run_hull};
 pub use worker::work;

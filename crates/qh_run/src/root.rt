@@ -3,16 +3,14 @@ ghost use Rattle.std.specs.Prelude.{◌≡◌, ◌↔◌, ◌<◌, All, IfOk, If
 ghost use Rattle.qh_model.specs.contract.BoardMachine.{InSpan};
 ghost use Rattle.qh_board.specs.declared.view.Mark.TheVariants as marks;
 ghost use Rattle.qh_board.specs.contract.Tokens.{IsRightAt};
-ghost use Rattle.qh_model.specs.contract.IdSets.{AreIndices, IsIdSet};
 ghost use Rattle.qh_run.specs.steps.{Parts.StandsFor, Turns.IsWorked};
 
 use crate::blocks::Blocks;
-use crate::filtered::{Filtered, without_interior};
 use crate::gate::Gate;
 use crate::passes::run_passes;
 use crate::reduction::Reduction;
 use qh_board::{Board, BoardError, Left, Spans};
-use qh_model::{Id, Point};
+use qh_model::Id;
 use std::alloc::Global;
 use std::thread::Threads;
 
@@ -47,80 +45,23 @@ fn reduced<S: Reduction, R: Threads + Sync, G: Gate>(
     Ok(root_of(board, lefts))
 }
 
-/// Returns the extreme ids of a set, as the workers find them in its blocks, or `None` if a worker gave up. There are
-/// no more workers than blocks.
-fn root_ids<R: Threads + Sync, G: Gate>(
+/// Returns the extreme ids of a set, as the workers find them in its blocks. Returns `None` if a worker gave up, or if
+/// an allocation for the board or a thread failed. There are no more workers than blocks.
+pub(crate) fn root_ids<R: Threads + Sync, G: Gate>(
     rt: &R,
     alloc: Global,
     set: Blocks,
     workers: u32,
     gate: &G,
-) -> Result<Option<Vec<Id>>, BoardError>
+) -> Option<Vec<Id>>
     requires { 0 < workers }
-    ensures some { IfOk result (λ r. IfSome r (λ ids. 0 < length ids.items)) }
-    ensures stand { IfOk result (λ r. IfSome r (λ ids. StandsFor set.entry.pts.now set.entry.ids.now ids.items)) }
-{
-    let passes = workers.min(set.cut.blocks());
-    match reduced(rt, alloc, set, passes, gate)? {
-        Some(root) => Ok(Some(root.ids)),
-        None => Ok(None),
-    }
-}
-
-/// Returns ids whose hull is that of the ids that remain after the interior filter: the extreme ones, as the workers
-/// find them in the blocks, or all remaining ids if a worker gave up. Returns `None` if an allocation for the board or
-/// a thread failed.
-fn ids_of_left<R: Threads + Sync, G: Gate>(
-    rt: &R,
-    alloc: Global,
-    pts: &[Point],
-    left: Filtered,
-    workers: u32,
-    gate: &G,
-) -> Option<Vec<Id>>
-    requires workers { 0 < workers }
-    requires some { 0 < length left.ids.items }
-    requires indices { AreIndices pts.now left.ids.items }
-    requires set { IsIdSet pts.now left.ids.items }
-    ensures some { IfSome result (λ ids. 0 < length ids.items) }
-    ensures stand { IfSome result (λ ids. StandsFor pts.now left.ids.items ids.items) }
-{
-    let set = Blocks {
-        pts,
-        ids: &left.ids,
-        cut: &left.cut,
-    };
-    match root_ids(rt, alloc, set, workers, gate) {
-        Ok(Some(ids)) => Some(ids),
-        Ok(None) => Some(left.ids),
-        Err(_) => None,
-    }
-}
-
-/// Returns ids whose hull is that of a set's ids: the extreme ones, as the workers find them in its blocks, each
-/// without the points that the interior filter removes. If a worker gave up, returns all ids that remain after the
-/// filter.
-///
-/// Returns `None` if a worker gave up and the filter removes nothing, or if an allocation for the filter, the board or
-/// a thread failed.
-pub(crate) fn ids_by_tree<R: Threads + Sync, G: Gate>(
-    rt: &R,
-    alloc: Global,
-    set: Blocks,
-    workers: u32,
-    gate: &G,
-) -> Option<Vec<Id>>
-    requires some { 0 < length set.ids.now }
-    requires workers { 0 < workers }
     ensures some { IfSome result (λ ids. 0 < length ids.items) }
     ensures stand { IfSome result (λ ids. StandsFor set.entry.pts.now set.entry.ids.now ids.items) }
 {
-    match without_interior(rt, alloc, &set, workers) {
-        Ok(Some(left)) => ids_of_left(rt, alloc, set.pts, left, workers, gate),
-        Ok(None) => match root_ids(rt, alloc, set, workers, gate) {
-            Ok(ids) => ids,
-            Err(_) => None,
-        },
+    let passes = workers.min(set.cut.blocks());
+    match reduced(rt, alloc, set, passes, gate) {
+        Ok(Some(root)) => Some(root.ids),
+        Ok(None) => None,
         Err(_) => None,
     }
 }

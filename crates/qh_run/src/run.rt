@@ -6,9 +6,9 @@ ghost use Rattle.qh_model.specs.headline.{DistinctIds.AreDistinctIds, Hull.IsBod
 ghost use Rattle.qh_model.specs.headline.Sets.{Members};
 ghost use Rattle.qh_run.specs.steps.Parts.{StandsFor};
 
+use crate::blocks::Blocks;
 use crate::gate::Gate;
-use crate::job::Job;
-use crate::root::ids_by_tree;
+use crate::root::root_ids;
 use qh_hull::hull_of_body;
 use qh_model::{Body, Cut, Hull, Id, Memory, Point, WORKER_LIMIT};
 use std::alloc::Global;
@@ -34,7 +34,8 @@ impl From<Memory> for RunError {
     }
 }
 
-/// Takes the hull of a job's ids by the gate's `finish`: of ids with the same hull, if there are any, else of all ids.
+/// Takes the hull of a set by the gate's `finish`: that of the found ids, which have the same hull, or that of all ids if
+/// none were found.
 fn finished<G: Gate>(
     alloc: Global,
     pts: &[Point],
@@ -55,23 +56,52 @@ fn finished<G: Gate>(
     }
 }
 
-/// Returns the hull of a list of points. Blocks with few ids left after the interior filter are put together, and a pass
-/// gives up where the tree does not pay.
+/// Returns the hull of a set of ids. A pass gives up where the tree does not pay.
 ///
-/// `ids` are its distinct ids, rising, as `qh_plane::distinct` returns them, and `cut` is a cut of their positions,
-/// whose number is that of the ids. The list has at most `POINT_LIMIT` points. The caller ensures these conditions.
+/// `ids` are indices of points, rising, with distinct points (`IsIdSet`), and `cut` is a cut of their positions, whose
+/// number is that of the ids. The caller ensures these conditions.
 ///
-/// The calling thread filters a large set first: it removes interior points from the blocks
-/// (`qh_block::cull_interior`), and joins a block with few remaining ids to those after it. The workers share the
-/// blocks, at most one worker for each block, and the gate is notified of each block. Then the calling thread calls the
-/// gate's `finish` once: with the extreme ids of all blocks; if a worker gave up, with the ids that remain after the
-/// filter; if an allocation for the filter, the board or a thread failed, with all ids. The result does not depend on
-/// the cut, nor on the number of workers or the order of their steps.
+/// The workers share the blocks, at most one worker for each block, and the gate is notified of each block. Then the
+/// calling thread calls the gate's `finish` once: with the extreme ids of all blocks, or with all ids if a worker gave
+/// up or if an allocation for the board or a thread failed. The result does not depend on the cut, nor on the number of
+/// workers or the order of their steps.
 ///
 /// # Errors
 ///
 /// `BadWorkers` for a number of workers that is not from 1 to `WORKER_LIMIT`, before all other errors; `Memory` exactly
 /// if the gate's `finish` returns it. Any other allocation that fails only costs the help of the workers.
+pub fn run_body<R: Threads + Sync, G: Gate>(
+    rt: &R,
+    alloc: Global,
+    pts: &[Point],
+    ids: &[Id],
+    cut: &Cut,
+    workers: u32,
+    gate: &G,
+) -> Result<Body, RunError>
+    requires some { 0 < length ids.now }
+    requires indices { AreIndices pts.now ids.now }
+    requires set { IsIdSet pts.now ids.now }
+    requires cut { positions cut.now ≡ length ids.now }
+    ensures body { IfOk result (λ b. IsBody (place pts.now) (Members ids.now) b) }
+    ensures workers { IsErrOf result RunError.BadWorkers ↔ ¬ ((1 ≤ workers) × (workers ≤ WORKER_LIMIT)) }
+{
+    if workers < 1 || workers > WORKER_LIMIT {
+        return Err(RunError::BadWorkers);
+    }
+    let found = root_ids(rt, alloc, Blocks { pts, ids, cut }, workers, gate);
+    Ok(finished(alloc, pts, ids, &found, gate)?)
+}
+
+/// Returns the hull of a list of points, that of its distinct ids as [`run_body`] takes it.
+///
+/// `ids` are its distinct ids, rising, as `qh_plane::distinct` returns them, and `cut` is a cut of their positions,
+/// whose number is that of the ids. The list has at most `POINT_LIMIT` points. The caller ensures these conditions.
+///
+/// # Errors
+///
+/// `BadWorkers` for a number of workers that is not from 1 to `WORKER_LIMIT`, before all other errors; `Memory` exactly
+/// if the gate's `finish` returns it.
 pub fn run_hull<R: Threads + Sync, G: Gate>(
     rt: &R,
     alloc: Global,
@@ -88,11 +118,6 @@ pub fn run_hull<R: Threads + Sync, G: Gate>(
     ensures hull { IfOk result (λ h. IsHull pts.now h) }
     ensures workers { IsErrOf result RunError.BadWorkers ↔ ¬ ((1 ≤ workers) × (workers ≤ WORKER_LIMIT)) }
 {
-    if workers < 1 || workers > WORKER_LIMIT {
-        return Err(RunError::BadWorkers);
-    }
-    let job = Job { pts, ids, cut };
-    let found = ids_by_tree(rt, alloc, job.blocks_of(), workers, gate);
-    let body = finished(alloc, pts, ids, &found, gate)?;
+    let body = run_body(rt, alloc, pts, ids, cut, workers, gate)?;
     Ok(hull_of_body(pts, ids, body))
 }

@@ -1,88 +1,23 @@
 //! The answer to an input: the texts of its hull.
 ghost use Rattle.std.specs.Prelude.{◌≡◌, ◌≢◌, ◌<◌, ◌≤◌, IfOk, IfErr, Err, length};
-ghost use Rattle.qh_model.specs.contract.Cut.{positions};
 ghost use Rattle.qh_model.specs.declared.limits.TheConstants.{BYTE_LIMIT, POINT_LIMIT};
-ghost use Rattle.qh_model.specs.headline.{DistinctIds.AreDistinctIds, Forms.ReadsIn, Hull.IsHull, Text.IsText};
+ghost use Rattle.qh_model.specs.headline.{DistinctIds.AreDistinctIds, Forms.ReadsIn, Text.IsText};
 ghost use Rattle.qh_model.specs.declared.read_fault.ReadFault.TheVariants as reads;
 ghost use Rattle.qh_read.specs.contract.ReadFaults.{IsFaultOf};
 ghost use Rattle.qh_serve.specs.headline.Answers.{IsAnswer, IsAnswerFault};
 ghost use Rattle.qh_write.specs.contract.Pieces.{bytes_in};
 
 use crate::fault::Fault;
+use crate::hulls::hull_of;
 use crate::ranks::{are_all_ranks, rank_text};
 use crate::settings::Settings;
-use qh_block::block_size;
-use qh_lattice::reduced;
-use qh_model::{BYTE_LIMIT, Cut, CutError, Hull, Id, Memory, Point};
+use qh_model::{BYTE_LIMIT, Id, Memory, Point};
 use qh_plane::distinct_in_threads;
 use qh_read::{MemSource, ReadFault, read_form_threads};
-use qh_run::{Gate, RunError, run_hull};
+use qh_run::Gate;
 use qh_write::{Pieces, text_in_threads};
 use std::alloc::Global;
 use std::thread::Threads;
-
-/// Returns the cut of `positions` positions into blocks of the wanted size, or of a greater one if there would be too
-/// many blocks.
-fn even_cut(alloc: Global, count: u32, wanted: u32) -> Result<Cut, Memory>
-    requires some { 0 < count }
-    requires few { count ≤ POINT_LIMIT }
-    requires wanted { 0 < wanted }
-    ensures { IfOk result (λ c. positions c ≡ count) }
-{
-    let size = block_size(count, wanted);
-    match Cut::even(alloc, count, size) {
-        Ok(cut) => Ok(cut),
-        Err(CutError::Memory) => Err(Memory),
-        Err(CutError::ZeroSize) => unreachable!(),
-        Err(CutError::TooManyBlocks) => unreachable!(),
-        Err(CutError::BadBounds) => unreachable!(),
-    }
-}
-
-/// Returns the hull of the points without a map, with the number of workers in the settings, observed by the gate.
-fn hull_as_given<R: Threads + Sync, G: Gate>(
-    rt: &R,
-    alloc: Global,
-    pts: &[Point],
-    ids: &[Id],
-    cut: &Cut,
-    settings: &Settings,
-    gate: &G,
-) -> Result<Hull, Memory>
-    requires few { length pts.now ≤ POINT_LIMIT }
-    requires some { 0 < length ids.now }
-    requires distinct { AreDistinctIds pts.now ids.now }
-    requires cut { positions cut.now ≡ length ids.now }
-    ensures { IfOk result (λ h. IsHull pts.now h) }
-{
-    match run_hull(rt, alloc, pts, ids, cut, settings.workers(), gate) {
-        Ok(hull) => Ok(hull),
-        Err(RunError::Memory) => Err(Memory),
-        Err(RunError::BadWorkers) => unreachable!(),
-    }
-}
-
-/// Returns the hull of the points, as `hull_as_given` does, but of images of the points where a map pays.
-fn hull_of<R: Threads + Sync, G: Gate>(
-    rt: &R,
-    alloc: Global,
-    pts: &[Point],
-    ids: &[Id],
-    cut: &Cut,
-    settings: &Settings,
-    gate: &G,
-) -> Result<Hull, Memory>
-    requires few { length pts.now ≤ POINT_LIMIT }
-    requires some { 0 < length ids.now }
-    requires distinct { AreDistinctIds pts.now ids.now }
-    requires cut { positions cut.now ≡ length ids.now }
-    ensures { IfOk result (λ h. IsHull pts.now h) }
-{
-    match reduced(alloc, pts, ids)? {
-        Some(images) => hull_as_given(rt, alloc, &images, ids, cut, settings, gate),
-        None => hull_as_given(rt, alloc, pts, ids, cut, settings, gate),
-    }
-}
 
 /// Returns the texts of the outputs in the settings, from the hull of the points.
 fn hull_text_of<R: Threads + Sync, G: Gate>(
@@ -98,8 +33,7 @@ fn hull_text_of<R: Threads + Sync, G: Gate>(
     requires distinct { AreDistinctIds pts.now ids.now }
     ensures { IfOk result (λ t. IsText pts.now settings.now.outs (bytes_in t)) }
 {
-    let cut = even_cut(alloc, ids.len() as u32, settings.block())?;
-    let hull = hull_of(rt, alloc, pts, ids, &cut, settings, gate)?;
+    let hull = hull_of(rt, alloc, pts, ids, settings, gate)?;
     text_in_threads(rt, alloc, &hull, pts, settings.outs(), settings.threads())
 }
 

@@ -12,6 +12,7 @@
 
 mod answers;
 mod fault;
+mod hulls;
 mod ranks;
 mod serving;
 mod settings;

@@ -83,8 +83,8 @@ impl Settings {
         })
     }
 
-    /// Returns the same settings, limited to this number of processors: no phase starts more threads, except those of
-    /// `run_hull`, its interior filter and its workers.
+    /// Returns the same settings, limited to this number of processors: no phase starts more threads, except the passes
+    /// of the workers.
     pub fn on_processors(self, processors: usize) -> Settings
         ensures { result ≡ self }
     {

@@ -3,7 +3,7 @@ use Rattle.std.specs.Prelude.{ℕ, ◌≡◌, ◌+◌, ◌<◌, List, [], length
 use Rattle.qh_model.specs.headline.{DistinctIds.AreDistinctIds, Predicates.place, Sets.Members, Vector.Vector}
 use Rattle.qh_check.specs.contract.{Surfaces.IsHullSurface, Judging.IsJudgement, Naming.AreNamedFaces}
 use Rattle.qh_check.specs.declared.fault.FaceFault.TheVariants.{NoPlane, Above, OtherFace}
-use Rattle.qh_check.specs.declared.flaw.SurfaceVerdict.TheVariants.{Right, OtherPolygons, NoPiece, Open, Twice}
+use Rattle.qh_check.specs.declared.verdict.SurfaceVerdict.TheVariants.{Right, OtherPolygons, NoPiece, Open, Twice}
 use Rattle.qh_check.specs.declared.judgement.Judgement.{Judgement, TheVariants.Told, TheVariants.Stranger}
 use Rattle.qconvex_c.specs.contract.Codes.{QCONVEX_RIGHT, QCONVEX_STRANGER, QCONVEX_NO_PLANE, QCONVEX_ABOVE, QCONVEX_OTHER_FACE, QCONVEX_OPEN, QCONVEX_TWICE}
 use Rattle.qconvex_c.specs.{contract.Codes.QCONVEX_OTHERS, contract.Sets.sets_in, declared.verdict.Verdict.Verdict}

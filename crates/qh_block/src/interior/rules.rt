@@ -62,7 +62,7 @@ pub fn round_of_all(count: usize) -> Round {
     }
 }
 
-/// The least number of ids of a set whose corner box a single thread uses.
+/// The least number of ids of a set whose corner box `cull_alone` uses.
 ///
 /// The box of fewer points holds few of them.
 pub const BOX_FROM: usize = 256;

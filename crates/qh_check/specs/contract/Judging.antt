@@ -2,7 +2,7 @@
 use Rattle.std.specs.Prelude.{ℕ, ◌≡◌, ◌<◌, ◌↔◌, List, [], length, slice_index_or}
 use Rattle.qh_model.specs.headline.{Vector.Vector, DistinctIds.AreDistinctIds, Predicates.place, Sets.Members}
 use Rattle.qh_check.specs.contract.{Surfaces.IsHullSurface, Surfaces.IsSurfaceReason, Naming.AreNamedFaces, Naming.HasStranger}
-use Rattle.qh_check.specs.declared.{flaw.SurfaceVerdict.SurfaceVerdict, flaw.SurfaceVerdict.TheVariants.Right, judgement.Judgement.Judgement}
+use Rattle.qh_check.specs.declared.{verdict.SurfaceVerdict.SurfaceVerdict, verdict.SurfaceVerdict.TheVariants.Right, judgement.Judgement.Judgement}
 use Rattle.qh_check.specs.declared.judgement.Judgement.TheVariants.{Told, Stranger}
 
 -- the verdict is `Right` exactly if the faces, renamed to the distinct ids of the points, are the surface of their hull; and the verdict is true

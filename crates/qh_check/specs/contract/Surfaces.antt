@@ -2,8 +2,8 @@
 use Rattle.std.specs.Prelude.{ℕ, ◌≡◌, ◌<◌, ◌≤◌, ◌⊎◌, ◌↔◌, List, [], length, slice_index_or}
 use Rattle.qh_model.specs.{contract.ClosedPolygons.AreClosed, contract.ClosedPolygons.step_count, headline.Vector.Vector, headline.Dimension.IsDimension}
 use Rattle.qh_model.specs.headline.{Predicates.place, Sets.In, Sets.Members}
-use Rattle.qh_check.specs.{contract.Claims.ArePolygonsOf, contract.Claims.IsFaceFault, contract.Pieces.IsPiece, declared.flaw.SurfaceVerdict.SurfaceVerdict}
-use Rattle.qh_check.specs.declared.flaw.SurfaceVerdict.TheVariants.{Right, OtherPolygons, NoPiece, Open, Twice}
+use Rattle.qh_check.specs.{contract.Claims.ArePolygonsOf, contract.Claims.IsFaceFault, contract.Pieces.IsPiece, declared.verdict.SurfaceVerdict.SurfaceVerdict}
+use Rattle.qh_check.specs.declared.verdict.SurfaceVerdict.TheVariants.{Right, OtherPolygons, NoPiece, Open, Twice}
 use Rattle.qh_bodies.specs.contract.OpenSteps.{IsOpen}
 
 -- pieces of faces, at least one; each step from corner to corner is taken as often as the step back, and only once: exactly two pieces lie at each side

@@ -1,8 +1,8 @@
 -- The text of a judgement for a person, in one line. This project's own.
 use Rattle.std.specs.Prelude.{ℕ, List, ◌++◌, codes, decimal}
 use Rattle.qh_check.specs.declared.fault.FaceFault.{FaceFault, TheVariants.NoPlane, TheVariants.Above, TheVariants.OtherFace}
-use Rattle.qh_check.specs.declared.flaw.SurfaceVerdict.{SurfaceVerdict}
-use Rattle.qh_check.specs.declared.flaw.SurfaceVerdict.TheVariants.{Right, OtherPolygons, NoPiece, Open, Twice}
+use Rattle.qh_check.specs.declared.verdict.SurfaceVerdict.{SurfaceVerdict}
+use Rattle.qh_check.specs.declared.verdict.SurfaceVerdict.TheVariants.{Right, OtherPolygons, NoPiece, Open, Twice}
 use Rattle.qh_check.specs.declared.judgement.Judgement.{Judgement, TheVariants.Told, TheVariants.Stranger}
 
 -- the text of a fault of a face

@@ -50,8 +50,8 @@ fn are_sharp(
 }
 
 /// Checks if polygons are the hull of a set, all of them triangles with an angle at each edge. The contract allows
-/// `false` in every case. The polygons may have any order
-/// and begin at any corner. Ids that are not corners may lie under triangles.
+/// `false` in every case. The polygons may have any order and begin at any corner. Ids that are not corners may lie under
+/// triangles.
 ///
 /// Each id is the index of one of the points. The caller ensures that the ids have distinct points (`IsIdSet`). If the
 /// result is `false`, the polygons may be the hull nevertheless: two triangles may lie in one plane, there may be fewer

@@ -24,7 +24,7 @@ const LARGE_PLACES: u32 = 31;
 
 /// A cell: its places along the three axes of a set.
 #[derive(Clone, Copy, Drop)]
-pub struct Cell {
+pub struct CurveCell {
     x: u32,
     y: u32,
     z: u32,
@@ -32,15 +32,15 @@ pub struct Cell {
 
 /// The number of each larger cell in Hilbert's order, indexed by its number in Morton's order.
 #[derive(Drop)]
-pub(crate) struct Cells {
+pub(crate) struct CellTable {
     turned: Vec<u32>,
 }
 
-impl Cell {
+impl CurveCell {
     /// Returns the cell of a point.
-    pub fn of(axes: &Axes, point: Point) -> Cell {
+    pub fn of(axes: &Axes, point: Point) -> CurveCell {
         let [x, y, z] = axes.places(point, PLACE_BITS);
-        Cell { x, y, z }
+        CurveCell { x, y, z }
     }
 
     /// Returns the number of the cell in Morton's order.
@@ -49,7 +49,7 @@ impl Cell {
     }
 
     /// Returns the cell after the turns that a bit of its places requires. `below` has the bits below it.
-    fn turned_below(self, bit: u32, below: u32) -> Cell {
+    fn turned_below(self, bit: u32, below: u32) -> CurveCell {
         let mut cell = self;
         if cell.x & bit != 0 {
             cell.x ^= below;
@@ -72,7 +72,7 @@ impl Cell {
     }
 
     /// Returns the cell whose number in Morton's order is the number of this larger cell in Hilbert's order.
-    fn turned(self) -> Cell {
+    fn turned(self) -> CurveCell {
         let mut cell = self;
         for level in 1..LARGE_BITS {
             let bit = 1u32.wrapping_shl(LARGE_BITS - level);
@@ -81,7 +81,7 @@ impl Cell {
         cell.y ^= cell.x;
         cell.z ^= cell.y;
         let change = parities(cell.z);
-        Cell {
+        CurveCell {
             x: cell.x ^ change,
             y: cell.y ^ change,
             z: cell.z ^ change,
@@ -101,16 +101,16 @@ fn parities(place: u32) -> u32 {
     change
 }
 
-impl Cells {
+impl CellTable {
     /// Returns the larger cells in Hilbert's order.
     ///
     /// # Errors
     ///
     /// `AllocError` if an allocation failed.
-    pub fn in_order(alloc: Global) -> Result<Cells, AllocError> {
+    pub fn in_order(alloc: Global) -> Result<CellTable, AllocError> {
         let mut turned = vec![in alloc; 0; LARGE_CELLS as usize]?;
         for number in 0..LARGE_CELLS {
-            let large = Cell {
+            let large = CurveCell {
                 x: number & LARGE_PLACES,
                 y: number >> LARGE_BITS & LARGE_PLACES,
                 z: number >> (2 * LARGE_BITS) & LARGE_PLACES,
@@ -119,11 +119,11 @@ impl Cells {
                 *cell = large.turned().interleaved();
             }
         }
-        Ok(Cells { turned })
+        Ok(CellTable { turned })
     }
 
     /// Returns the number of a cell along the curve.
-    pub fn number(&self, cell: Cell) -> u32 {
+    pub fn number(&self, cell: CurveCell) -> u32 {
         let number = cell.interleaved();
         let large = match self.turned.get((number >> INNER_BITS) as usize) {
             Some(turned) => *turned,

@@ -1,5 +1,5 @@
 //! Witnesses for the corners of another part.
-use crate::blocks::Block;
+use crate::blocks::BoundingVolume;
 use crate::cut::cutting::Cutting;
 use crate::cut::facets::Facets;
 use crate::cut::rays::Rays;
@@ -71,7 +71,7 @@ impl<'a> Cover<'a> {
     fn witness_of_all(
         &mut self,
         cutting: &mut Cutting,
-        block: &Block,
+        block: &BoundingVolume,
         own: &[Point],
     ) -> Result<Option<FacetNo>, AllocError> {
         if let Some(f) = self.recent.under_all(block) {

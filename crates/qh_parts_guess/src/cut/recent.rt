@@ -1,5 +1,5 @@
 //! The facets below recent points: most nearby points are above one of these facets, too.
-use crate::blocks::Block;
+use crate::blocks::BoundingVolume;
 use crate::sights::Sight;
 use qh_mesh::FacetNo;
 use qh_model::Point;
@@ -53,7 +53,7 @@ impl Recent {
     }
 
     /// Returns a facet that is below all points of a block.
-    pub fn under_all(&mut self, block: &Block) -> Option<FacetNo> {
+    pub fn under_all(&mut self, block: &BoundingVolume) -> Option<FacetNo> {
         let position = self.seeing.iter().position(|s| s.sight.sees_all(block))?;
         self.moved_up(position)
     }

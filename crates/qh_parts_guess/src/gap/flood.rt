@@ -3,10 +3,8 @@ ghost use Rattle.std.specs.Prelude.{IfOk};
 ghost use Rattle.qh_model.specs.contract.IdSets.{AreIndices};
 
 use crate::gap::edges::{Border, list_edges, open_edges};
-use qh_block::hull;
 use qh_model::keys::Packed;
-use qh_model::{Id, Memory, Point, Polygon};
-use qh_polygon::rising_ids;
+use qh_model::{Id, Point, Polygon};
 use std::alloc::{AllocError, Global};
 
 /// The number of values of a position in a side's key: 2^64.
@@ -14,7 +12,7 @@ const POSITION_ROOM: u128 = 18446744073709551616;
 
 /// The edges of polygons, sorted, each with the position of its polygon.
 #[derive(Drop)]
-struct Sides {
+struct EdgeIndex {
     keys: Vec<u128>,
 }
 
@@ -23,9 +21,9 @@ fn side_key(edge: Packed, position: u64) -> u128 {
     u128::from(edge.high()) << 96 | u128::from(edge.low()) << 64 | u128::from(position)
 }
 
-impl Sides {
+impl EdgeIndex {
     /// Returns the edges of polygons.
-    fn of(alloc: Global, polygons: &[Polygon]) -> Result<Sides, AllocError> {
+    fn of(alloc: Global, polygons: &[Polygon]) -> Result<EdgeIndex, AllocError> {
         let mut keys = Vec::new(alloc);
         let mut edges = Vec::new(alloc);
         for position in 0..polygons.len() {
@@ -36,7 +34,7 @@ impl Sides {
             }
         }
         keys.sort_unstable();
-        Ok(Sides { keys })
+        Ok(EdgeIndex { keys })
     }
 
     /// Returns the position of a polygon that has an edge.
@@ -57,7 +55,7 @@ impl Sides {
 #[derive(Drop)]
 struct Flood<'a> {
     polygons: &'a [Polygon],
-    sides: Sides,
+    sides: EdgeIndex,
     open: &'a [Packed],
     taken: Vec<bool>,
     order: Vec<usize>,
@@ -116,7 +114,7 @@ fn reached(
 ) -> Result<Option<Vec<usize>>, AllocError> {
     let mut flood = Flood {
         polygons,
-        sides: Sides::of(alloc, polygons)?,
+        sides: EdgeIndex::of(alloc, polygons)?,
         open,
         taken: vec![in alloc; false; polygons.len()]?,
         order: Vec::new(alloc),
@@ -127,7 +125,7 @@ fn reached(
 }
 
 /// Returns the ids of a list that are indices of points.
-pub(crate) fn indices_among(alloc: Global, pts: &[Point], ids: &[Id]) -> Result<Vec<Id>, AllocError>
+pub fn indices_among(alloc: Global, pts: &[Point], ids: &[Id]) -> Result<Vec<Id>, AllocError>
     ensures { IfOk result (λ v. AreIndices pts.now v.items) }
 {
     let mut indices = Vec::with_capacity(alloc, ids.len())?;
@@ -154,26 +152,19 @@ fn polygons_at(
     Ok(copies)
 }
 
-/// Returns the polygons that close the gap between borders, from the hull of the ids of the seam, which are all corners
-/// beside the gap. They begin at their least ids, and neighbours mostly follow each other. Returns `None` if the open
-/// edges lead to an edge that no polygon of that hull has. If no border has a polygon, all polygons of that hull are
-/// taken.
+/// Returns the polygons that close the gap between borders, from those of the hull of the ids of the seam, which are all
+/// corners beside the gap. They begin at their least ids, and neighbours mostly follow each other. Returns `None` if the
+/// open edges lead to an edge that no polygon of that hull has. If no border has a polygon, all polygons of that hull
+/// are taken.
 ///
 /// # Errors
 ///
-/// `Memory` if an allocation failed.
+/// `AllocError` if an allocation failed.
 pub fn bridge_over(
     alloc: Global,
-    pts: &[Point],
+    polygons: Vec<Polygon>,
     borders: &[Border],
-    seam: &[Id],
-) -> Result<Option<Vec<Polygon>>, Memory> {
-    let rising = rising_ids(alloc, seam)?;
-    let ids = indices_among(alloc, pts, &rising)?;
-    if ids.is_empty() {
-        return Ok(Some(Vec::new(alloc)));
-    }
-    let polygons = hull(alloc, pts, &ids)?.polygons;
+) -> Result<Option<Vec<Polygon>>, AllocError> {
     if borders.iter().all(|border| border.is_empty()) {
         return Ok(Some(polygons));
     }

@@ -19,19 +19,19 @@ const NEAR_SHARE: usize = 3;
 
 /// The first three corners of a polygon.
 #[derive(Clone, Copy, Drop)]
-struct Corners {
+struct ThreeCorners {
     a: Point,
     b: Point,
     c: Point,
 }
 
-impl Corners {
+impl ThreeCorners {
     /// Returns the first three corners of a polygon, if it has three and all are indices of points.
-    fn of(pts: &[Point], polygon: &Polygon) -> Option<Corners> {
+    fn of(pts: &[Point], polygon: &Polygon) -> Option<ThreeCorners> {
         let [i, j, k, ..] = polygon.ids() else {
             return None;
         };
-        Some(Corners {
+        Some(ThreeCorners {
             a: *pts.get(i.index())?,
             b: *pts.get(j.index())?,
             c: *pts.get(k.index())?,
@@ -52,7 +52,7 @@ pub(crate) fn ways_out(
             continue;
         };
         let place = rising.partition_point(|other| other.number() < first.number());
-        if let (Some(way), Some(corners)) = (ways.get_mut(place), Corners::of(pts, polygon)) {
+        if let (Some(way), Some(corners)) = (ways.get_mut(place), ThreeCorners::of(pts, polygon)) {
             *way = way.plus(Outward::of_triangle(corners.a, corners.b, corners.c));
         }
     }
@@ -81,7 +81,7 @@ pub(crate) fn come_near_few(
         let Some(polygon) = polygons.get(step.saturating_mul(number)) else {
             break;
         };
-        if let Some(corners) = Corners::of(pts, polygon) {
+        if let Some(corners) = ThreeCorners::of(pts, polygon) {
             let plane = Plane::through(corners.a, corners.b, corners.c);
             let near = places.near_planes(alloc, corners.a, &[plane])?;
             asked = asked.saturating_add(1);

@@ -3,14 +3,14 @@
 //! The sample is cut into parts along a curve, as the set would be, and has one hull. The ends of the set are in each
 //! part. A corner is at a seam if a face there has corners in several parts. Large faces, and long ones, put most
 //! corners at seams. A slanted thin set has planes that come near most points (`nearness`).
+ghost use Rattle.std.specs.Prelude.{◌<◌, IfOk, length};
 ghost use Rattle.qh_model.specs.contract.IdSets.{AreIndices};
 
-use crate::curve::Cell;
+use crate::curve::CurveCell;
 use crate::gap::flood::indices_among;
 use crate::gap::nearness::{come_near_few, ways_out};
-use qh_block::hull;
 use qh_model::keys::Packed;
-use qh_model::{Id, Memory, Point, Polygon};
+use qh_model::{Body, Id, Memory, Point, Polygon};
 use qh_places::Outward;
 use qh_polygon::rising_ids;
 use qh_surface::starts::{Axes, ends_of};
@@ -66,7 +66,7 @@ fn keys_by_cell(
             continue;
         }
         if let Some(point) = pts.get(id.index()) {
-            keys.push(Packed::new(Cell::of(&axes, *point).interleaved(), place))?;
+            keys.push(Packed::new(CurveCell::of(&axes, *point).interleaved(), place))?;
         }
     }
     keys.sort_unstable();
@@ -165,8 +165,23 @@ impl Sample {
     }
 }
 
-/// Returns true if dividing a set into `count` parts is likely to pay: at most five in eight of the corners of a sample
-/// are at seams, and the planes of its faces come near few of its points.
+/// Returns a sample of a set, rising: the ends of the set, and ids spread over the whole set. They are indices of points.
+///
+/// # Errors
+///
+/// `Memory` if an allocation failed.
+pub fn trial_sample(alloc: Global, pts: &[Point], ids: &[Id]) -> Result<Vec<Id>, Memory>
+    requires some { 0 < length ids.now }
+    requires indices { AreIndices pts.now ids.now }
+    ensures { IfOk result (λ v. AreIndices pts.now v.items) }
+{
+    let ends = ends_of(pts, ids);
+    let rising = rising_ids(alloc, &spread_with(alloc, ids, &ends)?)?;
+    Ok(indices_among(alloc, pts, &rising)?)
+}
+
+/// Returns true if dividing a set into `count` parts is likely to pay, by the hull of its sample, `trial_sample`: at most
+/// five in eight of the corners are at seams, and the planes of the faces come near few points of the sample.
 ///
 /// # Errors
 ///
@@ -174,21 +189,14 @@ impl Sample {
 pub fn is_worth_parting(
     alloc: Global,
     pts: &[Point],
-    ids: &[Id],
+    sampled: Vec<Id>,
+    body: &Body,
     count: usize,
 ) -> Result<bool, Memory>
-    requires { AreIndices pts.now ids.now }
+    requires some { 0 < length sampled.items }
+    requires indices { AreIndices pts.now sampled.items }
 {
-    if ids.is_empty() {
-        return Ok(true);
-    }
-    let ends = ends_of(pts, ids);
-    let rising = rising_ids(alloc, &spread_with(alloc, ids, &ends)?)?;
-    let sampled = indices_among(alloc, pts, &rising)?;
-    if sampled.is_empty() {
-        return Ok(true);
-    }
-    let body = hull(alloc, pts, &sampled)?;
+    let ends = ends_of(pts, &sampled);
     let keys = keys_by_cell(alloc, pts, &sampled, &ends)?;
     if !are_planes_apart(alloc, pts, &sampled, &keys, &body.polygons)? {
         return Ok(false);

@@ -101,8 +101,9 @@ fn body_of_joined(alloc: Global, faces: UnsortedFaces) -> Result<Option<Body>, M
 /// that are gone, or if two faces are the same; the contract allows it in every case. One worker makes the hull while
 /// the others check the bridges.
 ///
-/// The caller ensures that `given` has the faces stated above, that `given` and the faces that are `gone` together
-/// close up, and that the set is solid; `bridges` may be any polygons. `workers` of 0 counts as one, and then a second
+/// `given` are the faces that the parts contribute, `gone` the faces of the parts that the set does not have, and `bridges`
+/// the polygons that close the gap, which may be any. The caller ensures that each of `given` is a face of the set, as
+/// `body_of_joined` states it, that `given` and `gone` together close up, and that the set is solid. `workers` of 0 counts as one, and then a second
 /// thread runs.
 ///
 /// # Errors

@@ -4,7 +4,7 @@ ghost use Rattle.qh_board.specs.contract.Closings.{closed_setup};
 ghost use Rattle.qh_model.specs.headline.DistinctIds.{AreDistinctIds};
 
 use qh_board::{Board, BoardError, Closed, Mark};
-use qh_fixtures::points::{doubled_cube, octahedron};
+use qh_fixtures::points::{doubled_cube, grid, octahedron, paraboloid};
 use qh_model::{Cut, CutError, Hull, Id, POINT_LIMIT, Point};
 use qh_plane::distinct;
 use qh_run::{Job, NoGate, RunError, run_hull, work};
@@ -21,27 +21,6 @@ const OCTAHEDRON_HULL: [usize; 43] = [
     18, 18, 3, 12, 6, 0, 2, 3, 5, 6, 9, 3, 0, 2, 6, 3, 0, 5, 9, 3, 0, 6, 5, 3, 0, 9, 2, 3, 2, 3, 6,
     3, 2, 9, 3, 3, 3, 5, 6, 3, 3, 9, 5,
 ];
-
-/// Returns the points (x, y, x² + y²) for x below 64 and y below 32: all are extreme.
-fn paraboloid(alloc: Global) -> Result<Vec<Point>, AllocError> {
-    let mut points = Vec::new(alloc);
-    for number in 0..2048u32 {
-        let (x, y) = (number / 32, number % 32);
-        let height = x * x + y * y;
-        points.push(Point::new(x as i32, y as i32, height as i32))?;
-    }
-    Ok(points)
-}
-
-/// Returns the points (x, y, z) for x and y below 16 and z below 8: 8 are extreme.
-fn lattice(alloc: Global) -> Result<Vec<Point>, AllocError> {
-    let mut points = Vec::new(alloc);
-    for number in 0..2048u32 {
-        let (x, y, z) = (number / 128, number / 8 % 16, number % 8);
-        points.push(Point::new(x as i32, y as i32, z as i32))?;
-    }
-    Ok(points)
-}
 
 /// The hull of the corners of a cube, each given twice, as `numbers_of` returns it.
 const CUBE_HULL: [usize; 43] = [
@@ -208,8 +187,8 @@ const LATTICE_ENDS: [(u32, u64, Mark); 3] = [
 
 #[test]
 fn gives_up_where_the_tree_does_not_pay(rt: HostRuntime) -> Result<(), Fail> {
-    assert_ends(&rt, &paraboloid(rt.alloc())?, &PARABOLOID_ENDS)?;
-    assert_ends(&rt, &lattice(rt.alloc())?, &LATTICE_ENDS)
+    assert_ends(&rt, &paraboloid(rt.alloc(), 64, 32)?, &PARABOLOID_ENDS)?;
+    assert_ends(&rt, &grid(rt.alloc(), [16, 16, 8])?, &LATTICE_ENDS)
 }
 
 /// Asserts the hull of a list of points by a cut, for every number of workers.

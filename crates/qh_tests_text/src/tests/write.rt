@@ -17,25 +17,19 @@ mod writers;
 fn one_point(alloc: Global) -> Result<Hull, Memory>
     ensures { IfOk result (λ h. h.body.extremes ≡ 0 ∷ []) }
 {
-    flat_hull(alloc, &[Id::new(0)], 0, 1, 0)
-}
-
-/// Returns the hull of points with one face, whose corners are all extreme ids.
-fn flat_hull(alloc: Global, ids: &[Id], dim: u8, points: u32, edges: u64) -> Result<Hull, Memory>
-    ensures { IfOk result (λ h. h.body.extremes ≡ ids.now) }
-{
-    let extremes = Vec::from_slice(alloc, ids)?;
+    let extremes = Vec::from_array(alloc, [Id::new(0)])?;
+    let face = Vec::from_array(alloc, [Id::new(0)])?;
     let mut polygons = Vec::new(alloc);
-    polygons.push(Polygon::of(Vec::from_slice(alloc, ids)?))?;
+    polygons.push(Polygon::of(face))?;
     let body = Body {
-        dim,
+        dim: 0,
         extremes,
         polygons,
-        edges,
+        edges: 0,
     };
     Ok(Hull {
-        given: points,
-        distinct: points,
+        given: 1,
+        distinct: 1,
         body,
     })
 }

@@ -1,6 +1,6 @@
 //! Worked rows: surfaces of a cube in pieces, and the faults of others.
 use super::EIGHT;
-use qh_check::{Claim, FaceFault, SurfaceVerdict, check_surface};
+use qh_check::{ClaimedPolygons, FaceFault, SurfaceVerdict, check_surface};
 use qh_fixtures::faces::{CUBE_FACES, polygons_of};
 use qh_fixtures::ids::ids_of;
 use qh_fixtures::points::cube;
@@ -55,7 +55,7 @@ fn verdict(
         return Ok(None);
     }
     let polygons = polygons_of(alloc, faces)?;
-    let claim = Claim {
+    let claim = ClaimedPolygons {
         pts: &pts,
         ids: &ids,
         polygons: &polygons,

@@ -77,11 +77,9 @@ fn numbers(alloc: Global, polygons: &[Polygon]) -> Result<Vec<u32>, AllocError> 
 
 /// Returns the numbers of the corners of the polygons that close the gap that some faces of the cube leave.
 fn bridged(alloc: Global, go: &[&[u32]]) -> Result<Option<Vec<u32>>, Memory> {
-    let pts = cube(0, 1);
-    let seam = ids_of(alloc, &pts, &ALL)?;
     let go = polygons_of(alloc, go)?;
     let borders = [border_of(alloc, &[true], &go)?];
-    match bridge_over(alloc, &pts, &borders, &seam)? {
+    match bridge_over(alloc, polygons_of(alloc, &CUBE_FACES)?, &borders)? {
         Some(polygons) => Ok(Some(numbers(alloc, &polygons)?)),
         None => Ok(None),
     }

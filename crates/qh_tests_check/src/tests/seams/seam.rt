@@ -194,7 +194,7 @@ fn cube_with(
 #[test]
 fn six_faces_are_joined_to_a_cube(rt: HostRuntime) -> Result<(), Fail> {
     let (first, others) = (&CUBE_FACES[..1], &CUBE_FACES[1..]);
-    let found = cube_with(&rt, rt.alloc(), first, others, others)?;
+    let found = cube_with(&rt, rt.alloc(), first, others, &CUBE_FACES[1..])?;
     let told = match found {
         Some(body) => body.dim == 3 && body.extremes.len() == 8 && body.edges == 12,
         None => false,

@@ -7,7 +7,8 @@ ghost use Rattle.qh_model.specs.headline.DistinctIds.{AreDistinctIds};
 use super::finishes::Finishes;
 use super::{OCTAHEDRON_HULL, hull_by, job, numbers_of, worked_by_one};
 use qh_board::{BoardError, Mark};
-use qh_fixtures::points::{cube, octahedron, square};
+use qh_fixtures::again;
+use qh_fixtures::points::{cube, octahedron, paraboloid, square};
 use qh_model::{Cut, CutError, Hull, Id, Memory, POINT_LIMIT, Point};
 use qh_plane::distinct;
 use qh_run::{RunError, run_hull};
@@ -31,18 +32,10 @@ fn hull_again<R: AllocGlobal + Threads + Sync>(
     cut: &Cut,
     workers: u32,
 ) -> Result<Option<Hull>, RunError> {
-    match hull_by(rt, rt.alloc(), points, cut, workers) {
-        Err(RunError::Memory) => hull_by(rt, rt.alloc(), points, cut, workers),
-        hull => hull,
-    }
-}
-
-/// Returns the numbers of a hull. Repeats the call if an allocation failed.
-fn numbers_again(alloc: Global, hull: &Hull) -> Result<Vec<usize>, AllocError> {
-    match numbers_of(alloc, hull) {
-        Err(AllocError) => numbers_of(alloc, hull),
-        numbers => numbers,
-    }
+    again!(
+        hull_by(rt, rt.alloc(), points, cut, workers),
+        RunError::Memory
+    )
 }
 
 /// Returns the even cut. Repeats the call if an allocation failed.
@@ -50,10 +43,7 @@ fn cut_again(alloc: Global, m: u32, size: u32) -> Result<Cut, CutError>
     requires some { 0 < m }
     requires few { m ≤ POINT_LIMIT }
 {
-    match Cut::even(alloc, m, size) {
-        Err(CutError::Memory) => Cut::even(alloc, m, size),
-        cut => cut,
-    }
+    again!(Cut::even(alloc, m, size), CutError::Memory)
 }
 
 /// Returns true if the hull of a list of points by the even cut of its positions has these numbers. Repeats each call
@@ -70,7 +60,7 @@ fn comes_out_right<R: AllocGlobal + Threads + Sync>(
 {
     let cut = cut_again(rt.alloc(), points.len() as u32, size)?;
     let hull = hull_again(rt, points, &cut, workers)?.ok_or("another cut")?;
-    let numbers = numbers_again(rt.alloc(), &hull)?;
+    let numbers = again!(numbers_of(rt.alloc(), &hull), AllocError)?;
     Ok(numbers.as_slice() == want)
 }
 
@@ -126,10 +116,7 @@ fn found_by_one(alloc: Global, points: &[Point], ids: &[Id], cut: &Cut) -> Resul
 fn a_worker_gives_up(rt: HostRuntime) -> Result<(), Fail> {
     let alloc = rt.alloc();
     let points = octahedron();
-    let ids = match distinct(&rt, alloc, &points) {
-        Err(Memory) => distinct(&rt, alloc, &points)?,
-        Ok(ids) => ids,
-    };
+    let ids = ids_again(&rt, alloc, &points)?;
     let cut = cut_again(alloc, 18, 3)?;
     let found = match found_by_one(alloc, &points, &ids, &cut) {
         Err(BoardError::Memory) | Ok(Found::GaveUp) => found_by_one(alloc, &points, &ids, &cut)?,
@@ -139,34 +126,23 @@ fn a_worker_gives_up(rt: HostRuntime) -> Result<(), Fail> {
     Ok(())
 }
 
-/// Returns the points of a cubic lattice with 40 along each side, which are enough for the interior filter.
-fn lattice(alloc: Global) -> Result<Vec<Point>, AllocError> {
-    let mut points = Vec::with_capacity(alloc, 64000)?;
-    for number in 0..64000 {
-        points.push(Point::new(number / 1600, number / 40 % 40, number % 40))?;
-    }
-    Ok(points)
-}
-
 /// Returns the distinct ids of some points. Repeats the call if an allocation failed.
 fn ids_again<R: Threads + Sync>(rt: &R, alloc: Global, points: &[Point]) -> Result<Vec<Id>, Memory>
     requires few { length points.now ≤ POINT_LIMIT }
     ensures { IfOk result (λ ids. AreDistinctIds points.now ids.items) }
 {
-    match distinct(rt, alloc, points) {
-        Err(Memory) => distinct(rt, alloc, points),
-        ids => ids,
-    }
+    again!(distinct(rt, alloc, points), Memory)
 }
 
-/// Returns how often a run over a cut of some points calls the gate's `finish`, whether the run succeeds or not.
+/// Returns how often a run over a cut of some points calls the gate's `finish`, and with how many ids at last, whether
+/// the run succeeds or not.
 fn finishes_of<R: Threads + Sync>(
     rt: &R,
     alloc: Global,
     points: &[Point],
     cut: &Cut,
     workers: u32,
-) -> Result<u64, Fail> {
+) -> Result<(u64, u64), Fail> {
     if points.len() > POINT_LIMIT as usize {
         return Err("too many points".into());
     }
@@ -177,35 +153,27 @@ fn finishes_of<R: Threads + Sync>(
     }
     let gate = Finishes::new();
     let _ = run_hull(rt, alloc, points, &ids, cut, workers, &gate);
-    Ok(gate.calls())
-}
-
-/// Asserts that a run calls `finish` once, with any number of workers.
-fn assert_finishes<R: AllocGlobal + Abort + Threads + Sync>(
-    rt: &R,
-    points: &[Point],
-    cut: &Cut,
-) -> Result<(), Fail> {
-    for workers in [1, 2, 7] {
-        let calls = finishes_of(rt, rt.alloc(), points, cut, workers)?;
-        assert_eq!(rt; calls, 1, "{workers} workers");
-    }
-    Ok(())
+    Ok((gate.calls(), gate.ids()))
 }
 
 #[test]
 fn finishes_once(rt: HostRuntime) -> Result<(), Fail> {
     let octahedron = octahedron();
     let cut = cut_again(rt.alloc(), 18, 3)?;
-    assert_finishes(&rt, &octahedron, &cut)
+    for workers in [1, 2, 7] {
+        let (calls, _) = finishes_of(&rt, rt.alloc(), &octahedron, &cut, workers)?;
+        assert_eq!(rt; calls, 1, "{workers} workers");
+    }
+    Ok(())
 }
 
 #[test]
-fn finishes_once_after_the_filter(rt: HostRuntime) -> Result<(), Fail> {
-    let points = match lattice(rt.alloc()) {
-        Err(AllocError) => lattice(rt.alloc())?,
-        Ok(points) => points,
-    };
-    let cut = cut_again(rt.alloc(), 64000, 4096)?;
-    assert_finishes(&rt, &points, &cut)
+fn finishes_with_all_ids_if_a_pass_gives_up(rt: HostRuntime) -> Result<(), Fail> {
+    let points = again!(paraboloid(rt.alloc(), 64, 32), AllocError)?;
+    let cut = cut_again(rt.alloc(), 2048, 512)?;
+    for workers in [1, 2, 7] {
+        let found = finishes_of(&rt, rt.alloc(), &points, &cut, workers)?;
+        assert_eq!(rt; found, (1, 2048), "{workers} workers");
+    }
+    Ok(())
 }

@@ -1,6 +1,6 @@
 use Rattle.std.proofs.Common.{arith}
 use Rattle.qh_serve.proofs.EvenCuts.{even_positions}
-use Rattle.qh_serve.proofs.answers.even_cut.Goals as goal
+use Rattle.qh_serve.proofs.hulls.even_cut.Goals as goal
 
 -- an even cut of some positions cuts all of them
 pub returns-in-Ok : goal.returns-in-Ok

@@ -2,7 +2,7 @@
 use Rattle.std.proofs.lemmas.Result.{IfOk-weaker}
 use Rattle.qh_model.proofs.DistinctIds.{ids_within}
 use Rattle.qh_lattice.proofs.SameHulls.{image_distinct, image_hull}
-use Rattle.qh_serve.proofs.answers.hull_of.Goals as goal
+use Rattle.qh_serve.proofs.hulls.hull_of.Goals as goal
 
 pub reduced-requires-clause-indices : goal.reduced-requires-clause-indices
 reduced-requires-clause-indices g c = ids_within c.args.pts.now c.args.ids.now c.requires.distinct
