@@ -25,7 +25,7 @@ PHASES = ["read", "distinct", "filter", "surface", "parts", "faces", "text", "sy
 OWNERS = [
     (r"^(qh_write|itoa)::", "text"),
     (r"^(qh_plane|rayon)::", "distinct"),
-    (r"^qh_block::(interior|regions)::|^qh_run::filtered::", "filter"),
+    (r"^qh_block::(interior|regions)::", "filter"),
     # qh_parts_join compares the borders of faces by the steps round them.
     (r"^qh_(parts|parts_join|parts_guess|places|check)::|^qh_bodies::(borders|closed|order)::|^qh_serve::threaded::", "parts"),
     (r"^qh_bodies::|^qh_block::(faces|hulls|plane_walk|bodies|flat_sets|segment)::", "faces"),

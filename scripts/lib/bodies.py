@@ -15,7 +15,7 @@ WORKERS = [
     ]),
     ("two-passes-whatever-the-number", ROOT, [("workers.min(set.cut.blocks())", "workers.min(2)")]),
     ("hulls-on-the-caller-alone", ROOT, [
-        ("match reduced(rt, alloc, set, passes, gate)? {", "match reduced(rt, alloc, set, passes.min(0), gate)? {"),
+        ("match reduced(rt, alloc, set, passes, gate) {", "match reduced(rt, alloc, set, passes.min(0), gate) {"),
     ]),
     ("ignores-the-roots-list", RUN, [
         ("Some(part) => gate.finish(alloc, pts, part),", "Some(_) => gate.finish(alloc, pts, ids),"),
