@@ -1,17 +1,19 @@
-//! Batches of bytes, whose segments are parsed in parallel.
+//! Batches of bytes, which are cut into segments for several threads.
 ghost use Rattle.std.specs.Prelude.{◌≤◌, ◌<◌, vec_len};
 
 use crate::fault::FeedFault;
 use crate::filling::fill;
 use crate::reader::Reader;
 use crate::segment::Segment;
-use crate::segments::{feed_all, go_over_all, new_segments};
+use crate::segments::{feed_all, segment_at};
 use crate::source::Source;
+use crate::threads::Sizes;
 use qh_model::{BYTE_LIMIT, ReadFault};
+use qh_threads::{Calls, map_claimed_beside};
 use std::alloc::{AllocError, Global};
 use std::thread::Threads;
 
-/// Bytes of a source, and their segments.
+/// Bytes of a source, and their segments once these are parsed.
 #[derive(Drop)]
 pub struct Batch {
     bytes: Vec<u8>,
@@ -20,36 +22,34 @@ pub struct Batch {
     segments: Vec<Segment>,
     ghost within: { count ≤ vec_len bytes },
     ghost some: { 0 < vec_len bytes },
-    ghost segmented: { 0 < vec_len segments },
 }
 
 impl Batch {
     ghost use Rattle.std.specs.Prelude.{◌≡◌, ◌+◌, ◌-◌, ◌^◌, ◌++◌, ℕ, List, true, false, length, IfOk, IfErr, OnOk, Ok};
     ghost use Rattle.std.specs.{Prelude.Err, Io.KnownBytes.Consumes, Io.KnownBytes.IsAtEnd};
     ghost use Rattle.qh_model.specs.declared.form.Form.{Form};
-    ghost use Rattle.qh_read.specs.{contract.Holding.Fed, steps.Segments.batch_text, steps.Segments.IsGoneOver};
+    ghost use Rattle.qh_read.specs.{contract.Holding.Fed, steps.Segments.batch_text, steps.Segments.IsParsed, steps.Segments.IsSegment};
+    ghost use Rattle.qh_read.specs.steps.Segments.{segment_text};
     ghost use Rattle.qh_read.specs.steps.Sources.{Stops};
 
-    /// Creates an empty batch with room for `bytes` bytes in `segments` segments.
-    pub fn new(alloc: Global, bytes: usize, segments: usize) -> Result<Batch, AllocError>
-        requires some { 0 < bytes }
-        requires segmented { 0 < segments }
+    /// Creates an empty batch with room for `bytes` bytes.
+    pub fn new(alloc: Global, bytes: usize) -> Result<Batch, AllocError>
+        requires { 0 < bytes }
         ensures none { IfOk result (λ b. b.count ≡ 0) }
-        ensures gone_over { IfOk result IsGoneOver }
+        ensures parsed { IfOk result IsParsed }
     {
-        let room = vec![in alloc; 0; bytes]?;
         Ok(Batch {
-            bytes: room,
+            bytes: vec![in alloc; 0; bytes]?,
             count: 0,
-            segments: new_segments(alloc, segments, bytes / segments + 1)?,
+            segments: Vec::new(alloc),
         })
     }
 
-    /// Returns the number of bytes.
-    pub fn len(&self) -> usize
-        ensures { result ≡ length (batch_text self.now) }
+    /// Returns the bytes.
+    pub fn text(&self) -> &[u8]
+        ensures { result.now ≡ batch_text self.now }
     {
-        self.count
+        &self.bytes[..self.count]
     }
 
     /// Replaces the bytes by the next ones of the source, from which `before` bytes were read earlier. Returns true if
@@ -59,6 +59,7 @@ impl Batch {
         requires before { before ≤ BYTE_LIMIT }
         ensures given { OnOk result
             (Consumes (S.remaining source.old) (S.remaining source.new) (batch_text self.new)) }
+        ensures parsed { OnOk result (IsParsed self.new) }
         ensures end { result ≡ Ok true → IsAtEnd (S.remaining source.new) }
         ensures more { result ≡ Ok false → 0 < length (batch_text self.new) }
         ensures fits { OnOk result (before + length (batch_text self.new) ≤ BYTE_LIMIT) }
@@ -66,29 +67,60 @@ impl Batch {
         ensures stops { IfErr result (λ e. Stops e before (S.remaining source.old) (S.remaining source.new)
             (S.failure_count source.old) (S.failure_count source.new)) }
     {
+        self.segments.clear();
         let (count, at_end) = fill(source, self.bytes.as_mut_slice(), before)?;
         self.count = count;
         Ok(at_end)
     }
 
-    /// Parses the segments, each in its own thread.
-    pub fn go_over<R: Threads + Sync>(&mut self, rt: &R)
-        requires { length (batch_text self.old) ≤ BYTE_LIMIT }
-        ensures gone_over { IsGoneOver self.new }
+    /// Parses the segments, which several threads claim. Another thread calls `there` before it claims, and the calling
+    /// thread calls `here`; their results are returned. If an allocation fails, the batch has no segments, which only
+    /// costs time.
+    pub fn parse_beside<R: Threads + Sync, A: Send, B, T: FnMut() -> A + Send, H: FnMut() -> B>(
+        &mut self,
+        rt: &R,
+        sizes: Sizes,
+        there: &mut T,
+        here: &mut H,
+    ) -> (A, B)
+        requires few { length (batch_text self.old) ≤ BYTE_LIMIT }
+        requires parsed { IsParsed self.old }
+        requires there { T.pre there.old }
+        requires here { H.pre here.old }
+        ensures there { T.step there.old result.0 there.new }
+        ensures here { H.step here.old result.1 here.new }
+        ensures parsed { IsParsed self.new }
         ensures text { batch_text self.new ≡ batch_text self.old }
     {
-        go_over_all(rt, self.segments.as_mut_slice(), &self.bytes[..self.count]);
+        let alloc = *self.bytes.allocator();
+        let text = &self.bytes[..self.count];
+        let count = sizes.segments.max(1);
+        let size = text.len() / count + 1;
+        let parse = |i: usize| -> Segment
+            requires { length text.now < 2 ^ 31 }
+            ensures { IsSegment result (segment_text size text.entry.now i) }
+        { Segment::of(alloc, segment_at(text, size, i)) };
+        let calls = Calls {
+            threads: sizes.threads,
+            count,
+            f: &parse,
+        };
+        let (a, b, segments) = map_claimed_beside(rt, alloc, &calls, there, here);
+        if let Ok(segments) = segments {
+            self.segments = segments;
+        }
+        (a, b)
     }
 
     /// Feeds the bytes to a reader, with the points of the segments.
     pub fn feed(&self, reader: &mut Reader) -> Result<(), FeedFault>
-        requires { IsGoneOver self.now }
+        requires { IsParsed self.now }
         ensures fed { OnOk result ((form : Form) (before : List ℕ) → Fed form reader.old before
             → Fed form reader.new (before ++ batch_text self.now)) }
         ensures count { OnOk result (reader.new.count ≡ reader.old.count + length (batch_text self.now)) }
         ensures big { result ≡ Err FeedFault.Big
             → BYTE_LIMIT < reader.old.count + length (batch_text self.now) }
     {
-        feed_all(reader, self.segments.as_slice(), &self.bytes[..self.count])
+        feed_all(reader, self.segments.as_slice(), self.text())
     }
 }

@@ -1,11 +1,10 @@
 //! Segments of a file, parsed before the content in front of them is known.
-ghost use Rattle.std.specs.Prelude.{◌≤◌, ◌<◌, ◌^◌, [], length};
+ghost use Rattle.std.specs.Prelude.{◌≤◌, ◌<◌, ◌^◌, length};
 ghost use Rattle.qh_read.specs.steps.Segments.{IsSegment};
 
 use crate::cursor::Cursor;
 use qh_model::Point;
 use std::alloc::Global;
-use std::mem;
 
 /// A segment of a file, and the points after its first line, which are valid if a point begins there.
 ///
@@ -36,43 +35,29 @@ fn after_line(bytes: &[u8]) -> usize
 }
 
 impl Segment {
-    /// Creates an empty segment with room for the points of `bytes` bytes, or with no room if the allocation fails.
-    pub fn new(alloc: Global, bytes: usize) -> Segment
-        ensures { IsSegment result [] }
+    /// Parses the points of this text after its first line, all of them, or none if the allocation fails.
+    pub fn of(alloc: Global, text: &[u8]) -> Segment
+        requires { length text.now < 2 ^ 31 }
+        ensures { IsSegment result text.now }
     {
         // A point takes at least six bytes.
-        let points = match Vec::with_capacity(alloc, bytes / 6 + 1) {
+        let mut points = match Vec::with_capacity(alloc, text.len() / 6 + 1) {
             Ok(points) => points,
             Err(_) => Vec::new(alloc),
         };
-        Segment {
-            points,
-            head: 0,
-            lines: 0,
-            taken: 0,
-        }
-    }
-
-    /// Parses the points of this text, as far as there is room, and replaces the earlier ones.
-    pub fn go_over(&mut self, text: &[u8])
-        requires { length text.now < 2 ^ 31 }
-        ensures { IsSegment self.new text.now }
-    {
-        // Each point changes the length of the vector. In the segment, this length would share a cache line with
-        // lengths that other threads change.
-        let alloc = *self.points.allocator();
-        let mut points = mem::replace(&mut self.points, Vec::new(alloc));
-        points.clear();
-        self.head = after_line(text);
+        let head = after_line(text);
         let start = Cursor {
             bytes: text,
-            at: self.head,
+            at: head,
             line: 0,
         };
         let limit = points.capacity();
         let end = start.push_points(&mut points, limit);
-        self.points = points;
-        self.lines = end.line;
-        self.taken = end.at;
+        Segment {
+            points,
+            head,
+            lines: end.line,
+            taken: end.at,
+        }
     }
 }

@@ -1,21 +1,23 @@
 //! Reads with several threads.
 //!
-//! A file is read in batches, and a batch is cut into segments. While threads parse the segments of one batch, the
-//! calling thread feeds the previous batch to the reader, and reads the next one.
-ghost use Rattle.std.specs.Prelude.{◌≡◌, ◌≤◌, ◌<◌, ◌+◌, ◌-◌, ◌^◌, true, false, length, IfErr, OnOk, Ok};
-ghost use Rattle.std.specs.{Thread.IsSync, Io.KnownBytes.IsAtEnd};
-ghost use Rattle.qh_read.specs.contract.Answers.{AnswersSource};
-ghost use Rattle.qh_read.specs.steps.Segments.{batch_text, IsGoneOver, FedAndFilled};
+//! A file is read in batches, and a batch is cut into segments, which threads claim and parse. Before it claims, one of
+//! the threads feeds the previous batch to the reader, and the calling thread reads the next batch.
+ghost use Rattle.std.specs.Prelude.{◌≡◌, ◌≤◌, ◌<◌, ◌+◌, ◌-◌, ◌^◌, ◌++◌, ◌≢◌, ℕ, List, true, false, length, Err, IfErr, OnOk, Ok};
+ghost use Rattle.std.specs.Io.KnownBytes.{Consumes, IsAtEnd};
+ghost use Rattle.qh_model.specs.declared.form.Form.{Form};
+ghost use Rattle.qh_read.specs.contract.{Answers.AnswersSource, Holding.Fed};
+ghost use Rattle.qh_read.specs.steps.Segments.{batch_text, IsParsed, FedAndFilled};
 ghost use Rattle.qh_read.specs.steps.Sources.{FedOn, Stops};
 
 use crate::batch::Batch;
+use crate::fault::FeedFault;
 use crate::reader::Reader;
 use crate::source::Source;
 use crate::whole::{PIECE_LENGTH, feed_from, read_form_from};
 use qh_model::{BYTE_LIMIT, Form, Point, ReadFault};
 use std::alloc::Global;
 use std::mem;
-use std::thread::{Threads, join_mut};
+use std::thread::Threads;
 
 /// The number of bytes that are read serially before the first batch. A file of at most this length starts no thread.
 const START_LENGTH: u32 = 655_360;
@@ -23,8 +25,11 @@ const START_LENGTH: u32 = 655_360;
 /// The number of bytes of a batch: large enough to pay for starting threads, small enough that its memory is reused.
 const BATCH_LENGTH: usize = 2_097_152;
 
-/// The greatest number of segments of a batch. More do not pay, since the calling thread's own share takes as long.
-const SEGMENT_LIMIT: usize = 3;
+/// The number of segments of a batch: enough for a thread that starts late to leave its share to the others.
+const SEGMENTS: usize = 16;
+
+/// A shorter last batch is parsed by the calling thread, which takes less time than starting other threads.
+const SHARED_FROM: usize = 196_608;
 
 /// How a file is cut for several threads.
 #[derive(Clone, Copy, Debug)]
@@ -33,76 +38,120 @@ pub struct Sizes {
     pub start: u32,
     /// The number of bytes of a batch. 0 counts as 1, and more than `BYTE_LIMIT` as `BYTE_LIMIT`.
     pub batch: usize,
-    /// The number of segments of a batch, each with its own thread. 0 counts as 1.
+    /// The number of segments of a batch. 0 counts as 1.
     pub segments: usize,
+    /// The number of threads, including the calling thread. Fewer than 2 count as 2.
+    pub threads: usize,
 }
 
-/// Feeds a batch to the reader, then fills it from the source. There are `ahead` bytes of the source between the two.
-fn feed_and_fill<S: Source>(
-    reader: &mut Reader,
-    source: &mut S,
-    batch: &mut Batch,
-    ahead: usize,
-) -> Result<bool, ReadFault>
-    requires failures { S.failure_count source.old < 2 ^ 64 - 1 }
-    requires gone_over { IsGoneOver batch.old }
-    requires fits { reader.old.count + length (batch_text batch.old) + ahead ≤ BYTE_LIMIT }
-    ensures filled { OnOk result (FedAndFilled reader.old reader.new batch.old batch.new
-        (S.remaining source.old) (S.remaining source.new) ahead) }
-    ensures end { result ≡ Ok true → IsAtEnd (S.remaining source.new) }
-    ensures more { result ≡ Ok false → 0 < length (batch_text batch.new) }
-    ensures steady { OnOk result (S.failure_count source.new ≡ S.failure_count source.old) }
-    ensures stops { IfErr result (λ e. Stops e (reader.old.count + length (batch_text batch.old) + ahead)
-        (S.remaining source.old) (S.remaining source.new) (S.failure_count source.old)
-        (S.failure_count source.new)) }
-{
-    batch.feed(reader)?;
-    batch.fill(source, reader.fed() + ahead as u32)
+/// Three batches of a source. The bytes of `done` come before those of `raw`; `next` has room for those after them.
+#[derive(Drop)]
+struct Batches {
+    /// The batch whose segments are parsed.
+    done: Batch,
+    /// The batch whose segments are to be parsed.
+    raw: Batch,
+    /// The batch that is filled next.
+    next: Batch,
 }
 
-/// Parses the segments of the raw batch, while the other batch is fed to the reader and filled again.
+impl Batches {
+    /// Makes the raw batch the one that is done, and the next batch the raw one.
+    fn advance(&mut self)
+        ensures done { self.new.done ≡ self.old.raw }
+        ensures raw { self.new.raw ≡ self.old.next }
+    {
+        mem::swap(&mut self.done, &mut self.raw);
+        mem::swap(&mut self.raw, &mut self.next);
+    }
+}
+
+/// Parses the segments of the raw batch, while the batch before it is fed to the reader and the next one is filled.
+/// Returns true if the source ended.
 fn turn<R: Threads + Sync, S: Source>(
     rt: &R,
     reader: &mut Reader,
     source: &mut S,
-    done: &mut Batch,
-    raw: &mut Batch,
+    batches: &mut Batches,
+    sizes: Sizes,
 ) -> Result<bool, ReadFault>
     requires failures { S.failure_count source.old < 2 ^ 64 - 1 }
-    requires gone_over { IsGoneOver done.old }
-    requires fits { reader.old.count + length (batch_text done.old) + length (batch_text raw.old) ≤ BYTE_LIMIT }
-    ensures gone_over { IsGoneOver raw.new }
-    ensures text { batch_text raw.new ≡ batch_text raw.old }
-    ensures filled { OnOk result (FedAndFilled reader.old reader.new done.old done.new
-        (S.remaining source.old) (S.remaining source.new) (length (batch_text raw.old))) }
+    requires done { IsParsed batches.old.done }
+    requires raw { IsParsed batches.old.raw }
+    requires fits { reader.old.count + length (batch_text batches.old.done) + length (batch_text batches.old.raw) ≤ BYTE_LIMIT }
+    ensures raw { OnOk result (IsParsed batches.new.raw) }
+    ensures next { OnOk result (IsParsed batches.new.next) }
+    ensures text { OnOk result (batch_text batches.new.raw ≡ batch_text batches.old.raw) }
+    ensures filled { OnOk result (FedAndFilled reader.old reader.new batches.old.done batches.new.next
+        (S.remaining source.old) (S.remaining source.new) (length (batch_text batches.old.raw))) }
     ensures end { result ≡ Ok true → IsAtEnd (S.remaining source.new) }
-    ensures more { result ≡ Ok false → 0 < length (batch_text done.new) }
+    ensures more { result ≡ Ok false → 0 < length (batch_text batches.new.next) }
     ensures steady { OnOk result (S.failure_count source.new ≡ S.failure_count source.old) }
     ensures stops { IfErr result (λ e. Stops e
-        (reader.old.count + length (batch_text done.old) + length (batch_text raw.old))
+        (reader.old.count + length (batch_text batches.old.done) + length (batch_text batches.old.raw))
         (S.remaining source.old) (S.remaining source.new) (S.failure_count source.old)
         (S.failure_count source.new)) }
 {
-    let ahead = raw.len();
-    let mut there = ||
-        requires { IsSync R.row × (length (batch_text raw.now) ≤ BYTE_LIMIT) }
-        ensures { IsGoneOver raw.exit.now × (batch_text raw.exit.now ≡ batch_text raw.entry.now) }
-    { raw.go_over(rt) };
-    let mut here = || -> Result<bool, ReadFault>
+    let Batches { done, raw, next } = batches;
+    let before = reader.fed() + (done.text().len() + raw.text().len()) as u32;
+    let mut feed = || -> Result<(), FeedFault>
+        requires { IsParsed done.now }
+        ensures fed { OnOk result ((form : Form) (bytes : List ℕ) → Fed form reader.entry.now bytes
+            → Fed form reader.exit.now (bytes ++ batch_text done.entry.now)) }
+        ensures count { OnOk result (reader.exit.now.count ≡ reader.entry.now.count + length (batch_text done.entry.now)) }
+        ensures big { result ≡ Err FeedFault.Big → BYTE_LIMIT < reader.entry.now.count + length (batch_text done.entry.now) }
+    { done.feed(reader) };
+    let mut fill = || -> Result<bool, ReadFault>
         requires failures { S.failure_count source.now < 2 ^ 64 - 1 }
-        requires gone_over { IsGoneOver done.now }
-        requires fits { reader.now.count + length (batch_text done.now) + ahead ≤ BYTE_LIMIT }
-        ensures filled { OnOk result (FedAndFilled reader.entry.now reader.exit.now done.entry.now done.exit.now
-            (S.remaining source.entry.now) (S.remaining source.exit.now) ahead) }
+        requires before { before ≤ BYTE_LIMIT }
+        ensures given { OnOk result
+            (Consumes (S.remaining source.entry.now) (S.remaining source.exit.now) (batch_text next.exit.now)) }
+        ensures parsed { OnOk result (IsParsed next.exit.now) }
         ensures end { result ≡ Ok true → IsAtEnd (S.remaining source.exit.now) }
-        ensures more { result ≡ Ok false → 0 < length (batch_text done.exit.now) }
+        ensures more { result ≡ Ok false → 0 < length (batch_text next.exit.now) }
+        ensures fits { OnOk result (before + length (batch_text next.exit.now) ≤ BYTE_LIMIT) }
         ensures steady { OnOk result (S.failure_count source.exit.now ≡ S.failure_count source.entry.now) }
-        ensures stops { IfErr result (λ e. Stops e (reader.entry.now.count + length (batch_text done.entry.now) + ahead)
-            (S.remaining source.entry.now) (S.remaining source.exit.now) (S.failure_count source.entry.now)
-            (S.failure_count source.exit.now)) }
-    { feed_and_fill(reader, source, done, ahead) };
-    let (_, at_end) = join_mut(rt, &mut there, &mut here);
-    at_end
+        ensures stops { IfErr result (λ e. Stops e before (S.remaining source.entry.now) (S.remaining source.exit.now)
+            (S.failure_count source.entry.now) (S.failure_count source.exit.now)) }
+    { next.fill(source, before) };
+    let (fed, at_end) = raw.parse_beside(rt, sizes, &mut feed, &mut fill);
+    let at_end = at_end?;
+    fed?;
+    Ok(at_end)
+}
+
+/// Feeds the last two batches to the reader.
+fn feed_last<R: Threads + Sync>(
+    rt: &R,
+    reader: &mut Reader,
+    batches: &mut Batches,
+    sizes: Sizes,
+) -> Result<(), FeedFault>
+    requires done { IsParsed batches.old.done }
+    requires raw { IsParsed batches.old.raw }
+    requires fits { reader.old.count + length (batch_text batches.old.done) + length (batch_text batches.old.raw) ≤ BYTE_LIMIT }
+    ensures fed { OnOk result ((form : Form) (bytes : List ℕ) → Fed form reader.old bytes
+        → Fed form reader.new (bytes ++ (batch_text batches.old.done ++ batch_text batches.old.raw))) }
+    ensures count { OnOk result (reader.new.count
+        ≡ reader.old.count + length (batch_text batches.old.done) + length (batch_text batches.old.raw)) }
+    ensures big { result ≢ Err FeedFault.Big }
+{
+    let Batches { done, raw, .. } = batches;
+    if raw.text().len() < SHARED_FROM {
+        done.feed(reader)?;
+        return raw.feed(reader);
+    }
+    let mut feed = || -> Result<(), FeedFault>
+        requires { IsParsed done.now }
+        ensures fed { OnOk result ((form : Form) (bytes : List ℕ) → Fed form reader.entry.now bytes
+            → Fed form reader.exit.now (bytes ++ batch_text done.entry.now)) }
+        ensures count { OnOk result (reader.exit.now.count ≡ reader.entry.now.count + length (batch_text done.entry.now)) }
+        ensures big { result ≡ Err FeedFault.Big → BYTE_LIMIT < reader.entry.now.count + length (batch_text done.entry.now) }
+    { done.feed(reader) };
+    let mut nothing = || {};
+    let (fed, _) = raw.parse_beside(rt, sizes, &mut feed, &mut nothing);
+    fed?;
+    raw.feed(reader)
 }
 
 /// Feeds a source to a reader to its end, in batches.
@@ -123,17 +172,20 @@ fn feed_batches<R: Threads + Sync, S: Source>(
         (S.remaining source.new) (S.failure_count source.old) (S.failure_count source.new)) }
 {
     let bytes = sizes.batch.clamp(1, BYTE_LIMIT as usize);
-    let segments = sizes.segments.max(1);
-    let mut done = Batch::new(alloc, bytes, segments)?;
-    let mut raw = Batch::new(alloc, bytes, segments)?;
+    let mut raw = Batch::new(alloc, bytes)?;
     let mut at_end = raw.fill(source, reader.fed())?;
+    // The other batches need no room if the source has ended.
+    let room = if at_end { 1 } else { bytes };
+    let mut batches = Batches {
+        done: Batch::new(alloc, room)?,
+        raw,
+        next: Batch::new(alloc, room)?,
+    };
     while !at_end {
-        at_end = turn(rt, reader, source, &mut done, &mut raw)?;
-        mem::swap(&mut done, &mut raw);
+        at_end = turn(rt, reader, source, &mut batches, sizes)?;
+        batches.advance();
     }
-    done.feed(reader)?;
-    raw.go_over(rt);
-    raw.feed(reader)?;
+    feed_last(rt, reader, &mut batches, sizes)?;
     Ok(())
 }
 
@@ -180,7 +232,8 @@ pub fn read_form_threads<R: Threads + Sync, S: Source>(
     let sizes = Sizes {
         start: START_LENGTH,
         batch: BATCH_LENGTH,
-        segments: (threads - 1).min(SEGMENT_LIMIT),
+        segments: SEGMENTS,
+        threads,
     };
     read_form_sizes(rt, alloc, form, source, sizes)
 }

@@ -10,13 +10,13 @@ use std::thread::Threads;
 
 /// What the call at an index returned.
 #[derive(Drop)]
-struct Answer<X> {
+pub(crate) struct Answer<X> {
     index: usize,
     value: X,
 }
 
 /// Calls `f` at the indices that it claims from `next`, until no index below `count` remains.
-fn claim<X: Send + Drop, F: Fn(usize) -> X + Sync>(
+pub(crate) fn claim<X: Send + Drop, F: Fn(usize) -> X + Sync>(
     alloc: Global,
     next: &AtomicUsize,
     count: usize,
@@ -95,6 +95,26 @@ fn values<X: Send + Drop, F: Fn(usize) -> X + Sync>(
     Ok(values)
 }
 
+/// Returns the results of the calls in the order of their indices, given what each thread claimed. A call that no thread
+/// made is made here.
+pub(crate) fn in_order<X: Send + Drop, F: Fn(usize) -> X + Sync>(
+    alloc: Global,
+    claimed: Vec<Result<Vec<Answer<X>>, AllocError>>,
+    count: usize,
+    f: &F,
+) -> Result<Vec<X>, AllocError>
+    requires accepts { (i : ℕ) → i < count → F.pre f.now i }
+    requires claimed { All (AreAnswers F.Fn f.now count) claimed.items }
+    ensures len { IfOk result (λ v. length v.items ≡ count) }
+    ensures each { IfOk result (λ v. GivesEach F.Fn f.now count v.items) }
+{
+    let mut slots = empty_slots(alloc, count)?;
+    for answers in claimed {
+        slots = place(answers?, slots, f);
+    }
+    values(alloc, slots, f)
+}
+
 /// Calls `f` at each index below `count`, by at most `threads` threads, and returns the results in order.
 ///
 /// The calling thread is one of them. Each thread claims the next index until all are claimed, so that a slower thread
@@ -124,9 +144,5 @@ pub fn map_claimed<R: Threads, X: Send + Drop, F: Fn(usize) -> X + Sync>(
             ensures { AreAnswers F.Fn f.entry.now count result }
         { claim(alloc, &next, count, f) },
     )?;
-    let mut slots = empty_slots(alloc, count)?;
-    for answers in claimed {
-        slots = place(answers?, slots, f);
-    }
-    values(alloc, slots, f)
+    in_order(alloc, claimed, count, f)
 }

@@ -28,9 +28,9 @@ AreSegments segments text = (i : ℕ) (d : Segment) → i < length segments
 abbrev pub batch_text : Batch → List ℕ
 batch_text b = take b.count b.bytes.items
 
--- the segments of the batch are those of its bytes
-abbrev pub IsGoneOver : Batch → Type 0
-IsGoneOver b = AreSegments b.segments.items (batch_text b)
+-- the segments of the batch, if there are any, are those of its bytes
+abbrev pub IsParsed : Batch → Type 0
+IsParsed b = AreSegments b.segments.items (batch_text b)
 
 -- the reader was fed the batch, which was then filled with the next bytes of a source; `ahead` bytes were read in between
 pub record FedAndFilled (before after : Reading) (old new : Batch) (to_come left : Option (List ℕ)) (ahead : ℕ) : Type 0 where

@@ -2,15 +2,15 @@ use Rattle.qh_read.proofs.threads.feed_batches.Goals as goal
 use Rattle.std.proofs.Common.{arith, ◌≡◌, ◌∙◌, ◌+◌, ◌++◌, ℕ, List, length, length-append, ap, ap₂, sym, subst, append_assoc, Ok}
 use Rattle.std.proofs.lemmas.Result.{err_from_is_err_and}
 use Rattle.std.specs.Io.KnownBytes.{Consumes}
-use Rattle.qh_read.specs.{contract.Holding.Fed, steps.Segments.batch_text, steps.Segments.IsGoneOver}
+use Rattle.qh_read.specs.{contract.Holding.Fed, steps.Segments.batch_text, steps.Segments.IsParsed}
 use Rattle.qh_read.proofs.SourceLemmas.{Consumes-append, Stops-equal, Stops-after}
 
 -- reading stopped after the two batches
 pub returns-in_err-at_end-2-clause-stops : goal.returns-in_err-at_end-2-clause-stops
 returns-in_err-at_end-2-clause-stops g c =
     let s = c.loop-at_end.invariant.so_far in
-    let done : List ℕ = batch_text c.loop-at_end.done in
-    let raw : List ℕ = batch_text c.loop-at_end.raw in
+    let done : List ℕ = batch_text c.loop-at_end.batches.done in
+    let raw : List ℕ = batch_text c.loop-at_end.batches.raw in
     let all : List ℕ = s.given ++ (done ++ raw) in
     let count : c.loop-at_end.reader.count + length done + length raw ≡ c.args.reader.now.count + length all =
     omega (arith, s.count, length-append s.given (done ++ raw), length-append done raw) in
@@ -22,13 +22,14 @@ pub loop-at_end-preserved : goal.loop-at_end-preserved
 loop-at_end-preserved g c =
     let inv = c.loop-at_end.invariant in
     let s = inv.so_far in
-    let done : List ℕ = batch_text c.loop-at_end.done in
-    let raw : List ℕ = batch_text c.loop-at_end.raw in
-    let more : List ℕ = batch_text c.turn.new.done in
+    let done : List ℕ = batch_text c.loop-at_end.batches.done in
+    let raw : List ℕ = batch_text c.loop-at_end.batches.raw in
+    let more : List ℕ = batch_text c.turn.new.batches.next in
     let filled = c.in_ok-at_end-2.ensures.filled in
-    let first : batch_text c.swap.new.x ≡ raw = ap batch_text c.swap.ensures.x_after ∙ c.turn.ensures.text in
-    let second : batch_text c.swap.new.y ≡ more = ap batch_text c.swap.ensures.y_after in
-    let both : (s.given ++ (done ++ raw)) ++ more ≡ (s.given ++ done) ++ (batch_text c.swap.new.x ++ batch_text c.swap.new.y) =
+    let filled_text = c.in_ok-at_end-2.ensures.text in
+    let first : batch_text c.advance.new.self.done ≡ raw = ap batch_text c.advance.ensures.done ∙ filled_text in
+    let second : batch_text c.advance.new.self.raw ≡ more = ap batch_text c.advance.ensures.raw in
+    let both : (s.given ++ (done ++ raw)) ++ more ≡ (s.given ++ done) ++ (batch_text c.advance.new.self.done ++ batch_text c.advance.new.self.raw) =
     append_assoc s.given (done ++ raw) more
     ∙ ap (λ (u : List ℕ). s.given ++ u) (append_assoc done raw more)
     ∙ sym (append_assoc s.given done (raw ++ more))
@@ -42,7 +43,8 @@ loop-at_end-preserved g c =
             (filled.fed form (bytes ++ s.given) (s.fed form bytes h));
         count = omega (arith, s.count, filled.count, length-append s.given done);
       };
-      gone_over = subst IsGoneOver (sym c.swap.ensures.x_after) c.turn.ensures.gone_over;
+      done = subst IsParsed (sym c.advance.ensures.done) c.in_ok-at_end-2.ensures.raw;
+      raw = subst IsParsed (sym c.advance.ensures.raw) c.in_ok-at_end-2.ensures.next;
       fits = omega (arith, filled.fits, ap length first, ap length second);
       steady = c.in_ok-at_end-2.ensures.steady ∙ inv.steady;
       end = λ e. c.in_ok-at_end-2.ensures.end (ap Ok e);
@@ -52,24 +54,17 @@ loop-at_end-preserved g c =
 pub returns-clause-fed : goal.returns-clause-fed
 returns-clause-fed g c =
     let s = c.loop-at_end.invariant.so_far in
-    let done : List ℕ = batch_text c.loop-at_end.done in
-    let raw : List ℕ = batch_text c.loop-at_end.raw in
-    let last : batch_text c.go_over.new.self ≡ raw = c.go_over.ensures.text in
+    let last : List ℕ = batch_text c.loop-at_end.batches.done ++ batch_text c.loop-at_end.batches.raw in
     record {
-      given = s.given ++ (done ++ raw);
+      given = s.given ++ last;
       took = s.took;
-      fed = λ form bytes h.
-          let one = c.in_ok-feed.ensures.fed form (bytes ++ s.given) (s.fed form bytes h) in
-          subst (Fed form c.feed-2.new.reader) (ap (λ (u : List ℕ). ((bytes ++ s.given) ++ done) ++ u) last
-          ∙ append_assoc (bytes ++ s.given) done raw
-          ∙ append_assoc bytes s.given (done ++ raw)) (c.in_ok-feed-2.ensures.fed form ((bytes ++ s.given) ++ done) one);
+      fed = λ form bytes h. subst (Fed form c.feed_last.new.reader) (append_assoc bytes s.given last)
+          (c.in_ok-feed_last.ensures.fed form (bytes ++ s.given) (s.fed form bytes h));
       count = omega (
         arith,
         s.count,
-        c.in_ok-feed.ensures.count,
-        c.in_ok-feed-2.ensures.count,
-        ap length last,
-        length-append s.given (done ++ raw),
-        length-append done raw,
+        c.in_ok-feed_last.ensures.count,
+        length-append s.given last,
+        length-append (batch_text c.loop-at_end.batches.done) (batch_text c.loop-at_end.batches.raw),
       );
     }

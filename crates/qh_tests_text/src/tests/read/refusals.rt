@@ -62,6 +62,7 @@ fn tries_again(rt: HostRuntime) {
         start: 8,
         batch: 40,
         segments: 2,
+        threads: 3,
     };
     for (text, points) in ROWS {
         let bytes = text.as_bytes();

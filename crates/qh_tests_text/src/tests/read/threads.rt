@@ -82,12 +82,12 @@ const FACES: &str =
 
 /// Sizes of a few bytes.
 const SMALL: [Sizes; 6] = table![
-    Sizes { start: 0, batch: 1, segments: 2 };
-    Sizes { start: 0, batch: 16, segments: 1 };
-    Sizes { start: 16, batch: 64, segments: 1 };
-    Sizes { start: 0, batch: 151, segments: 2 };
-    Sizes { start: 7, batch: 230, segments: 3 };
-    Sizes { start: 0, batch: 4096, segments: 4 };
+    Sizes { start: 0, batch: 1, segments: 2, threads: 2 };
+    Sizes { start: 0, batch: 16, segments: 1, threads: 3 };
+    Sizes { start: 16, batch: 64, segments: 1, threads: 2 };
+    Sizes { start: 0, batch: 151, segments: 2, threads: 4 };
+    Sizes { start: 7, batch: 230, segments: 3, threads: 1 };
+    Sizes { start: 0, batch: 4096, segments: 4, threads: 3 };
 ];
 
 /// Returns the result of reading these bytes in these sizes.
@@ -152,6 +152,7 @@ fn reads_lines_cut_anywhere(rt: HostRuntime) -> Result<(), Fail> {
                 start: 0,
                 batch,
                 segments: 2,
+                threads: 4,
             };
             let outcome = read_sizes(&rt, rt.alloc(), form, &bytes, sizes);
             assert_points(&rt, outcome, &PLACES, header, Way::Pieces(batch));
@@ -217,6 +218,7 @@ fn read_failing(
         start: 2,
         batch: 4,
         segments: 2,
+        threads: 3,
     };
     let outcome = read_form_sizes(rt, alloc, Form::Qhull, &mut source, sizes);
     (outcome, source.failures())

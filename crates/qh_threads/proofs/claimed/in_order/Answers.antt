@@ -3,7 +3,7 @@ use Rattle.std.proofs.Common.{◌∙◌, subst, All, IfOk}
 use Rattle.std.proofs.lemmas.List.Elements.{All-tail}
 use Rattle.std.specs.{Fork.GivesEach, Vec.Iter.into_iter_items}
 use Rattle.qh_threads.specs.steps.Answers.{AreAnswers}
-use Rattle.qh_threads.proofs.claimed.map_claimed.Goals as goal
+use Rattle.qh_threads.proofs.claimed.in_order.Goals as goal
 
 pub loop-answers-preserved : goal.loop-answers-preserved
 loop-answers-preserved g c =

@@ -2,7 +2,7 @@
 use Rattle.std.proofs.Common.{◌≡◌, length, All}
 use Rattle.std.specs.Vec.Iter.{into_iter_items}
 use Rattle.qh_threads.specs.steps.Answers.{AreAnswers, ArePlaced}
-use Rattle.qh_threads.proofs.claimed.map_claimed.Given as goal
+use Rattle.qh_threads.proofs.claimed.in_order.Given as goal
 
 abbrev pub invariant-loop-answers : goal.invariant-loop-answers
 invariant-loop-answers g l = record {
