@@ -203,8 +203,8 @@ impl Mesh {
     /// in the order of the horizon: the visible facets in their order, and of each the sides 0, 1 and 2 across which a
     /// facet remains.
     ///
-    /// `Err` means that an allocation failed, or that half-edges would have numbers past 32 bits. Then the mesh is
-    /// unchanged.
+    /// `Err` means that a growth was refused: an allocation failed, or the mesh would have more places than 32 bits can
+    /// number the half-edges of. Then the mesh is unchanged.
     pub fn replace(
         &mut self,
         alloc: Global,

@@ -8,7 +8,7 @@ use crate::slots::Slot;
 use qh_model::FacetNo;
 use std::alloc::{AllocError, Global};
 
-/// The greatest number of places for which the numbers of half-edges fit 32 bits.
+/// The greatest number of places that a mesh can have: the numbers of their half-edges fit 32 bits.
 const PLACES: usize = 1_431_655_765;
 
 /// Memory that a replacement uses, and that a mesh keeps for the next one.
