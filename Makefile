@@ -1,7 +1,7 @@
 # Builds and installs the programs; the library for C is installed by its own Makefile in c/.
 #
 #     make                  proves and builds the programs that were not built yet, on all processors
-#     make everything       the same with the library for C, in one run that proves no crate twice
+#     make everything       the same, and the library for C by `make -C c`, for which one crate is left to prove
 #     make install          the program with its manual page and what shells complete, and hullcheck, under PREFIX (/usr/local),
 #                           below DESTDIR
 #     make install NAME=qconvex-exact
@@ -9,7 +9,7 @@
 #     make uninstall
 #     make -C c install     the libraries for C, with header, qconvex.pc and a CMake package
 #
-# `taskset -c 0,1 make` proves on two processors.
+# `make JOBS=2` proves on two processors.
 PREFIX ?= /usr/local
 NAME ?= qconvex
 BINDIR ?= $(PREFIX)/bin
@@ -25,19 +25,14 @@ FISH_COMPLETION = $(DESTDIR)$(DATADIR)/fish/vendor_completions.d/$(NAME).fish
 all: $(PROGRAM) $(CHECKER)
 
 $(PROGRAM):
-	scripts/make/programs.py qconvex hullcheck
+	scripts/make/prove.py qconvex hullcheck
 	$(PROGRAM) off < examples/unit-cube.txt | $(CHECKER) examples/unit-cube.txt
 
 # The rule above makes the checker, too; this one is for a checker that was removed since.
 $(CHECKER): | $(PROGRAM)
-	test -x $@ || scripts/make/programs.py hullcheck
+	test -x $@ || scripts/make/prove.py hullcheck
 
-# The crates that were not built yet. programs.py proves by the gate, whose proofs serve no library for C.
-UNBUILT = $(strip $(foreach name,qconvex hullcheck qconvex_c,$(if $(wildcard crates/$(name)/out/$(name) crates/$(name)/out/lib$(name).a),,$(name))))
-
-everything:
-	$(if $(UNBUILT),scripts/make/prove.py $(UNBUILT))
-	$(PROGRAM) off < examples/unit-cube.txt | $(CHECKER) examples/unit-cube.txt
+everything: all
 	$(MAKE) -C c
 
 install: $(PROGRAM) $(CHECKER)

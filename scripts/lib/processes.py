@@ -1,5 +1,7 @@
-"""The processes of the machine, as Linux tells of them in /proc."""
+"""The processes of the machine, as Linux tells of them in /proc, and the end of this one."""
 import os
+import signal
+import sys
 from pathlib import Path
 
 TICKS = os.sysconf("SC_CLK_TCK")
@@ -35,3 +37,9 @@ def seconds_in(fields):
 def seconds_with_children_in(fields):
     """The processor seconds of a process and of its children that have ended, by its fields."""
     return sum(map(int, fields[11:15])) / TICKS
+
+
+def end_once(number, _):
+    """Ends the script at a signal. The next one is ignored: `make` passes on one that its whole group gets."""
+    signal.signal(number, signal.SIG_IGN)
+    sys.exit(128 + number)

@@ -1,5 +1,5 @@
 #!/usr/bin/env python3
-"""Builds programs by the gate, which proves them and the crates below them.
+"""Builds programs of what a gate passed on this machine, and the programs of trials.
 
     scripts/make/programs.py PROGRAM..      from the top of the repository
 
@@ -10,7 +10,8 @@ processors that it may run on; `taskset` gives it fewer.
 
 What a run passed, `rt` keeps on the machine where it may write beside itself. So a second run proves nothing again, and one
 after a gate over the whole repository proves the programs' own crates alone, which have no tests in the copy. A gate after
-this script goes on from it, and proves the programs' own crates once more, with their tests.
+this script goes on from it, and proves the programs' own crates once more, with their tests. `make` builds the programs by
+prove.py, whose libraries serve `make -C c`, too; those of this script do not.
 
 The script prints a line for each crate, and what `rt` said of one that is not proved. Then the status is 1.
 """
@@ -23,6 +24,7 @@ from pathlib import Path
 
 sys.path.insert(0, str(Path(__file__).resolve().parents[1]))
 from lib.copies import copy_crates, crates_below, is_of_trials, plant  # noqa: E402
+from lib.processes import end_once  # noqa: E402
 from lib.usage import names_given  # noqa: E402
 
 COPY = Path("build/programs")
@@ -86,12 +88,6 @@ def passed():
             gate.terminate()
             raise
     return gate.returncode
-
-
-def end_once(number, _):
-    """Ends the script at a signal. The next one is ignored: `make` passes on one that its whole group gets."""
-    signal.signal(number, signal.SIG_IGN)
-    sys.exit(128 + number)
 
 
 def main():

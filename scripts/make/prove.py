@@ -3,17 +3,18 @@
 
     scripts/make/prove.py CRATE..           from the top of the repository
 
-JOBS in the environment is the number of processors to use; without it, all. `rt all check --jobs N` gives each crate one
-process, and where crates form a chain the other processors are idle. Here a crate gets up to four processes where few
+JOBS in the environment is the number of processors to use; without it, all that the script may run on. `rt all check --jobs N`
+gives each crate one process, and where crates form a chain the other processors are idle. Here a crate gets up to four processes where few
 others can be proved beside it. One folder admits one `rt` at a time, so each runs in a copy of the crates, below
 `build/prove`, which gets the libraries that were proved in the others. What was proved comes back to the repository,
 and the copies go. A library that was proved before, and whose files are the same, is not proved again.
 
 The script prints a line for each crate, and what `rt` said of one that is not proved. After that no other crate begins,
-those that have begun are proved to their end, and the status is 1.
+those that have begun are proved to their end, and the status is 1. SIGTERM ends them, too.
 """
 import os
 import shutil
+import signal
 import subprocess
 import sys
 import time
@@ -22,11 +23,14 @@ from pathlib import Path
 
 sys.path.insert(0, str(Path(__file__).resolve().parents[1]))
 from lib.copies import copy_crates, crates_below, give_library  # noqa: E402
+from lib.processes import end_once  # noqa: E402
 from lib.usage import names_given  # noqa: E402
 
 COPIES = Path("build/prove")
 # The most processes that one crate gets: each loads the libraries anew.
 MOST_EACH = 4
+# The runs of rt that have not ended.
+RUNNING: set[subprocess.Popen] = set()
 
 
 def lines_of(name):
@@ -56,11 +60,13 @@ def proved(name, lane, jobs):
     folder = lane / "crates" / name
     is_program = (folder / "src/main.rt").exists()
     words = ["run" if is_program else "lib", "--jobs", str(jobs)] + ["--", "--help"] * is_program
-    run = subprocess.run(
-        ["rt", *words], cwd=folder, stdin=subprocess.DEVNULL, stdout=subprocess.PIPE, stderr=subprocess.STDOUT, text=True
-    )
+    streams = {"stdin": subprocess.DEVNULL, "stdout": subprocess.PIPE, "stderr": subprocess.STDOUT}
+    with subprocess.Popen(["rt", *words], cwd=folder, text=True, **streams) as run:
+        RUNNING.add(run)
+        said, _ = run.communicate()
+        RUNNING.remove(run)
     failed = not (folder / "out" / f"{name}.stamp").exists() if is_program else run.returncode
-    return (run.stdout or f"rt ended with status {run.returncode}\n") if failed else ""
+    return (said or f"rt ended with status {run.returncode}\n") if failed else ""
 
 
 def copies(number):
@@ -123,11 +129,20 @@ class Crates:
         shutil.rmtree(COPIES)
 
 
+def end_all(number, frame):
+    """Ends the runs of rt, and the script with them."""
+    for run in tuple(RUNNING):
+        run.terminate()
+    end_once(number, frame)
+
+
 def main():
+    signal.signal(signal.SIGTERM, end_all)
     names = names_given(__doc__)
     if not names:
         sys.exit("name a crate: scripts/make/prove.py CRATE..")
-    crates, start = Crates(names, max(1, int(os.environ.get("JOBS") or os.cpu_count()))), time.monotonic()
+    jobs = int(os.environ.get("JOBS") or len(os.sched_getaffinity(0)))
+    crates, start = Crates(names, max(1, jobs)), time.monotonic()
     failed = False
     try:
         with ThreadPoolExecutor(crates.processors) as pool:

@@ -3,6 +3,7 @@ import os
 import subprocess
 import sys
 import tempfile
+import time
 import unittest
 from pathlib import Path
 from unittest import mock
@@ -18,6 +19,7 @@ refused) echo refused; exit 1 ;;
 wrong) echo wrong; exit 1 ;;
 killed) kill -9 $$ ;;
 slow) sleep 0.5; mkdir out/rlib ;;
+long) echo $$ > ../../../../../number; exec sleep 60 ;;
 esac
 """
 
@@ -50,6 +52,18 @@ class Proved(unittest.TestCase):
         (self.lane / "crates" / "killed" / "src").mkdir(parents=True)
         self.assertEqual(prove.proved("killed", self.lane, 2), "rt ended with status -9\n")
 
+    def test_a_run_that_is_terminated_ends_rt_and_leaves_no_copy(self):
+        (self.lane / "crates" / "long" / "src").mkdir(parents=True)
+        (self.lane / "crates.txt").write_text("long:\n")
+        (self.lane / "HANDLES").touch()
+        run = subprocess.Popen([sys.executable, prove.__file__, "long"], cwd=self.lane, env={**os.environ, "JOBS": "1"})
+        number = self.lane / "number"
+        while not number.exists() or not number.read_text():
+            time.sleep(0.01)
+        run.terminate()
+        self.assertEqual(run.wait(), 143)
+        self.assertFalse(Path("/proc", number.read_text().strip()).exists() or (self.lane / "build/prove").exists())
+
     def test_what_is_proved_while_another_crate_fails_comes_back(self):
         (self.lane / "crates" / "slow" / "src").mkdir(parents=True)
         (self.lane / "crates.txt").write_text("wrong:\nslow:\nlibrary: wrong slow\n")
@@ -63,20 +77,19 @@ class Proved(unittest.TestCase):
         self.assertFalse((self.lane / "crates/library/out").exists() or (self.lane / "build/prove").exists())
 
 
-class Everything(unittest.TestCase):
-    def test_make_proves_what_was_not_built_in_one_run(self):
+class Make(unittest.TestCase):
+    def test_make_proves_the_programs_in_one_run_and_only_once(self):
         makefile = Path(prove.__file__).resolve().parents[2] / "Makefile"
-        wanted = ["scripts/make/prove.py qconvex hullcheck qconvex_c", "scripts/make/prove.py qconvex", None]
         with tempfile.TemporaryDirectory() as folder:
             (Path(folder) / "c").mkdir()
-            (Path(folder) / "c/Makefile").write_text("all:\n")
-            for built, line in zip([[], ["hullcheck/out/hullcheck", "qconvex_c/out/libqconvex_c.a"], ["qconvex/out/qconvex"]], wanted):
-                for file in built:
-                    (Path(folder) / "crates" / file).parent.mkdir(parents=True)
-                    (Path(folder) / "crates" / file).touch()
+            (Path(folder) / "c/Makefile").write_text("all:\n\techo the library\n")
+            for wanted in [["scripts/make/prove.py qconvex hullcheck", "echo the library"], ["echo the library"]]:
                 done = subprocess.run(["make", "-n", "-f", makefile, "everything"], cwd=folder, capture_output=True, text=True, check=True)
-                found = [" ".join(it.split()) for it in done.stdout.splitlines() if "prove.py" in it]
-                self.assertEqual(found, [line] if line else [])
+                found = [it for it in done.stdout.splitlines() if it.startswith(("scripts/make/prove.py", "echo the library"))]
+                self.assertEqual(found, wanted)
+                for name in ["qconvex", "hullcheck"]:
+                    (Path(folder) / "crates" / name / "out").mkdir(parents=True, exist_ok=True)
+                    (Path(folder) / "crates" / name / "out" / name).touch(mode=0o755)
 
 
 if __name__ == "__main__":
