@@ -138,6 +138,24 @@ static void volumes(void) {
     expect(qconvex_six_volumes(cube, 9, triangles, 3 * count, &volume) == QCONVEX_DONE && volume.low == 6 && volume.high == 0, "a cube");
 }
 
+static void neighbours(void) {
+    enum { MANY = 2 * QCONVEX_POINT_LIMIT };
+    static const uint32_t outward[13] = {0, 2, 1, 0, 1, 3, 0, 3, 2, 1, 2, 3, 9}, wanted[13] = {3, 1, 2, 3, 2, 0, 3, 0, 1, 2, 1, 0, UNTOUCHED};
+    static const uint32_t doubled[9] = {0, 1, 2, 1, 0, 3, 1, 0, 4}, beyond[3] = {0, 1, QCONVEX_POINT_LIMIT};
+    uint32_t found[13], *many = calloc(3 * MANY + 3, sizeof *many);
+    for (size_t k = 0; k < 13; k++) found[k] = UNTOUCHED;
+    expect(qconvex_neighbors(beyond, 3, found, 13) == QCONVEX_RANGE && found[0] == UNTOUCHED, "a corner beyond all points");
+    expect(qconvex_neighbors(outward, 12, found, 11) == QCONVEX_ROOM && found[0] == UNTOUCHED, "room for neighbours");
+    expect(qconvex_neighbors(outward, 13, found, 13) == QCONVEX_DONE && memcmp(found, wanted, sizeof wanted) == 0, "a tetrahedron");
+    expect(qconvex_neighbors(outward, 2, found, 0) == QCONVEX_DONE, "no triangle");
+    expect(qconvex_neighbors(doubled, 9, found, 9) == QCONVEX_DONE && found[2] == 1 && found[5] == 0 && found[8] == 0, "a side that three share");
+    expect(found[0] == QCONVEX_NONE && found[1] == QCONVEX_NONE, "sides of one triangle alone");
+    if (many) {
+        expect(qconvex_neighbors(many, 3 * MANY + 3, found, 13) == QCONVEX_TOO_MANY, "a triangle too many");
+        free(many);
+    }
+}
+
 static void version_is_that_of_the_header(void) {
     int major, minor, patch;
     expect(sscanf(QCONVEX_VERSION, "%d.%d.%d", &major, &minor, &patch) == 3, "the header's version has three numbers");
@@ -151,6 +169,7 @@ int main(void) {
     fans_of_a_cube();
     longest_normal();
     volumes();
+    neighbours();
     short_buffers_are_refused();
     bad_points_are_refused();
     printf(wrong ? "%d answers are wrong\n" : "all answers are right\n", wrong);

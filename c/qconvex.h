@@ -98,6 +98,20 @@ typedef struct {
 uint32_t qconvex_six_volumes(const qconvex_point *points, size_t count, const uint32_t *triangles, size_t corner_count,
                              qconvex_wide *volume);
 
+#define QCONVEX_NONE 4294967295u /* for neighbours: no triangle has the reversed side */
+
+/* The neighbours of triangles, over their sides. Three numbers of `triangles` are one triangle; one or two that are left
+ * count nothing. Side i of a triangle is opposite to its corner i: it goes from the corner behind that one to the corner
+ * before it. QCONVEX_DONE: neighbors begins with three numbers for each triangle, of which number i is the first triangle,
+ * by its position, that has side i reversed, or QCONVEX_NONE where none has. The triangles of qconvex_fans in dimension 3
+ * close up: there each side is reversed in exactly one. What stands behind in the buffer stays as it was.
+ *
+ * QCONVEX_TOO_MANY exactly where there are more than 2 * QCONVEX_POINT_LIMIT triangles, which no hull has; else
+ * QCONVEX_RANGE exactly where a corner is not below QCONVEX_POINT_LIMIT; else QCONVEX_ROOM exactly where neighbors_room is
+ * below three for each triangle. These and QCONVEX_MEMORY leave neighbors as it was; there is no other answer. The time is
+ * that of a sort of the sides, also where a corner has many triangles. */
+uint32_t qconvex_neighbors(const uint32_t *triangles, size_t corner_count, uint32_t *neighbors, size_t neighbors_room);
+
 /* What a set among many is told. */
 typedef struct {
     uint32_t code;       /* the answer of qconvex_hull for the set alone */

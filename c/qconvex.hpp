@@ -37,6 +37,7 @@ namespace qconvex {
 using Point = qconvex_point;
 using Index = std::uint32_t;                /* of a point, from 0 on */
 using Triangle = std::array<Index, 3>;      /* its corners, counterclockwise seen from outside */
+using Neighbors = std::array<Index, 3>;     /* the triangle over the side opposite to each corner, or QCONVEX_NONE */
 using Normal = std::array<std::int64_t, 3>; /* a vector that points outside */
 
 /* What the library answers to a call; qconvex.h says when. */
@@ -259,6 +260,12 @@ template <class Element> const Element *address_of(View<Element> elements) noexc
     return elements.size() ? elements.begin() : &nothing;
 }
 
+/* The address of the first corner of triangles, likewise. */
+inline const Index *first_of(const std::vector<Triangle> &triangles) noexcept {
+    static_assert(sizeof(Triangle) == 3 * sizeof(Index), "triangles stand one after the other");
+    return address_of(View<Triangle>(triangles))->data();
+}
+
 /* The number of threads that workers stand for. */
 inline std::size_t count_of(unsigned workers) noexcept {
     return workers ? workers : std::max(1u, std::thread::hardware_concurrency());
@@ -441,15 +448,24 @@ inline Fans fans(Points points, unsigned workers = 1) {
  * sum has more than 128 bits, and with Status::range where a corner is the index of no point. */
 inline Wide six_volumes(Points points, const std::vector<Triangle> &triangles) {
     qconvex_wide sum{};
-    static const Triangle nothing{};
-    const Index *first = (triangles.empty() ? nothing : triangles[0]).data();
-    static_assert(sizeof(Triangle) == 3 * sizeof(Index), "triangles stand one after the other");
-    detail::expect_done(qconvex_six_volumes(detail::address_of(points), points.size(), first, 3 * triangles.size(), &sum));
+    detail::expect_done(qconvex_six_volumes(detail::address_of(points), points.size(), detail::first_of(triangles),
+                                            3 * triangles.size(), &sum));
     return Wide(sum);
 }
 
 /* The volume inside such triangles, rounded. */
 inline double volume(Points points, const std::vector<Triangle> &triangles) { return six_volumes(points, triangles).rounded() / 6; }
+
+/* Of each triangle those over its sides, each opposite to the corner at the same place; QCONVEX_NONE where none has the side
+ * reversed. Throws Error with Status::range where a corner is not below QCONVEX_POINT_LIMIT, and with Status::too_many where
+ * there are more than twice as many triangles. */
+inline std::vector<Neighbors> neighbors(const std::vector<Triangle> &triangles) {
+    std::vector<Neighbors> found(std::max<std::size_t>(triangles.size(), 1));
+    const std::size_t count = 3 * triangles.size();
+    detail::expect_done(qconvex_neighbors(detail::first_of(triangles), count, found[0].data(), count));
+    found.resize(triangles.size());
+    return found;
+}
 
 /* The hulls of many sets that follow each other in one list: set j has the points from points[starts[j]] to before
  * points[starts[j + 1]]. A set that is refused leaves the others. Throws Error with Status::starts where the starts don't

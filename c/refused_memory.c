@@ -157,6 +157,26 @@ static void refuse_each_of_check(bool turned, long *tried, long *memory, long *w
     }
 }
 
+/* The neighbours of the triangles of fans in a blank buffer; one request may be refused. */
+static uint32_t call_neighbors(struct buffers *fans, struct buffers *to) {
+    requests = 0;
+    memcpy(to, &blank, sizeof blank);
+    return qconvex_neighbors(fans->triangles, 3 * fans->count, to->corners, 3 * fans->count);
+}
+
+/* Refuses each request of a call for neighbours in turn. */
+static void refuse_each_of_neighbors(long *tried, long *memory, long *wrong) {
+    static struct buffers fans;
+    refused = 0;
+    *wrong += call(true, &fans) != QCONVEX_DONE || call_neighbors(&fans, &right) != QCONVEX_DONE || living != 0;
+    long total = requests;
+    for (refused = 1; refused <= total; refused++, ++*tried) {
+        uint32_t code = call_neighbors(&fans, &now);
+        *memory += code == QCONVEX_MEMORY;
+        *wrong += !is_right(code);
+    }
+}
+
 int main(void) {
     long tried = 0, memory = 0, wrong = 0;
     memset(&blank, 0x55, sizeof blank);
@@ -165,6 +185,7 @@ int main(void) {
         refuse_each(false, &tried, &memory, &wrong);
         refuse_each(true, &tried, &memory, &wrong);
         refuse_each_of_sets(&tried, &memory, &wrong);
+        refuse_each_of_neighbors(&tried, &memory, &wrong);
         refuse_each_of_check(false, &tried, &memory, &wrong);
         if (family < 2) refuse_each_of_check(true, &tried, &memory, &wrong);
     }

@@ -40,6 +40,8 @@ void a_cube() {
     expect(triangles.triangles[1] == Triangle({0, 3, 2}) && triangles.normals[1] == Normal({-1, 0, 0}), "a triangle of a cube");
     expect(triangles.area() == 6.0, "the area of a cube");
     expect(six_volumes(cube, triangles.triangles).decimal() == "6" && volume(cube, triangles.triangles) == 1.0, "a cube's volume");
+    const std::vector<Neighbors> beside = neighbors(triangles.triangles);
+    expect(beside.size() == 12 && beside[0] == Neighbors({7, 1, 5}) && beside[1][2] == 0, "the neighbours of a cube's triangle");
     const Point corners[4] = {{0, 0, 0}, {2, 0, 0}, {0, 2, 0}, {0, 0, 2}};
     expect(hull(corners).face_count() == 4 && hull(Points(corners, 3)).face_count() == 1, "an array and a part of it");
     expect(version() == QCONVEX_VERSION_NUMBER, "the version");
@@ -80,6 +82,8 @@ void refusals() {
     expect(is_refused(Status::range, [&] { hull(last, 4); }), "out of range in a part");
     expect(is_refused(Status::no_point, [&] { six_volumes(none, {}); }), "the volume of no point");
     expect(is_refused(Status::range, [&] { six_volumes(cube, {{0, 1, 9}}); }), "a corner beyond the points");
+    expect(is_refused(Status::range, [&] { neighbors({{0, 1, QCONVEX_POINT_LIMIT}}); }), "a corner beyond all points");
+    expect(neighbors({}).empty() && neighbors({{0, 1, 2}})[0][1] == QCONVEX_NONE, "one triangle and none");
     const std::vector<std::size_t> falling = {0, 5, 4}, beyond = {0, 10}, missing;
     for (const auto *starts : {&falling, &beyond, &missing}) {
         expect(is_refused(Status::starts, [&] { hulls(cube, *starts); }), "starts");

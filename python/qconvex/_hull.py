@@ -58,8 +58,8 @@ class ConvexHull(Surface):
     """The convex hull of points in space with whole coordinates, exact.
 
     Points may be repeated, and may lie in one line or one plane. The proved library computes `vertices`, `faces`, `dimension`,
-    `distinct`, `nedges` and `six_volumes`. numpy computes the other attributes when they are first asked for; they are tested,
-    not proved.
+    `distinct`, `nedges`, `six_volumes` and `neighbors`. numpy computes the other attributes when they are first asked for; they
+    are tested, not proved.
 
     Parameters
     ----------

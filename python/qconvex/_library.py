@@ -62,6 +62,8 @@ def _load() -> ctypes.CDLL:
     library.qconvex_version.argtypes = []
     library.qconvex_hull.restype = ctypes.c_uint32
     library.qconvex_hull.argtypes = [*buffer, ctypes.POINTER(_Sizes), *buffer, *buffer, *buffer]
+    library.qconvex_neighbors.restype = ctypes.c_uint32
+    library.qconvex_neighbors.argtypes = [*buffer, *buffer]
     library.qconvex_six_volumes.restype = ctypes.c_uint32
     library.qconvex_six_volumes.argtypes = [*buffer, *buffer, ctypes.POINTER(_Wide)]
     return library
@@ -133,6 +135,19 @@ def six_volumes(points: NDArray[np.int32], triangles: NDArray[np.int32]) -> int:
         raise error_of(code)
     bits: int = volume.high << 64 | volume.low
     return bits - (bits >> 127 << 128)
+
+
+def neighbors(triangles: NDArray[np.int32]) -> NDArray[np.int32]:
+    """Returns of each triangle the one over the side opposite to each corner, or -1 where none has this side reversed.
+
+    The array is C-contiguous, of int32, with three corners a row, each below `POINT_LIMIT`.
+    """
+    found = np.empty((max(len(triangles), 1), 3), np.int32)  # a pointer that is not null, also for no triangles
+    source = triangles if len(triangles) else found
+    code = LIBRARY.qconvex_neighbors(source.ctypes.data, triangles.size, found.ctypes.data, triangles.size)
+    if code != _DONE:
+        raise error_of(code)
+    return found[: len(triangles)]
 
 
 def flat_hull(points: NDArray[np.int32]) -> FlatHull:

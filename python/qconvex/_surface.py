@@ -8,8 +8,8 @@ import numpy as np
 from numpy.typing import NDArray
 
 from ._facets import edges_of, inequalities_of
-from ._library import FlatHull, six_volumes
-from ._triangles import equations_of, fans_of, lengths_of, neighbors_of, normals_of
+from ._library import FlatHull, neighbors, six_volumes
+from ._triangles import equations_of, fans_of, lengths_of, normals_of
 
 
 class Surface:
@@ -95,7 +95,7 @@ class Surface:
 
         It is -1 where no triangle is, as at the border of a set in a plane.
         """
-        return neighbors_of(self.simplices, len(self.points), closed=self.dimension == 3)
+        return neighbors(self.simplices)
 
     @cached_property
     def six_volumes(self) -> int:

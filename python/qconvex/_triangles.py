@@ -6,9 +6,6 @@ from typing import Any
 import numpy as np
 from numpy.typing import NDArray
 
-# The places behind and before each of three places that go round.
-_NEXT, _LAST = np.array([1, 2, 0]), np.array([2, 0, 1])
-
 
 def fans_of(corners: NDArray[np.int32], offsets: NDArray[np.intp]) -> NDArray[np.int32]:
     """The fans of faces in flat lists: each face's first corner with each two neighbours behind it."""
@@ -54,24 +51,3 @@ def equations_of(normals: NDArray[np.int64], lengths: NDArray[np.float64], place
     np.divide(normals, lengths[:, np.newaxis], out=units)
     np.negative(np.einsum("ij,ij->i", units, places), out=equations[:, 3])
     return equations
-
-
-def neighbors_of(triangles: NDArray[np.int32], count: int, *, closed: bool) -> NDArray[np.int32]:
-    """Of each triangle the one over the side opposite to each corner, or -1; the corners are below a count.
-
-    No side is in more than two triangles, and in a closed surface each is in two. So the sides, sorted by their two ends,
-    stand in pairs, or alone.
-    """
-    wide = triangles.astype(np.int64)
-    starts, ends = wide.take(_NEXT, 1).ravel(), wide.take(_LAST, 1).ravel()
-    keys = np.minimum(starts, ends) * count + np.maximum(starts, ends)
-    order = keys.argsort()
-    if closed:
-        one, other = order[0::2], order[1::2]
-    else:
-        rising = keys[order]
-        paired = rising[1:] == rising[:-1]
-        one, other = order[:-1][paired], order[1:][paired]
-    neighbors = np.full(len(keys), -1, np.int32)
-    neighbors[one], neighbors[other] = other // 3, one // 3
-    return neighbors.reshape(-1, 3)

@@ -6,3 +6,4 @@ pub mod SetHulls
 pub mod StartsTest
 pub mod VolumeSums
 pub mod RightVerdicts
+pub mod SideKeys

@@ -6,3 +6,4 @@ pub mod Codes
 pub mod Sets
 pub mod Volumes
 pub mod Checked
+pub mod Neighbors

@@ -2,3 +2,4 @@
 pub mod Codes
 pub mod FaceFans
 pub mod Buffers
+pub mod SideKeys

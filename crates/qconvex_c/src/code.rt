@@ -20,3 +20,6 @@ pub const ROOM: u32 = 5;
 
 /// For many sets: there is no start, the starts do not rise, or one is beyond the points.
 pub const STARTS: u32 = 6;
+
+/// For neighbours: no triangle has the reversed side.
+pub const NONE: u32 = 4294967295;

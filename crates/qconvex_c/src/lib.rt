@@ -4,7 +4,8 @@
 //! `given` converts the points, and `judging` refuses those that have no hull here. `flat_hull` and `fans` lay a hull
 //! out in flat lists, which `given_hull` returns. `buffers` and `fan_lists` fill the caller's buffers. `sets` and
 //! `set_hulls` do so for many sets in one call. `cut_faces` converts the faces of a caller, which `checked` judges, and
-//! `told` converts the result. No function here starts a thread or keeps anything between calls.
+//! `told` converts the result. `side_keys` sorts the sides of triangles, which `neighbors` joins. No function here starts a
+//! thread or keeps anything between calls.
 #![tactic(auto)]
 
 mod buffers;
@@ -23,11 +24,15 @@ mod given_hull;
 mod judging;
 mod kind;
 mod many;
+#[cfg(test)]
+mod neighbor_tests;
+mod neighbors;
 mod set_answer;
 mod set_hulls;
 #[cfg(test)]
 mod set_tests;
 mod sets;
+mod side_keys;
 mod sizes;
 #[cfg(test)]
 mod tests;
@@ -39,11 +44,12 @@ mod volume_tests;
 mod volumes;
 
 pub use checked::qconvex_check;
-pub use code::{DONE, MEMORY, NO_POINT, RANGE, ROOM, STARTS, TOO_MANY};
+pub use code::{DONE, MEMORY, NO_POINT, NONE, RANGE, ROOM, STARTS, TOO_MANY};
 pub use exported::{qconvex_fans, qconvex_hull};
 pub use given::Given;
 pub use kind::{ABOVE, NO_PLANE, OPEN, OTHER_FACE, OTHERS, RIGHT, STRANGER, TWICE};
 pub use many::qconvex_hulls;
+pub use neighbors::qconvex_neighbors;
 pub use set_answer::SetAnswer;
 pub use sizes::Sizes;
 pub use verdict::Verdict;

@@ -29,6 +29,10 @@ QCONVEX_ROOM = 5
 abbrev pub QCONVEX_STARTS : ℕ
 QCONVEX_STARTS = 6
 
+-- for neighbours: no triangle has the reversed side
+abbrev pub QCONVEX_NONE : ℕ
+QCONVEX_NONE = 4294967295
+
 -- ---- kinds of verdicts
 -- the faces are the surface of the hull
 abbrev pub QCONVEX_RIGHT : ℕ

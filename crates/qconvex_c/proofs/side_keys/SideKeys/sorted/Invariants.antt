@@ -1,0 +1,9 @@
+use Rattle.qconvex_c.specs.contract.Neighbors.{side_from, side_to}
+use Rattle.qconvex_c.specs.steps.SideKeys.{AreKeys}
+use Rattle.qconvex_c.proofs.side_keys.SideKeys.sorted.Given as goal
+
+abbrev pub invariant-loop-side : goal.invariant-loop-side
+invariant-loop-side l = record {
+  up : AreKeys l.side (side_from l.triangles) (side_to l.triangles) l.up.items;
+  down : AreKeys l.side (side_to l.triangles) (side_from l.triangles) l.down.items;
+}
