@@ -56,7 +56,7 @@ inline std::string text_of(Status status) {
     switch (status) {
     case Status::done: return "done";
     case Status::no_point: return "there is no point";
-    case Status::too_many: return "there are more than " + std::to_string(QCONVEX_POINT_LIMIT) + " points";
+    case Status::too_many: return "there are more than " + std::to_string(QCONVEX_POINT_LIMIT) + " points, or twice as many triangles";
     case Status::range: return "a coordinate, or the index of a corner, is out of range";
     case Status::memory: return "out of memory";
     case Status::room: return "a number, or what was found, has no room";
