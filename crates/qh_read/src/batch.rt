@@ -1,5 +1,5 @@
 //! Batches of bytes, which are cut into segments for several threads.
-ghost use Rattle.std.specs.Prelude.{◌≤◌, ◌<◌, vec_len};
+ghost use Rattle.std.specs.Prelude.{◌≤◌, vec_len};
 
 use crate::fault::FeedFault;
 use crate::filling::fill;
@@ -10,7 +10,7 @@ use crate::source::Source;
 use crate::threads::Sizes;
 use qh_model::{BYTE_LIMIT, ReadFault};
 use qh_threads::{Calls, map_claimed_beside};
-use std::alloc::{AllocError, Global};
+use std::alloc::Global;
 use std::thread::Threads;
 
 /// Bytes of a source, and their segments once these are parsed.
@@ -21,28 +21,26 @@ pub struct Batch {
     count: usize,
     segments: Vec<Segment>,
     ghost within: { count ≤ vec_len bytes },
-    ghost some: { 0 < vec_len bytes },
 }
 
 impl Batch {
-    ghost use Rattle.std.specs.Prelude.{◌≡◌, ◌+◌, ◌-◌, ◌^◌, ◌++◌, ℕ, List, true, false, length, IfOk, IfErr, OnOk, Ok};
+    ghost use Rattle.std.specs.Prelude.{◌≡◌, ◌+◌, ◌-◌, ◌^◌, ◌++◌, ◌<◌, ℕ, List, true, false, length, IfErr, OnOk, Ok};
     ghost use Rattle.std.specs.{Prelude.Err, Io.KnownBytes.Consumes, Io.KnownBytes.IsAtEnd};
     ghost use Rattle.qh_model.specs.declared.form.Form.{Form};
     ghost use Rattle.qh_read.specs.{contract.Holding.Fed, steps.Segments.batch_text, steps.Segments.IsParsed, steps.Segments.IsSegment};
     ghost use Rattle.qh_read.specs.steps.Segments.{segment_text};
     ghost use Rattle.qh_read.specs.steps.Sources.{Stops};
 
-    /// Creates an empty batch with room for `bytes` bytes.
-    pub fn new(alloc: Global, bytes: usize) -> Result<Batch, AllocError>
-        requires { 0 < bytes }
-        ensures none { IfOk result (λ b. b.count ≡ 0) }
-        ensures parsed { IfOk result IsParsed }
+    /// Creates an empty batch. It allocates nothing yet.
+    pub fn new(alloc: Global) -> Batch
+        ensures none { result.count ≡ 0 }
+        ensures parsed { IsParsed result }
     {
-        Ok(Batch {
-            bytes: vec![in alloc; 0; bytes]?,
+        Batch {
+            bytes: Vec::new(alloc),
             count: 0,
             segments: Vec::new(alloc),
-        })
+        }
     }
 
     /// Returns the bytes.
@@ -52,10 +50,16 @@ impl Batch {
         &self.bytes[..self.count]
     }
 
-    /// Replaces the bytes by the next ones of the source, from which `before` bytes were read earlier. Returns true if
-    /// the source ended.
-    pub fn fill<S: Source>(&mut self, source: &mut S, before: u32) -> Result<bool, ReadFault>
+    /// Replaces the bytes by the next ones of the source, at least `room` of them if there are as many. From the source
+    /// `before` bytes were read earlier. Returns true if it ended.
+    pub fn fill<S: Source>(
+        &mut self,
+        source: &mut S,
+        before: u32,
+        room: usize,
+    ) -> Result<bool, ReadFault>
         requires failures { S.failure_count source.old < 2 ^ 64 - 1 }
+        requires room { 0 < room }
         requires before { before ≤ BYTE_LIMIT }
         ensures given { OnOk result
             (Consumes (S.remaining source.old) (S.remaining source.new) (batch_text self.new)) }
@@ -68,6 +72,9 @@ impl Batch {
             (S.failure_count source.old) (S.failure_count source.new)) }
     {
         self.segments.clear();
+        if self.bytes.len() < room {
+            self.bytes.resize(room, 0)?;
+        }
         let (count, at_end) = fill(source, self.bytes.as_mut_slice(), before)?;
         self.count = count;
         Ok(at_end)

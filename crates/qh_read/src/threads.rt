@@ -20,13 +20,13 @@ use std::mem;
 use std::thread::Threads;
 
 /// The number of bytes that are read serially before the first batch. A file of at most this length starts no thread.
-const START_LENGTH: u32 = 655_360;
+const START_LENGTH: u32 = 262_144;
 
 /// The number of bytes of a batch: large enough to pay for starting threads, small enough that its memory is reused.
-const BATCH_LENGTH: usize = 2_097_152;
+const BATCH_LENGTH: usize = 1_048_576;
 
 /// The number of segments of a batch: enough for a thread that starts late to leave its share to the others.
-const SEGMENTS: usize = 16;
+const SEGMENTS: usize = 8;
 
 /// A shorter last batch is parsed by the calling thread, which takes less time than starting other threads.
 const SHARED_FROM: usize = 196_608;
@@ -93,6 +93,7 @@ fn turn<R: Threads + Sync, S: Source>(
         (S.failure_count source.new)) }
 {
     let Batches { done, raw, next } = batches;
+    let room = sizes.batch.clamp(1, BYTE_LIMIT as usize);
     let before = reader.fed() + (done.text().len() + raw.text().len()) as u32;
     let mut feed = || -> Result<(), FeedFault>
         requires { IsParsed done.now }
@@ -104,6 +105,7 @@ fn turn<R: Threads + Sync, S: Source>(
     let mut fill = || -> Result<bool, ReadFault>
         requires failures { S.failure_count source.now < 2 ^ 64 - 1 }
         requires before { before ≤ BYTE_LIMIT }
+        requires room { 0 < room }
         ensures given { OnOk result
             (Consumes (S.remaining source.entry.now) (S.remaining source.exit.now) (batch_text next.exit.now)) }
         ensures parsed { OnOk result (IsParsed next.exit.now) }
@@ -113,7 +115,7 @@ fn turn<R: Threads + Sync, S: Source>(
         ensures steady { OnOk result (S.failure_count source.exit.now ≡ S.failure_count source.entry.now) }
         ensures stops { IfErr result (λ e. Stops e before (S.remaining source.entry.now) (S.remaining source.exit.now)
             (S.failure_count source.entry.now) (S.failure_count source.exit.now)) }
-    { next.fill(source, before) };
+    { next.fill(source, before, room) };
     let (fed, at_end) = raw.parse_beside(rt, sizes, &mut feed, &mut fill);
     let at_end = at_end?;
     fed?;
@@ -171,16 +173,13 @@ fn feed_batches<R: Threads + Sync, S: Source>(
     ensures stops { IfErr result (λ e. Stops e reader.old.count (S.remaining source.old)
         (S.remaining source.new) (S.failure_count source.old) (S.failure_count source.new)) }
 {
-    let bytes = sizes.batch.clamp(1, BYTE_LIMIT as usize);
-    let mut raw = Batch::new(alloc, bytes)?;
-    let mut at_end = raw.fill(source, reader.fed())?;
-    // The other batches need no room if the source has ended.
-    let room = if at_end { 1 } else { bytes };
+    let room = sizes.batch.clamp(1, BYTE_LIMIT as usize);
     let mut batches = Batches {
-        done: Batch::new(alloc, room)?,
-        raw,
-        next: Batch::new(alloc, room)?,
+        done: Batch::new(alloc),
+        raw: Batch::new(alloc),
+        next: Batch::new(alloc),
     };
+    let mut at_end = batches.raw.fill(source, reader.fed(), room)?;
     while !at_end {
         at_end = turn(rt, reader, source, &mut batches, sizes)?;
         batches.advance();
@@ -213,7 +212,7 @@ pub fn read_form_sizes<R: Threads + Sync, S: Source>(
 /// Returns the points of the file of this form in a source, with the results of [`read_form_from`]. It uses at most
 /// this number of threads, including the calling thread.
 ///
-/// A file of at most 655,360 bytes is read by the calling thread alone, and so is any file if `threads` is 0 or 1. The
+/// A file of at most 262,144 bytes is read by the calling thread alone, and so is any file if `threads` is 0 or 1. The
 /// result does not depend on the number of threads, nor on which of them can be started. Out of memory for the points
 /// of a segment only costs time.
 pub fn read_form_threads<R: Threads + Sync, S: Source>(
