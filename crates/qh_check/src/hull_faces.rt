@@ -7,13 +7,11 @@ ghost use Rattle.qh_check.specs.steps.HullFaces.{IsPieceOfFace, TurnsAlike};
 
 use crate::faces::Three;
 use crate::rounds::{goes_round, is_met_round};
-use qh_model::{Id, Point, Polygon};
+use qh_model::{Point, Polygon};
 use qh_pred::{cross, left, point_at};
 
-/// Returns true if a polygon has at most three corners.
-pub(crate) fn is_triangle(ids: &[Id]) -> bool {
-    ids.len() <= 3
-}
+/// The greatest number of corners of a face that is walked round to find a piece.
+const SMALL: usize = 8;
 
 /// Faces of the hull of points, in rising order.
 #[derive(Clone, Copy, Drop)]
@@ -48,15 +46,15 @@ fn turns_alike(pts: &[Point], face: &Polygon, claimed: &Polygon) -> bool
 }
 
 impl HullFaces<'_> {
-    /// Returns true if the face at a position is a triangle, and a polygon goes round its corners.
-    pub fn is_triangle_at(self, position: usize, claimed: &Polygon) -> bool
+    /// Returns true if the face at a position has few corners, and a polygon goes round corners of it.
+    pub fn has_small_at(self, position: usize, claimed: &Polygon) -> bool
         ensures { IsTrue result → IsPieceOfFace self.entry.pts.now self.entry.faces.now position claimed.now }
     {
         if position >= self.faces.len() {
             return false;
         }
         let face = &self.faces[position];
-        is_triangle(face.ids())
+        face.ids().len() <= SMALL
             && is_met_round(claimed.ids(), face.ids())
             && turns_alike(self.pts, face, claimed)
     }

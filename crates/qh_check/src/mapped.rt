@@ -13,6 +13,7 @@ use std::alloc::Global;
 
 /// Returns the verdict on polygons of the points without a map. Triangles with an angle at each edge are accepted by a
 /// test of each edge; the checker decides on others.
+#[tactic(auto, using(crate::proofs::SharpSurfaces::sharp_is_right))]
 fn verdict_as_given(alloc: Global, claim: ClaimedPolygons) -> Result<SurfaceVerdict, Memory>
     ensures { IfOk result (λ v. IsIdSet claim.entry.pts.now claim.entry.ids.now
         → IsSurfaceVerdictOf claim.entry.pts.now claim.entry.ids.now claim.entry.polygons.now v) }

@@ -50,6 +50,7 @@ fn are_below(face: &Polygon, count: usize) -> bool
 
 /// Returns true if the corners of faces are indices of points, and all of them are distinct ids, so that the faces need
 /// no renaming.
+#[tactic(auto, using(crate::proofs::OwnIndices::own_faces))]
 pub fn are_own(pts: &[Point], ids: &[Id], named: &[Point], faces: &[Polygon]) -> bool
     ensures { IsTrue result → AreNamedFaces pts.now ids.now named.now faces.now faces.now }
 {

@@ -15,15 +15,13 @@ use qh_block::hull;
 use qh_model::{Memory, Polygon};
 use std::alloc::Global;
 
-/// Returns the fault of a polygon, if it is not found among the faces of the hull and has a fault. `positions` is
-/// scratch for its corners.
+/// Returns the fault of a polygon, if it is not found among the faces of the hull and has a fault.
 fn fault_beside(
     alloc: Global,
     claim: ClaimedPolygons,
     faces: &[Polygon],
-    table: &FaceTable,
+    table: &mut FaceTable,
     polygon: &Polygon,
-    positions: &mut Vec<usize>,
 ) -> Result<Option<FaceFault>, Memory>
     ensures { IfOk result (λ fault. MatchOption fault (IsSeen claim.entry.pts.now claim.entry.ids.now faces.now polygon.now)
         (IsFaultOf claim.entry.pts.now claim.entry.ids.now polygon.now)) }
@@ -32,7 +30,7 @@ fn fault_beside(
         pts: claim.pts,
         faces,
     };
-    if table.has_piece(hull, polygon, positions)? {
+    if table.has_piece(hull, polygon)? {
         return Ok(None);
     }
     fault_of(alloc, claim, polygon)
@@ -49,11 +47,10 @@ fn fault_among(
         (All (IsSeen claim.entry.pts.now claim.entry.ids.now faces.now) claim.entry.polygons.now)
         (IsFound claim.entry.pts.now claim.entry.ids.now claim.entry.polygons.now)) }
 {
-    let table = FaceTable::over(alloc, faces, claim.pts.len())?;
-    let mut positions = Vec::new(alloc);
+    let mut table = FaceTable::over(alloc, faces, claim.pts.len())?;
     for position in 0..claim.polygons.len() {
         let polygon = &claim.polygons[position];
-        let fault = fault_beside(alloc, claim, faces, &table, polygon, &mut positions)?;
+        let fault = fault_beside(alloc, claim, faces, &mut table, polygon)?;
         if let Some(fault) = fault {
             return Ok(Some(Finding { position, fault }));
         }

@@ -20,11 +20,11 @@ fn judge_steps(alloc: Global, polygons: &[Polygon]) -> Result<SurfaceVerdict, Me
     ensures { IfOk result (λ v. (pts : List Vector) (ids : List ℕ) → IsIdSet pts ids → IsDimension (place pts) (Members ids) 3
         → 0 < length polygons.now → All (IsFaceOf pts ids) polygons.now → IsSurfaceVerdictOf pts ids polygons.now v) }
 {
-    if let Some(step) = open_step(alloc, polygons)? {
-        return Ok(SurfaceVerdict::Open(step.from, step.to));
+    if let Some(step) = repeated_step(alloc, polygons)? {
+        return Ok(SurfaceVerdict::Twice(step.from, step.to));
     }
-    match repeated_step(alloc, polygons)? {
-        Some(step) => Ok(SurfaceVerdict::Twice(step.from, step.to)),
+    match open_step(alloc, polygons)? {
+        Some(step) => Ok(SurfaceVerdict::Open(step.from, step.to)),
         None => Ok(SurfaceVerdict::Right),
     }
 }
@@ -43,6 +43,7 @@ fn check_solid_surface(alloc: Global, claim: ClaimedPolygons) -> Result<SurfaceV
 }
 
 /// Checks polygons of a set that is not solid.
+#[tactic(auto, using(crate::proofs::SurfaceVerdicts::are_polygons, crate::proofs::SurfaceVerdicts::are_others))]
 fn compare_surface(alloc: Global, claim: ClaimedPolygons) -> Result<SurfaceVerdict, Memory>
     ensures { IfOk result (λ v. IsIdSet claim.entry.pts.now claim.entry.ids.now
         → ¬ (IsDimension (place claim.entry.pts.now) (Members claim.entry.ids.now) 3)

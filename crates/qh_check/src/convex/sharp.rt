@@ -12,7 +12,37 @@ use crate::convex::rays::Ray;
 use crate::convex::steps::Steps;
 use crate::convex::triangles::{Triangle, triangles_of};
 use qh_model::{Id, Memory, POINT_LIMIT, Point, Polygon};
+use qh_pred::{Plane, point_at};
 use std::alloc::Global;
+
+/// The number of triangles that are compared with all ids before each edge is tested.
+const LOOKED_AT: usize = 4;
+
+/// Returns true if the points of more than three ids are not strictly below a triangle.
+fn is_shared(pts: &[Point], ids: &[Id], t: Triangle) -> bool
+    requires { IsBelow (length pts.now) t }
+{
+    let a = point_at(pts, t.i());
+    let turned = Plane::through(point_at(pts, t.j()), a, point_at(pts, t.k()));
+    let own = ids.iter().filter_map(|id| pts.get(id.index()));
+    own.filter(|p| !turned.sees(**p)).nth(3).is_some()
+}
+
+/// Returns true if one of a few triangles shows that the triangles are not sharp. It is a guess, which saves the test
+/// of each edge.
+fn are_plainly_flat(pts: &[Point], ids: &[Id], triangles: &[Triangle]) -> bool
+    requires { All (IsBelow (length pts.now)) triangles.now }
+{
+    let apart = triangles.len() / LOOKED_AT + 1;
+    for k in 0..LOOKED_AT {
+        if let Some(t) = triangles.get(k.saturating_mul(apart)) {
+            if is_shared(pts, ids, *t) {
+                return true;
+            }
+        }
+    }
+    false
+}
 
 /// Returns true if triangles are the hull of a set, by a test of each edge and each hidden id.
 fn are_sharp(
@@ -29,6 +59,9 @@ fn are_sharp(
     let Some(first) = triangles.first() else {
         return Ok(false);
     };
+    if are_plainly_flat(pts, ids, triangles) {
+        return Ok(false);
+    }
     let ray = Ray::guess(pts, ids, *first);
     if !ray.meets_once(pts, triangles) {
         return Ok(false);
