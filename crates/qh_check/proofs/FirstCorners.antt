@@ -6,6 +6,7 @@ use Rattle.qh_model.specs.headline.{Predicates.cross, Predicates.vol, Predicates
 use Rattle.qh_model.specs.{headline.Polygons.IsFacePolygon, laws.FanLaws.IsSupportingTriangle}
 use Rattle.qh_model.proofs.{algebra.VectorIdentities.left-turn, polygons.Edges.seen_from, polygons.Fans.corners_support, polygons.Fans.face_fan}
 use Rattle.qh_model.proofs.polygons.PlaneTurns.{level_along}
+use Rattle.qh_check.proofs.Pieces.{one_beginning}
 use Rattle.qh_check.specs.contract.Pieces.{BeginsWith}
 
 -- the three are a supporting triple whose polygon is q
@@ -24,18 +25,9 @@ record FirstCorners (at : ℕ → Vector) (A : ℕ → Type 0) (q : List ℕ) : 
 module _ (at : ℕ → Vector) (ids : List ℕ) (d : HasDistinctPoints at (Members ids)) (u v w : ℕ)
     (plane : IsSupportingTriple at (Members ids) u v w) where
   corners_of : (q : List ℕ) → IsFacePolygon at (Members ids) u v w q → FirstCorners at (Members ids) q
-  corners_of [] p = go (face_fan at ids d u v w plane [] [] p (inl refl))
-    where
-      go : IsSupportingTriangle at (Members ids) [] → FirstCorners at (Members ids) []
-      go (a, b, c, e, s) = cc
-  corners_of (i ∷ []) p = go (face_fan at ids d u v w plane (i ∷ []) (i ∷ []) p (inl refl))
-    where
-      go : IsSupportingTriangle at (Members ids) (i ∷ []) → FirstCorners at (Members ids) (i ∷ [])
-      go (a, b, c, e, s) = cc
-  corners_of (i ∷ j ∷ []) p = go (face_fan at ids d u v w plane (i ∷ j ∷ []) (i ∷ j ∷ []) p (inl refl))
-    where
-      go : IsSupportingTriangle at (Members ids) (i ∷ j ∷ []) → FirstCorners at (Members ids) (i ∷ j ∷ [])
-      go (a, b, c, e, s) = cc
+  corners_of [] p = let (a, b, c, e, s) = face_fan at ids d u v w plane [] [] p (inl refl) in cc
+  corners_of (i ∷ []) p = let (a, b, c, e, s) = face_fan at ids d u v w plane (i ∷ []) (i ∷ []) p (inl refl) in cc
+  corners_of (i ∷ j ∷ []) p = let (a, b, c, e, s) = face_fan at ids d u v w plane (i ∷ j ∷ []) (i ∷ j ∷ []) p (inl refl) in cc
   corners_of (i ∷ j ∷ k ∷ r) p = record { i = i; j = j; k = k; rest = r; is = refl; face = (triple, own) }
     where
       not_j : i ≢ j
@@ -71,15 +63,5 @@ some_corners at ids d q (u, v, w, plane, p) =
 -- any three corners with which a face begins are a supporting triple with this face
 pub corners_at : (at : ℕ → Vector) (ids : List ℕ) → HasDistinctPoints at (Members ids) → (q : List ℕ)
     → IsFace at (Members ids) q → (i j k : ℕ) → BeginsWith q i j k → HasFace at (Members ids) q i j k
-corners_at at ids d q (u, v, w, plane, p) i j k (r, e) = go (corners_of at ids d u v w plane q p)
-  where
-    go : FirstCorners at (Members ids) q → HasFace at (Members ids) q i j k
-    go f = move f.i f.j f.k (cc (same)) (cc (same)) (cc (same)) f.face
-      where
-        same : (f.i ∷ f.j ∷ f.k ∷ f.rest) ≡ (i ∷ j ∷ k ∷ r)
-        same = sym f.is ∙ e
-
-        move : (a b c : ℕ) → a ≡ i → b ≡ j → c ≡ k → HasFace at (Members ids) q a b c → HasFace at (Members ids) q i j k
-        move a b c x y z s =
-            subst (λ n. HasFace at (Members ids) q i j n) z (subst (λ n. HasFace at (Members ids) q i n c) y
-            (subst (λ n. HasFace at (Members ids) q n b c) x s))
+corners_at at ids d q (u, v, w, plane, p) i j k own =
+    let f = corners_of at ids d u v w plane q p in one_beginning (HasFace at (Members ids) q) q f.i f.j f.k i j k (f.rest, f.is) own f.face

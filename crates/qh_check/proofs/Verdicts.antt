@@ -18,18 +18,9 @@ module _ (pts : List Vector) (ids : List ℕ) (qs : List (List ℕ)) (set : IsId
     where
       go : dim ≡ 3 → ArePolygons at (Members ids) dim qs → AreFaces at (Members ids) qs
       go e (inl p) = p.1
-      go e (inr (inl p)) = absurd (other p.0 e)
-        where
-          other : dim ≡ 2 → dim ≡ 3 → ⊥
-          other f g = omega arith
-      go e (inr (inr (inl p))) = absurd (other p.0 e)
-        where
-          other : dim ≡ 1 → dim ≡ 3 → ⊥
-          other f g = omega arith
-      go e (inr (inr (inr p))) = absurd (other p.0 e)
-        where
-          other : dim ≡ 0 → dim ≡ 3 → ⊥
-          other f g = omega arith
+      go e (inr (inl p)) = absurd (let f : dim ≡ 2 = p.0 in omega (arith, e, f))
+      go e (inr (inr (inl p))) = absurd (let f : dim ≡ 1 = p.0 in omega (arith, e, f))
+      go e (inr (inr (inr p))) = absurd (let f : dim ≡ 0 = p.0 in omega (arith, e, f))
 
 -- ---- sets whose hull is computed
 module _ (at : ℕ → Vector) (A : ℕ → Type 0) (b : BodyValue) (body : IsBody at A b) (qs : List (List ℕ)) where

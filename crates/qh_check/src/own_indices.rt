@@ -10,15 +10,7 @@ use qh_model::{Id, Point, Polygon};
 fn are_all_indices(ids: &[Id], count: usize) -> bool
     ensures { IsTrue result → AreAllIndices ids.now count }
 {
-    if ids.len() != count {
-        return false;
-    }
-    for position in 0..ids.len() {
-        if ids[position].index() != position {
-            return false;
-        }
-    }
-    true
+    ids.len() == count && ids.iter().enumerate().all(|(k, id)| id.index() == k)
 }
 
 /// Returns true if two lists have the same points in the same order.
@@ -40,12 +32,7 @@ fn are_same_points(pts: &[Point], named: &[Point]) -> bool
 fn are_below(face: &Polygon, count: usize) -> bool
     ensures { IsTrue result → All (λ i. i < count) face.now }
 {
-    for id in face.ids() {
-        if id.index() >= count {
-            return false;
-        }
-    }
-    true
+    face.ids().iter().all(|id| id.index() < count)
 }
 
 /// Returns true if the corners of faces are indices of points, and all of them are distinct ids, so that the faces need

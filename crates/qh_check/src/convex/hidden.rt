@@ -18,7 +18,7 @@ use std::alloc::{AllocError, Global};
 
 /// The greatest number of triangles on all walks for each step to a higher id. Beyond it the check of the surface ends
 /// without success.
-const WALKED_FOR_EACH: usize = 16;
+const WALKED_FOR_EACH: usize = 4;
 
 /// A surface around a place, stored as the steps round its triangles.
 #[derive(Clone, Copy, Drop)]
@@ -36,23 +36,20 @@ pub struct Surroundings<'a> {
 fn rising(step: &Step) -> Step
     ensures { (n : ℕ) → IsStepBelow n step.now → IsStepBelow n result }
 {
-    if step.from < step.to {
+    let Step { from, to, third } = *step;
+    if from < to {
+        Step { from, to, third }
+    } else if to < third {
         Step {
-            from: step.from,
-            to: step.to,
-            third: step.third,
-        }
-    } else if step.to < step.third {
-        Step {
-            from: step.to,
-            to: step.third,
-            third: step.from,
+            from: to,
+            to: third,
+            third: from,
         }
     } else {
         Step {
-            from: step.third,
-            to: step.from,
-            third: step.to,
+            from: third,
+            to: from,
+            third: to,
         }
     }
 }
