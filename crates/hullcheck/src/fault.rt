@@ -5,7 +5,6 @@ ghost use Rattle.hullcheck.specs.contract.FaultTexts.{fault_text, read_fault_tex
 ghost use Rattle.hullcheck.specs.declared.fault.Fault.TheVariants.{Memory};
 
 use qh_model::{Memory, ReadFault};
-use std::alloc::{AllocError, AllocFailed};
 use std::fmt;
 
 /// Why there is no verdict.
@@ -54,22 +53,6 @@ impl From<Memory> for Fault {
     ghost from_gives = { λ _ e. e ≡ Memory };
 
     fn from(_memory: Memory) -> Fault {
-        Fault::Memory
-    }
-}
-
-impl From<AllocError> for Fault {
-    ghost from_gives = { λ _ e. e ≡ Memory };
-
-    fn from(_error: AllocError) -> Fault {
-        Fault::Memory
-    }
-}
-
-impl<T: Drop> From<AllocFailed<T>> for Fault {
-    ghost from_gives = { λ _ e. e ≡ Memory };
-
-    fn from(_refused: AllocFailed<T>) -> Fault {
         Fault::Memory
     }
 }

@@ -47,10 +47,7 @@ fn open<F: Files>(files: &mut F, name: &str) -> Result<F::File, Fault>
     ensures begins { IfOk result (λ f. F.File.failure_count f ≡ 0) }
     ensures fault { IfErr result (IsUnread (F.failed files.new ≡ true)) }
 {
-    match files.open(name) {
-        Ok(file) => Ok(file),
-        Err(kind) => Err(unread_file(kind)),
-    }
+    files.open(name).map_err(unread_file)
 }
 
 /// Returns all bytes of a file, or of the standard input.
@@ -59,10 +56,7 @@ fn text_of<F: Files>(files: &mut F, alloc: Global, name: Option<&str>) -> Result
     ensures bytes { IfOk result (λ v. IsWhole (F.contents files.old (option_map (λ w. w.now) name.entry)) v.items) }
     ensures fault { IfErr result (IsUnread (F.failed files.new ≡ true)) }
 {
-    match files.text(alloc, name) {
-        Ok(text) => Ok(text),
-        Err(kind) => Err(unread_file(kind)),
-    }
+    files.text(alloc, name).map_err(unread_file)
 }
 
 /// Judges the faces that a command line names.

@@ -18,4 +18,3 @@ pub mod StepLists
 pub mod SurfaceVerdicts
 pub mod UnderSteps
 pub mod Verdicts
-pub mod Volumes

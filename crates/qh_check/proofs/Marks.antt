@@ -3,7 +3,7 @@ use Rattle.std.proofs.Common.{◌≡◌, ◌≢◌, ℕ, ◌+◌, ◌<◌, ◌�
 use Rattle.std.proofs.{Math.ListN.set, lemmas.Bool.cases_Bool, lemmas.Bool.cases_lt, lemmas.List.get_or-set_other}
 use Rattle.std.specs.Prelude.{filter, not}
 use Rattle.qh_model.specs.{contract.ClosedSurface.Triple, headline.Sets.In, laws.ClosedSurfaceLaws.IsCornerOf}
-use Rattle.qh_model.proofs.lists.Filters.{in_filter}
+use Rattle.qh_model.proofs.{Members.each_of_three, lists.Filters.in_filter}
 use Rattle.qh_check.specs.steps.CornerMarks.{IsMarked, is_unmarked}
 use Rattle.qh_check.proofs.Prefixes.{each_more, in_more, last_more}
 
@@ -31,13 +31,7 @@ corner_last ts i own k l is h =
 pub corners_more : (P : ℕ → Type 0) (ts : List Triple) (i : ℕ) (own : Triple) → i < length ts → own ≡ get_or ts i own
     → ((k : ℕ) → IsCornerOf (take i ts) k → P k) → P own.i → P own.j → P own.k → (k : ℕ) → IsCornerOf (take (i + 1) ts) k → P k
 corners_more P ts i own l is f p q r k (t, m, h) =
-    each_more (λ t. (k : ℕ) → In k (t.i ∷ t.j ∷ t.k ∷ []) → P k) ts i own own l is (λ s n j g. f j (s, n, g)) here t m k h
-  where
-    here : (k : ℕ) → In k (own.i ∷ own.j ∷ own.k ∷ []) → P k
-    here k (inl e) = subst P (sym e) p
-    here k (inr (inl e)) = subst P (sym e) q
-    here k (inr (inr (inl e))) = subst P (sym e) r
-    here k (inr (inr (inr x))) = absurd x
+    each_more (λ t. (k : ℕ) → In k (t.i ∷ t.j ∷ t.k ∷ []) → P k) ts i own own l is (λ s n j g. f j (s, n, g)) (each_of_three P own.i own.j own.k p q r) t m k h
 
 -- a mark after the three corners of the current triangle is that of a corner so far
 pub marked_corners : (marks : List Bool) (ts : List Triple) (n : ℕ) (own : Triple) (a b c : ℕ) → n < length ts → own ≡ get_or ts n own

@@ -1,22 +1,21 @@
 -- Triangles whose steps pair off with an angle at each edge: the neighbours of each.
 use Rattle.std.proofs.Common.{◌≡◌, ◌≢◌, ℕ, ◌<◌, arith, List, get_or, length, refl, sym, ap, subst, ◌∙◌, inl, inr}
-use Rattle.std.proofs.{lemmas.Bool.cases_lt, lemmas.Bool.Decides.nat_tests}
+use Rattle.std.proofs.lemmas.{Bool.cases_lt, Bool.Decides.nat_tests, Int.ints}
 use Rattle.std.specs.{Prelude.pos, Prelude.◌<ℤ◌, List.flat_map}
 use Rattle.qh_model.specs.{headline.Vector.Vector, headline.Predicates.vol, headline.Sets.In, contract.ClosedSurface.Triple}
 use Rattle.qh_model.proofs.{Members.In-get_or, lists.Images.in_map, lists.Joined.in_flat_map}
-use Rattle.qh_model.proofs.algebra.{Signs.less_le, VectorIdentities.vol-flip, VectorIdentities.vol-third_last}
+use Rattle.qh_model.proofs.algebra.{Signs.equal_negative, Signs.less_le, VectorIdentities.vol-flip, VectorIdentities.vol-third_last}
 use Rattle.qh_laws.specs.contract.LocallyConvex.{IsRound, HasLowNeighbour, IsSharpAround}
 use Rattle.qh_laws.proofs.Highest.{rise_round}
 use Rattle.qh_check.specs.steps.Rays.{IsInside}
 use Rattle.qh_check.specs.steps.StepKeys.{step_in, turns, back, AreSteps, AreSharpPairs, IsSharpPair}
 use Rattle.qh_check.proofs.StepLists.{at_position, of_turns, of_ups, in_ups, of_downs, in_downs}
-use Rattle.qh_check.proofs.Volumes.{less_by, own_opposite}
 
 -- a triangle with a place strictly below it has three corners
 pub ends_differ : (at : ℕ → Vector) (z : Vector) (u v w : ℕ) → vol (at u) (at v) (at w) z <ℤ pos 0 → u ≢ v
 ends_differ at z u v w h e =
-    own_opposite (vol (at u) (at u) (at w) z) (vol-flip (at u) (at u) (at w) z)
-    (subst (λ (x : ℕ). vol (at u) (at x) (at w) z <ℤ pos 0) (sym e) h)
+    let own = vol-flip (at u) (at u) (at w) z in let below = subst (λ (x : ℕ). vol (at u) (at x) (at w) z <ℤ pos 0) (sym e) h in
+    omega (arith, ints, own, below)
 
 module _ (at : ℕ → Vector) (ts : List Triple) (up down : List ℕ) (steps : AreSteps ts up down) (pairs : AreSharpPairs at up down) where
   abbrev all : List Triple
@@ -59,7 +58,7 @@ module _ (at : ℕ → Vector) (ts : List Triple) (up down : List ℕ) (steps : 
         there = (of_ups ts up down steps (step_in (get_or up k 0)) (in_map step_in up (get_or up k 0) (In-get_or up k 0 ahead))).0;
         from = pair.from ∙ ap (λ (x : Triple). x.i) e;
         to = pair.to ∙ ap (λ (x : Triple). x.j) e;
-        below = less_by _ _ (vol-third_last (at s.i) (at s.j) (at s.k) (at (step_in (get_or up k 0)).k)) turned;
+        below = equal_negative _ _ (sym (vol-third_last (at s.i) (at s.j) (at s.k) (at (step_in (get_or up k 0)).k))) turned;
       }
         where
           ahead : k < length up
@@ -87,13 +86,13 @@ module _ (at : ℕ → Vector) (ts : List Triple) (up down : List ℕ) (steps : 
 
   module _ (t : Triple) (m : In t ts) (z : Vector) (inside : IsInside at z t) where
     steep : (u v w : ℕ) → IsRound t u v w → In (record { i = u; j = v; k = w }) all → Steep t u v
-    steep u v w r n = over (partner (record { i = u; j = v; k = w }) n (ends_differ at z u v w (less_by _ _ (sym (rise_round at t u v w r z)) inside)))
+    steep u v w r n = over (partner (record { i = u; j = v; k = w }) n (ends_differ at z u v w (equal_negative _ _ (rise_round at t u v w r z) inside)))
       where
         over : HasPartner (record { i = u; j = v; k = w }) → Steep t u v
         over p = neighbour (of_turns ts p.g p.there)
           where
             low : vol (at t.i) (at t.j) (at t.k) (at p.g.k) <ℤ pos 0
-            low = less_by _ _ (rise_round at t u v w r (at p.g.k)) p.below
+            low = equal_negative _ _ (sym (rise_round at t u v w r (at p.g.k))) p.below
 
             neighbour : (s : Triple) × In s ts × IsRound s p.g.i p.g.j p.g.k → Steep t u v
             neighbour (s, i, q) = (

@@ -1,14 +1,18 @@
 -- Points under the triangle of a step.
-use Rattle.std.proofs.Common.{◌≡◌, ℕ, Bool, false, true, sym}
-use Rattle.std.specs.Prelude.{pos, not, ◌<ℤ◌}
+use Rattle.std.proofs.{Common.◌≡◌, Common.ℕ, Common.Bool, Common.arith, Common.false, Common.true, Common.sym, lemmas.Int.ints}
+use Rattle.std.specs.Prelude.{ℤ, pos, not, ◌<ℤ◌, ◌≤ℤ◌}
 use Rattle.qh_model.specs.{headline.Vector.Vector, headline.Predicates.vol, contract.ClosedSurface.Triple}
+use Rattle.qh_model.proofs.algebra.Signs.{at_most_zero}
 use Rattle.qh_check.specs.steps.Hidden.{IsUnderStep}
-use Rattle.qh_check.proofs.Volumes.{not_above, not_below}
 
 -- a test and its opposite are not both true
 pub not_both : (b : Bool) → not b ≡ true → b ≡ true → ⊥
 not_both true e f = cc
 not_both false e f = cc
+
+-- a number that is not below 0 is at least 0
+not_below : (a : ℤ) → ¬ (a <ℤ pos 0) → pos 0 ≤ℤ a
+not_below a n = grind (arith, ints, n)
 
 -- a point that is past no side, and not above
 pub under_from : (at : ℕ → Vector) (z p : Vector) (s : Triple) (a b c : Vector) → a ≡ at s.i → b ≡ at s.j → c ≡ at s.k
@@ -17,5 +21,5 @@ under_from at z p s a b c i j k m n o q = record {
   first = rw (sym i, sym j) (not_below _ m);
   second = rw (sym j, sym k) (not_below _ n);
   third = rw (sym k, sym i) (not_below _ o);
-  below = rw (sym i, sym j, sym k) (not_above _ q);
+  below = rw (sym i, sym j, sym k) (at_most_zero _ q);
 }

@@ -14,18 +14,11 @@ fn are_all_indices(ids: &[Id], count: usize) -> bool
 }
 
 /// Returns true if two lists have the same points in the same order.
+#[tactic(auto, unfolding(qh_model::specs::headline::Predicates::place))]
 fn are_same_points(pts: &[Point], named: &[Point]) -> bool
     ensures { IsTrue result → AreSamePoints pts.now named.now }
 {
-    if pts.len() != named.len() {
-        return false;
-    }
-    for position in 0..pts.len() {
-        if !are_same(pts[position], named[position]) {
-            return false;
-        }
-    }
-    true
+    pts.len() == named.len() && pts.iter().zip(named).all(|(p, q)| are_same(*p, *q))
 }
 
 /// Returns true if each corner of a face is below `count`.
