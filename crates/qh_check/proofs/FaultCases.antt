@@ -1,7 +1,7 @@
 -- The faults of a polygon that the plane of its first three corners shows.
 use Rattle.std.proofs.Common.{ℕ, List}
 use Rattle.std.specs.Prelude.{Option, Some, None, MatchOption}
-use Rattle.qh_model.specs.headline.{Vector.Vector, Predicates.place, Predicates.AreInLine, Sets.In, Sets.Members}
+use Rattle.qh_model.specs.headline.{Vector.Vector, Predicates.place, Predicates.AreInLine, Sets.In}
 use Rattle.qh_check.specs.declared.{faces.Three.Three, fault.FaceFault.FaceFault}
 use Rattle.qh_check.specs.declared.fault.FaceFault.TheVariants.{NoPlane, Above, OtherFace}
 use Rattle.qh_check.proofs.Pieces.{one_beginning}

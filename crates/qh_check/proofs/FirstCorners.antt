@@ -1,9 +1,9 @@
 -- The first three corners of a face are a supporting triple with this face.
-use Rattle.std.proofs.Common.{ℕ, ◌≡◌, ◌≢◌, inl, inr, refl, sym, subst, ◌∙◌, List, [], ◌∷◌}
+use Rattle.std.proofs.Common.{ℕ, ◌≡◌, ◌≢◌, inl, inr, refl, sym, subst, List, [], ◌∷◌}
 use Rattle.std.specs.Prelude.{pos, ◌<ℤ◌}
 use Rattle.qh_model.specs.{contract.ClosedPolygons.IsFace, contract.IdSets.HasDistinctPoints, headline.Vector.Vector}
 use Rattle.qh_model.specs.headline.{Predicates.cross, Predicates.vol, Predicates.left, Sets.In, Sets.Members, SupportingPlane.IsSupportingTriple}
-use Rattle.qh_model.specs.{headline.Polygons.IsFacePolygon, laws.FanLaws.IsSupportingTriangle}
+use Rattle.qh_model.specs.{headline.Polygons.IsFacePolygon}
 use Rattle.qh_model.proofs.{algebra.VectorIdentities.left-turn, polygons.Edges.seen_from, polygons.Fans.corners_support, polygons.Fans.face_fan}
 use Rattle.qh_model.proofs.polygons.PlaneTurns.{level_along}
 use Rattle.qh_check.proofs.Pieces.{one_beginning}

@@ -1,7 +1,6 @@
 -- Faces whose corners are distinct ids name themselves.
-use Rattle.std.proofs.Common.{◌≡◌, ℕ, ◌<◌, arith, All, List, [], get_or, length, refl, sym, subst, ◌∙◌}
-use Rattle.std.proofs.lemmas.List.{get_or_default}
-use Rattle.qh_model.specs.headline.{Vector.Vector, Vector.origin, Predicates.place, Sets.In}
+use Rattle.std.proofs.Common.{ℕ, ◌<◌, arith, All, List, [], get_or, length, refl, subst}
+use Rattle.qh_model.specs.headline.{Vector.Vector, Sets.In}
 use Rattle.qh_model.proofs.Members.{All-In, In-get_or}
 use Rattle.qh_check.specs.contract.Naming.{AreNamed, AreNamedFaces, IsNamed}
 use Rattle.qh_check.specs.steps.OwnIndices.{AreAllIndices, AreSamePoints}
@@ -22,9 +21,3 @@ own_faces pts ids named faces all same low = record { count = refl; each = λ k 
       count = refl;
       each = λ k l. itself (get_or face k 0) (All-In (λ i. i < length pts) face (get_or face k 0) below (In-get_or face k 0 l));
     }
-
--- equal elements of two lists at an index are equal points of the lists
-pub same_place : (pts named : List Vector) (k : ℕ) (a b : Vector) → k < length pts → k < length named → a ≡ get_or pts k a → b ≡ get_or named k b
-    → a ≡ b → place pts k ≡ place named k
-unfolding place
-same_place pts named k a b l m p q e = sym (p ∙ get_or_default pts k a origin l) ∙ e ∙ q ∙ get_or_default named k b origin m

@@ -15,6 +15,7 @@ use std::thread::Threads;
 
 /// Judges faces of points whose distinct ids are known. The faces are renamed only if their corners are not the
 /// distinct ids themselves.
+#[tactic(auto, using(qh_model::proofs::DistinctIds::ids_within, qh_model::proofs::DistinctIds::some_id))]
 fn judge_distinct(
     alloc: Global,
     pts: &[Point],

@@ -26,7 +26,11 @@ fn sorted_keys(
 
 /// Returns true if a list consists of the points of some ids, in their order.
 fn is_list_of(pts: &[Point], ids: &[Id], list: &[Point]) -> bool {
-    list.len() == ids.len() && ids.iter().zip(list).all(|(id, p)| pts.get(id.index()) == Some(p))
+    list.len() == ids.len()
+        && ids
+            .iter()
+            .zip(list)
+            .all(|(id, p)| pts.get(id.index()) == Some(p))
 }
 
 /// Returns for each of `list` points the position of the id of an equal point, by the sorted keys of `ids` ids and of

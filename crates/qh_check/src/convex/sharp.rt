@@ -96,6 +96,7 @@ fn are_sharp(
 /// `Memory` if an allocation failed.
 ///
 /// Source: Mehlhorn, Naeher, Seel, Seidel, Schilz, Schirra and Uhrig 1999 (checking geometric programs).
+#[tactic(auto, using(crate::proofs::SharpFaces::sharp_surface))]
 pub fn is_sharp_surface(
     alloc: Global,
     pts: &[Point],

@@ -1,13 +1,6 @@
 -- The distinct ids are ids of distinct points, so the verdict on the polygons is true.
-use Rattle.qh_model.proofs.DistinctIds.{ids_within, some_id}
 use Rattle.qh_check.proofs.{ImageVerdicts.named_corners, Judgements.told}
 use Rattle.qh_check.proofs.judging.judge_distinct.Goals as goal
-
-pub invariant_of-claim : goal.invariant_of-claim
-invariant_of-claim c = record {
-  some = some_id c.args.pts.now c.args.ids.now c.requires.distinct c.requires.some;
-  indices = ids_within c.args.pts.now c.args.ids.now c.requires.distinct;
-}
 
 pub verdict_on-requires : goal.verdict_on-requires
 verdict_on-requires c =
@@ -17,15 +10,6 @@ pub returns-then-are_own : goal.returns-then-are_own
 returns-then-are_own c =
     told c.args.pts.now c.args.named.now c.args.faces.now c.args.ids.now c.args.faces.now _ c.requires.distinct
     (c.are_own.ensures c.if-are_own.true) c.in_ok-verdict.ensures
-
-pub polygons_of-requires : goal.polygons_of-requires
-polygons_of-requires c = ids_within c.args.pts.now c.args.ids.now c.requires.distinct
-
-pub invariant_of-claim-in-Ok : goal.invariant_of-claim-in-Ok
-invariant_of-claim-in-Ok c = record {
-  some = some_id c.args.pts.now c.args.ids.now c.requires.distinct c.requires.some;
-  indices = ids_within c.args.pts.now c.args.ids.now c.requires.distinct;
-}
 
 pub verdict_on-requires-in-Ok : goal.verdict_on-requires-in-Ok
 verdict_on-requires-in-Ok c =
