@@ -61,7 +61,7 @@ fn compare_surface(alloc: Global, claim: ClaimedPolygons) -> Result<SurfaceVerdi
 /// the polygons of its hull: see `qh_model/specs/headline/Polygons.antt`.
 ///
 /// The verdict is `Right` exactly if the polygons are a closed surface. Otherwise it names a fault: first a polygon
-/// that is no piece of a face, then an open edge, then a step that is taken twice. If several polygons are no pieces,
+/// that is no piece of a face, then a step that is taken twice, then an open edge. If several polygons are no pieces,
 /// it names the first. `OtherPolygons` is the fault of a solid set without any polygon, and of every set that is not solid.
 ///
 /// It computes the hull of the set, looks up each polygon in it, and tests the plane of a polygon that is not found
