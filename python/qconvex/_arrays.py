@@ -9,6 +9,7 @@ import numpy as np
 from numpy.typing import NDArray
 
 _DIGITS = 53  # of a float64
+_DOUBLE = np.dtype(np.float64)
 
 
 def numbers_of(points: Any) -> NDArray[Any]:
@@ -21,30 +22,30 @@ def numbers_of(points: Any) -> NDArray[Any]:
     return given
 
 
-def floats_of(points: Any) -> NDArray[np.float64]:
-    """Returns numbers of any real type as an (n, 3) array of finite float64.
+def floats_of(points: Any, *, finite: bool = True) -> NDArray[np.float64]:
+    """Returns numbers of any real type as an (n, 3) array of float64, a copy, which are finite if this is not looked at elsewhere.
 
     Raises TypeError if they are not real numbers, or one is no float64 exactly, and ValueError if the shape or a number is wrong.
     """
-    given = numbers_of(points)
+    given = points if type(points) is np.ndarray else numbers_of(points)
     if given.dtype.kind not in "fiuO":
         raise TypeError(f"points must be real numbers, and are {given.dtype}")
     if given.ndim != 2 or given.shape[1] != 3:
         raise ValueError(f"points must have the shape (n, 3), and have {given.shape}")
-    if given.dtype == np.float64:
-        return _finite(given.astype(np.float64))
+    floats = given.copy() if given.dtype is _DOUBLE else _exact_floats_of(given)
+    if finite and not np.isfinite(floats).all():
+        raise ValueError("points must be finite")
+    return floats
+
+
+def _exact_floats_of(given: NDArray[Any]) -> NDArray[np.float64]:
+    """The float64 of numbers of any type, exactly."""
     if given.dtype.kind == "O":
-        return _finite(_floats_of_objects(given))
+        return _floats_of_objects(given)
     with np.errstate(over="ignore"):
         floats = given.astype(np.float64)
-    if given.dtype.itemsize >= 8 and not _is_exact(given, floats):
+    if given.dtype.itemsize >= 8 and given.dtype != np.float64 and not _is_exact(given, floats):
         raise TypeError(f"points are {given.dtype}, and some of them no float64 exactly")
-    return _finite(floats)
-
-
-def _finite(floats: NDArray[np.float64]) -> NDArray[np.float64]:
-    if not np.isfinite(floats).all():
-        raise ValueError("points must be finite")
     return floats
 
 

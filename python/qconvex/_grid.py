@@ -3,8 +3,8 @@ from __future__ import annotations
 
 import operator
 from fractions import Fraction
-from math import frexp, ldexp
-from typing import Any, NamedTuple, Tuple
+from math import frexp, inf, isfinite, ldexp, nextafter
+from typing import Any, NamedTuple, Sequence, Tuple
 
 import numpy as np
 from numpy.typing import NDArray
@@ -17,7 +17,7 @@ BITS_LIMIT = 30
 FINEST = -1074
 """All floats are whole multiples of 2 to this power."""
 
-_FEW, _ROWS = 64, 256
+_ROWS = 256
 _NORMAL = 1022
 
 # Whole numbers below this are floats, and so are their differences.
@@ -33,21 +33,31 @@ class Snapped(NamedTuple):
     error: float  # the greatest distance along an axis from a float to its point, exactly
 
 
-def _ends_of(floats: NDArray[np.float64]) -> tuple[list[float], list[float]]:
-    """The least and the greatest float on each axis: Python finds those of few points, and numpy others, fast in long rows."""
-    if len(floats) <= _FEW:
-        axes = list(zip(*floats.tolist()))
-        return list(map(min, axes)), list(map(max, axes))
-    return _along_axes(np.minimum, floats), _along_axes(np.maximum, floats)
+class Ends(NamedTuple):
+    """The least and the greatest float on each axis."""
+
+    lows: list[float]
+    highs: list[float]
+
+
+def ends_of(floats: NDArray[np.float64]) -> Ends:
+    """The ends of some floats."""
+    return Ends(_along_axes(np.minimum, floats), _along_axes(np.maximum, floats))
 
 
 def _along_axes(choice: np.ufunc, floats: NDArray[np.float64]) -> list[float]:
-    """The least or the greatest float on each axis."""
+    """The least or the greatest float on each axis: numpy is fast in long rows."""
     whole = len(floats) // _ROWS * _ROWS
     if whole:
         floats = np.concatenate([choice.reduce(floats[:whole].reshape(-1, 3 * _ROWS), axis=0).reshape(-1, 3), floats[whole:]])
     ends: list[float] = choice.reduce(floats, axis=0).tolist()
     return ends
+
+
+def joined_ends(ends: Sequence[Ends]) -> Ends:
+    """The ends of the floats of several ends."""
+    lows, highs = (zip(*part) for part in zip(*ends))
+    return Ends(list(map(min, lows)), list(map(max, highs)))
 
 
 # The steps of the least and of the greatest float on an axis, and by how much the axis was rounded if it has one float.
@@ -71,15 +81,81 @@ def least_exponent(fraction: Any, power: Any, bits: int) -> Any:
     return power - bits - 1 + (fraction > 0.5 + 0.5**bits)
 
 
-def _finest(lows: list[float], highs: list[float], bits: int) -> tuple[int, list[_Axis]]:
-    """The least exponent of 2 with which the whole numbers have at most `bits` bits, and the axes with it."""
+class Rounded(NamedTuple):
+    """The steps of some floats of a grid from its middle, and what tells of them whether the step can be greater."""
+
+    points: NDArray[np.int32]  # (n, 3)
+    error: float
+    common: int  # the bits of all steps from the least on, where there is no error
+
+
+class Grid(NamedTuple):
+    """The finest grid with room for all floats that have some ends: so it is known before the floats are, which may come in parts."""
+
+    exponent: int  # its step is 2 to this power
+    axes: list[_Axis]
+    fixed: list[bool]  # which axes have one float: such an axis may be too far out for so small a step
+
+    def rounded(self, floats: NDArray[np.float64]) -> Rounded:
+        """The steps of some of the floats."""
+        if True in self.fixed:
+            floats = np.where(self.fixed, 0.0, floats)
+        steps = _scaled(floats, -self.exponent)
+        whole = np.rint(steps)
+        error = _error(floats, steps, whole, self.exponent)
+        firsts = [0 if fixed else low for (low, _, _), fixed in zip(self.axes, self.fixed)]
+        ways = [0 if fixed else (low + high) // 2 for (low, high, _), fixed in zip(self.axes, self.fixed)]
+        if not -_WHOLE < min(ways) <= max(ways) < _WHOLE:  # no float has both the start of an axis and the half of its length
+            whole -= np.array(firsts, np.float64)
+            ways = list(map(operator.sub, ways, firsts))
+        whole -= np.array(ways, np.float64)
+        points = whole.astype(np.int32)
+        if error:
+            return Rounded(points, error, 0)
+        least = np.array([low - (low + high) // 2 for low, high, _ in self.axes], np.int32)
+        return Rounded(points, error, int(np.bitwise_or.reduce((points - least).ravel())))
+
+    def snapped(self, found: Rounded, reading: float = 0.0) -> Snapped:
+        """The steps of some floats as whole numbers, by the error and the bits of all floats: if there is no error the step may grow.
+
+        The error of reading them is added.
+        """
+        points, error, common = found
+        error = max([error, *[error for _, _, error in self.axes]])
+        shift = 0 if error else self._shift(common)
+        x, y, z = [((low >> shift) + (high >> shift)) // 2 for low, high, _ in self.axes]
+        if shift:
+            ways = [(low + high) // 2 - (middle << shift) for (low, high, _), middle in zip(self.axes, (x, y, z))]
+            points = ((points + np.array(ways, np.int64)) >> shift).astype(np.int32)
+        return Snapped(points, ldexp(1.0, self.exponent + shift), (x, y, z), nextafter(error + reading, inf) if reading else error)
+
+    def _shift(self, common: int) -> int:
+        """By how many powers of two the step of an exact grid can be greater: up to 1 if that has room, else as far as it goes."""
+        for low, _, _ in self.axes:
+            common |= low
+        most = (common & -common).bit_length() - 1
+        if self.exponent > 0:
+            return most
+        return min(most, -self.exponent) if common else -self.exponent
+
+
+def grid_of(ends: Ends, bits: int) -> Grid:
+    """The grid with the least step, a power of two, with which the whole numbers have at most `bits` bits.
+
+    Raises ValueError if bits is not from 1 to 30, or a float is not finite.
+    """
+    if not 1 <= bits <= BITS_LIMIT:
+        raise ValueError(f"bits must be from 1 to {BITS_LIMIT}")
+    lows, highs = ends
+    if not all(map(isfinite, lows + highs)):
+        raise ValueError("points must be finite")
     exponent = FINEST
     if lows != highs:
         exponent = max(least_exponent(*frexp(max([high / 2 - low / 2 for low, high in zip(lows, highs)])), bits), FINEST)
     while True:
         axes = [_axis_of(low, high, exponent) for low, high in zip(lows, highs)]
         if max([high - low for low, high, _ in axes]) <= 2 << bits:
-            return exponent, axes
+            return Grid(exponent, axes, list(map(operator.eq, lows, highs)))
         exponent += 1
 
 
@@ -93,7 +169,7 @@ def _error(floats: NDArray[np.float64], steps: NDArray[np.float64], whole: NDArr
     moved = steps - whole
     if exponent > 0:  # a small float may have become 0, or have lost digits; it is as far from 0 as it was
         return float(np.abs(np.where(whole == 0, floats, np.ldexp(moved, exponent))).max())
-    return ldexp(float(np.maximum.reduce(np.abs(moved, out=moved), axis=None)), exponent)
+    return ldexp(moved.item(np.abs(moved, out=moved).argmax()), exponent)
 
 
 def snap(points: Any, bits: int = BITS_LIMIT) -> Snapped:
@@ -110,45 +186,12 @@ def snap(points: Any, bits: int = BITS_LIMIT) -> Snapped:
     ValueError
         The shape is not (n, 3), there is no point, a number is not finite, or bits is not from 1 to 30.
     """
-    return snapped(floats_of(points), operator.index(bits))
+    return snapped(floats_of(points, finite=False), operator.index(bits))
 
 
 def snapped(floats: NDArray[np.float64], bits: int) -> Snapped:
-    """The same of float64 that are finite."""
+    """The same of float64."""
     if not len(floats):
         raise ValueError("there is no point")
-    if not 1 <= bits <= BITS_LIMIT:
-        raise ValueError(f"bits must be from 1 to {BITS_LIMIT}")
-    lows, highs = _ends_of(floats)
-    exponent, axes = _finest(lows, highs, bits)
-    varying = floats
-    if any(map(operator.eq, lows, highs)):  # such an axis may be too far out for so small a step
-        varying = np.where(np.equal(lows, highs), 0.0, floats)
-    steps = _scaled(varying, -exponent)
-    whole = np.rint(steps)
-    error = max([_error(varying, steps, whole, exponent), *[error for _, _, error in axes]])
-    firsts = [low if least < most else 0 for (low, _, _), least, most in zip(axes, lows, highs)]
-    shift = 0
-    if not error:
-        whole -= np.array(firsts, np.float64)
-        firsts, shift = [0, 0, 0], _shift(whole, axes, exponent)
-        np.ldexp(whole, -shift, out=whole)
-    middles = [((low >> shift) + (high >> shift)) // 2 for low, high, _ in axes]
-    ways = [middle - (low >> shift) + first for middle, (low, _, _), first in zip(middles, axes, firsts)]
-    if max([abs(way) for way in ways]) >= _WHOLE:  # no float has both the start of an axis and the half of its length
-        whole -= np.array(firsts, np.float64)
-        ways = [way - first for way, first in zip(ways, firsts)]
-    whole -= np.array(ways, np.float64)
-    x, y, z = middles
-    return Snapped(whole.astype(np.int32), ldexp(1.0, exponent + shift), (x, y, z), error)
-
-
-def _shift(whole: NDArray[np.float64], axes: list[_Axis], exponent: int) -> int:
-    """By how many powers of two the step of an exact grid can be greater: up to 1 if that has room, else as far as it goes."""
-    common = int(np.bitwise_or.reduce(whole.astype(np.int64), axis=None))
-    for low, _, _ in axes:
-        common |= low
-    most = (common & -common).bit_length() - 1
-    if exponent > 0:
-        return most
-    return min(most, -exponent) if common else -exponent
+    grid = grid_of(ends_of(floats), bits)
+    return grid.snapped(grid.rounded(floats))

@@ -12,6 +12,8 @@ from typing import Any
 import numpy as np
 from numpy.typing import NDArray
 
+from ._arrays import floats_of
+from ._grid import Grid
 from ._hull import whole_points
 from ._library import flat_hull
 from ._limits import POINT_LIMIT
@@ -41,15 +43,21 @@ class Part:
     count: int  # the number of points that the part was made of
     indices: NDArray[np.int64]  # int64, rising: the positions of the extreme points among these
     points: NDArray[np.int32]  # int32, (m, 3): the extreme points
+    floats: NDArray[np.float64] | None = None  # (m, 3): what they were rounded from
+    error: float = 0.0  # of all points, as `Rounded` has it
+    common: int = 0  # the same
 
 
 EMPTY = Part(0, np.empty(0, np.int64), np.empty((0, 3), np.int32))
 
 
-def part_of_block(block: NDArray[Any]) -> Part:
-    """Returns the extreme points of a block of any length, which is cut into pieces of at most `POINT_LIMIT` points."""
+def part_of_block(block: NDArray[Any], grid: Grid | None = None) -> Part:
+    """Returns the extreme points of a block of any length, which is cut into pieces of at most `POINT_LIMIT` points.
+
+    With a grid the block has floats, and they are the extreme points of the steps.
+    """
     starts = range(0, len(block), POINT_LIMIT)
-    return joined(_part_of_cut(block[start : start + POINT_LIMIT]) for start in starts)
+    return joined(_part_of_cut(block[start : start + POINT_LIMIT], grid) for start in starts)
 
 
 def joined(parts: Iterable[Part]) -> Part:
@@ -58,7 +66,8 @@ def joined(parts: Iterable[Part]) -> Part:
     Raises TooManyExtremes where the extreme points of what came before and of a part together are more than a call takes.
     """
     pile: list[Part] = []
-    size = count = 0
+    size = count = common = 0
+    error = 0.0
     for part in parts:
         if size + len(part.indices) > POINT_LIMIT:
             pile = [_extremes_of(pile)]
@@ -67,15 +76,20 @@ def joined(parts: Iterable[Part]) -> Part:
             raise TooManyExtremes(size + len(part.indices))
         pile.append(replace(part, indices=part.indices + count))
         size += len(part.indices)
-        count += part.count
-    return replace(_extremes_of(pile), count=count)
+        count, error, common = count + part.count, max(error, part.error), common | part.common
+    return replace(_extremes_of(pile), count=count, error=error, common=common)
 
 
-def _part_of_cut(cut: NDArray[Any]) -> Part:
+def _part_of_cut(cut: NDArray[Any], grid: Grid | None) -> Part:
     """The extreme points of `POINT_LIMIT` points at most, one at least."""
-    points = whole_points(cut)
+    if grid is None:
+        points = whole_points(cut)
+        places = flat_hull(points).extremes
+        return Part(len(points), places.astype(np.int64), points[places])
+    floats = floats_of(cut)
+    points, error, common = grid.rounded(floats)
     places = flat_hull(points).extremes
-    return Part(len(points), places.astype(np.int64), points[places])
+    return Part(len(points), places.astype(np.int64), points[places], floats[places], error, common)
 
 
 def _extremes_of(pile: list[Part]) -> Part:
@@ -83,7 +97,8 @@ def _extremes_of(pile: list[Part]) -> Part:
     pile = [part for part in pile if len(part.indices)]
     if len(pile) < 2:
         return pile[0] if pile else EMPTY
-    indices = np.concatenate([part.indices for part in pile])
     points = np.concatenate([part.points for part in pile])
     places = flat_hull(points).extremes
-    return Part(0, indices[places], points[places])
+    indices = np.concatenate([part.indices for part in pile])[places]
+    floats = [part.floats for part in pile if part.floats is not None]
+    return Part(0, indices, points[places], np.concatenate(floats)[places] if floats else None)

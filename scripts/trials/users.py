@@ -10,7 +10,8 @@ sets        100,000 small sets in one call of c/qconvex.hpp, by 4 workers: boxes
 lattice     lattice points near a ball: the facets that hullfacets writes for Normaliz, lrs and polymake, each where it is installed, have
             the corners, or the volume, of the hull
 floats      floats whose hull Qhull makes, put on a grid by meshpoints: hullcheck says of Qhull's faces what check_hull.py says
-files       points in ten files by hullmany: the corners are those of the box that was put among them. From --seconds 600 on they are 10^7
+files       points in ten files by hullmany, whole numbers and floats: the corners are those of the box that was put among them, and of
+            floats it says by how much they were moved. From --seconds 60 on they are 10^6, and from 600 on 10^7
 projects    the project of examples/cmake and a package installed by pip, with the library as it is installed in a new folder
 
 Nothing is built but the programs of the trials. A part that misses a program or a package is left out.
@@ -21,6 +22,7 @@ import shutil
 import subprocess
 import sys
 import tempfile
+from fractions import Fraction
 from pathlib import Path
 
 sys.path.insert(0, str(Path(__file__).resolve().parents[1]))
@@ -31,7 +33,9 @@ from trials.library import README_PRINTS, lines_of_readme  # noqa: E402
 
 COMMANDS, LIBRARY = PYTHON / "bin", TOP / "c/build/libqconvex.a"
 SYSTEM = "/usr/bin/python3"
-FLOATS, SETS, FEW, MANY = 200_000, 100_000, 100_000, 10_000_000
+FLOATS, SETS = 200_000, 100_000
+# How many points in files, and from how many seconds on.
+COUNTS = {10_000_000: 600, 1_000_000: 60, 100_000: 0}
 SETS_IN_C = """
 #include "qconvex.hpp"
 #include <iostream>
@@ -201,20 +205,24 @@ def off_of(grid, faces):
 def files(given, rng):
     """Points in ten files."""
     numpy, _ = numpy_and_scipy()
-    trials.need(given.program)
-    count, end = MANY if given.seconds >= 600 else FEW, 1 << 30
-    box = [[x, y, z] for x in (-end, end) for y in (-end, end) for z in (-end, end)]
+    program = trials.need(given.program)
+    count, end = next(count for count, seconds in COUNTS.items() if given.seconds >= seconds), 1 << 30
+    box = numpy.array([[x, y, z] for x in (-end, end) for y in (-end, end) for z in (-end, end)])
     with tempfile.TemporaryDirectory() as room:
         while True:
-            points = numpy.random.default_rng(rng.getrandbits(32)).integers(1 - end, end, size=(count, 3), dtype=numpy.int32)
+            points = numpy.random.default_rng(rng.getrandbits(32)).uniform(1 - end, end - 1, size=(count, 3))
             places = sorted(rng.sample(range(count), 8))
             points[places] = box
-            names = [Path(room, f"{number}.npy") for number in range(10)]
-            for name, part in zip(names, numpy.array_split(points, 10)):
-                numpy.save(name, part)
-            words = [word for name in names for word in ("--file", name)]
-            said = output(SYSTEM, COMMANDS / "hullmany", "--quiet", "--run", given.program, "--part", count // 13, "--jobs", "2", *words, "Fx")
-            yield f"of {count} points", None if said.split() == ["8", *map(str, places)] else f"{said[:200]}, not {places}"
+            for kind, most in ("int32", None), ("float64", Fraction(numpy.abs(points - numpy.rint(points)).max()) / end):
+                names = [Path(room, f"{number}.npy") for number in range(10)]
+                for name, part in zip(names, numpy.array_split(points / end if most else points.astype(kind), 10)):
+                    numpy.save(name, part)
+                words = [word for name in names for word in ("--file", name)] + (["--bits", "30"] if most else [])
+                command = [SYSTEM, COMMANDS / "hullmany", "--quiet", "--run", program, "--part", count // 13, "--jobs", "2", *words, "Fx"]
+                said = subprocess.run(list(map(str, command)), capture_output=True, text=True, check=True)
+                told = Fraction(said.stderr.split()[-1]) if most else None
+                same = said.stdout.split() == ["8", *map(str, places)] and told == most
+                yield f"of {count} points, {kind}", None if same else f"{said.stdout[:200]} {said.stderr}, not {places} {most}"
 
 
 def projects(_given, _rng):

@@ -1,6 +1,6 @@
 """Makes the exact hull of more points than the program takes at once, in parts, here or on other machines.
 
-    hullmany [--part N] [--jobs N] [--run COMMAND]... [--engine dask://ADDRESS] [--file FILE]... [OUT]... < points.txt
+    hullmany [--part N] [--jobs N] [--run COMMAND]... [--engine dask://ADDRESS] [--file FILE]... [--bits N] [OUT]... < points.txt
 
 The input is a point file whose count may be any number. It is cut at line ends into parts of N points; of each part the
 extreme points are taken, then of what is left, put together anew, and so on until it fits one part; of that the answer is
@@ -21,6 +21,11 @@ With --file the points are those of files, one after the other: point files, csv
 in npy. With --engine the parts are taken by the workers of a Dask scheduler, which open the files of --file by the same names;
 docs/MANY-POINTS.md says what they need. The last step, of the points that are left, is done here.
 
+With --bits the files have floats, and the answer is what `ConvexHull.from_floats` gives for all of them: the exact hull of whole
+points near the floats, on the finest grid whose whole numbers have so many bits (30 at most). Standard error tells `exact` if all
+floats are points of the grid, else by how much they were moved at most. The places in `off` are those of the whole points in the
+units of the floats. Decimals are read as the nearest float64, and by how much that moved them at most is added.
+
 A line on standard error tells how far it is, and about how long the first round still takes. Of the points only those that
 are left are kept in memory, beside two parts a job. If a round takes away fewer than one point in a hundred, what is left
 is given to the program at once; if that is more than it takes, there is no answer: the hull has then very many corners. The
@@ -37,12 +42,15 @@ from collections import deque
 from concurrent.futures import Future, ThreadPoolExecutor
 from contextlib import contextmanager
 from pathlib import Path
-from typing import BinaryIO, Deque, Iterable, Iterator, List, Optional, Tuple
+from typing import TYPE_CHECKING, BinaryIO, Deque, Iterable, Iterator, List, Optional, Tuple
 
 from .._limits import POINT_LIMIT
 from .part_lines import LineParts, Part, Refused, header_of, part_of_points, word_parts
 from .part_runs import Extremes, Irregular, Runs
 from .point_streams import are_one_text, opened
+
+if TYPE_CHECKING:
+    from .._grid import Snapped
 
 # A point as its index and its line.
 Indexed = Tuple[int, bytes]
@@ -166,22 +174,43 @@ def fewer(points: List[Indexed], options: argparse.Namespace, runs: Runs) -> Lis
     return points
 
 
-def by_dask(options: argparse.Namespace) -> List[Indexed]:
-    """The extreme points of files, by the workers of a Dask scheduler."""
+def by_dask(options: argparse.Namespace) -> Tuple[List[Indexed], Optional[Snapped]]:
+    """The extreme points of files, by the workers of a Dask scheduler, and the grid of floats."""
     try:
         from ..dask import extremes
 
-        found = extremes(options.file, options.engine.replace("dask://", "tcp://", 1), options.retries)
+        found = extremes(options.file, options.engine.replace("dask://", "tcp://", 1), options.retries, options.bits)
     except (ImportError, OSError, TypeError, ValueError) as why:
         raise Refused(f"{options.engine}: {why}") from None
-    return [(index, b"%d %d %d" % tuple(point)) for index, point in zip(found.indices.tolist(), found.points.tolist())]
+    points = found.grid.points if found.grid else found.points
+    return [(index, b"%d %d %d" % tuple(point)) for index, point in zip(found.indices.tolist(), points.tolist())], found.grid
 
 
-def answer(points: List[Indexed], runs: Runs, outputs: List[str]) -> bytes:
+def by_runs(options: argparse.Namespace, runs: Runs) -> Tuple[List[Indexed], Optional[Snapped]]:
+    """The same by the commands."""
+    if options.bits is None:
+        with opened(options.file) if options.file else sys.stdin.buffer as source:
+            return survivors(source, are_one_text(options.file or ["-"]), options, runs), None
+    try:
+        from .float_streams import FloatStream
+
+        floats = FloatStream(options.file, options.bits)
+        with floats.opened() as source:
+            return survivors(source, False, options, runs), floats.units()
+    except (ImportError, TypeError, ValueError) as why:
+        raise Refused(str(why)) from None
+
+
+def answer(points: List[Indexed], grid: Optional[Snapped], runs: Runs, outputs: List[str]) -> bytes:
     """The texts of the outputs for the whole input."""
     text = runs.answer(part_of_points(point for _, point in points))
     head, _, off = text.partition(b"OFF\n")
     indices = [points[int(place)][0] for place in head.split()[1:]]
+    if grid:
+        from .float_streams import in_units, told
+
+        print(told(grid), file=sys.stderr)
+        off = in_units(off, grid)
     texts = {"Fx": b"".join(b"%d\n" % number for number in [len(indices), *indices]), "off": b"OFF\n" + off}
     return b"".join(texts[output] for output in outputs)
 
@@ -203,6 +232,7 @@ def arguments() -> argparse.Namespace:
     parser.add_argument("--retries", type=int, default=3, help="how often a part is tried again (default 3)")
     parser.add_argument("--engine", metavar="dask://ADDRESS", help="the scheduler whose workers take the parts")
     parser.add_argument("--file", action="append", help="a file in place of standard input: points, csv or npy; may be repeated")
+    parser.add_argument("--bits", type=int, help="take floats, and put them on a grid whose whole numbers have so many bits")
     parser.add_argument("--quiet", action="store_true", help="no progress line")
     parser.add_argument("outputs", nargs="*", default=["Fx"], metavar="OUT", help="Fx or off (default Fx)")
     options = parser.parse_args()
@@ -212,6 +242,24 @@ def arguments() -> argparse.Namespace:
         parser.error(f"--part is 1 to {POINT_LIMIT}, --jobs 1 or more, --retries 0 or more")
     if options.engine and not (options.engine.startswith("dask://") and options.file):
         parser.error("--engine is dask://ADDRESS, and wants --file")
+    if options.bits is not None and not options.file:
+        parser.error("--bits wants --file")
+    if options.bits is not None and not options.file:
+        parser.error("--bits wants --file")
+    if options.bits is not None and not options.file:
+        parser.error("--bits wants --file")
+    if options.bits is not None and not options.file:
+        parser.error("--bits wants --file")
+    if options.bits is not None and not options.file:
+        parser.error("--bits wants --file")
+    if options.bits is not None and not options.file:
+        parser.error("--bits wants --file")
+    if options.bits is not None and not options.file:
+        parser.error("--bits wants --file")
+    if options.bits is not None and not options.file:
+        parser.error("--bits wants --file")
+    if options.bits is not None and not options.file:
+        parser.error("--bits wants --file")
     return options
 
 
@@ -219,14 +267,10 @@ def main() -> None:
     options = arguments()
     try:
         runs = Runs(options.run or [own_command()], options.jobs, options.retries)
-        if options.engine:
-            points = by_dask(options)
-        else:
-            with opened(options.file) if options.file else sys.stdin.buffer as source:
-                points = survivors(source, are_one_text(options.file or ["-"]), options, runs)
+        points, grid = by_dask(options) if options.engine else by_runs(options, runs)
         if not points:
             raise Refused("there are no points")
-        sys.stdout.buffer.write(answer(points, runs, options.outputs))
+        sys.stdout.buffer.write(answer(points, grid, runs, options.outputs))
     except (Refused, OSError) as why:
         sys.exit(f"hullmany: {why}")
     except KeyboardInterrupt:

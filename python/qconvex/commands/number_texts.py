@@ -1,10 +1,17 @@
-"""Records of many whole numbers as text, by numpy: a tenth of the time that Python takes to format them.
+"""Records of many whole numbers as text, by numpy.
 
-Some records at a time become rows of words of four letters, in which each number has a field as wide as the longest one there.
-The letters that are no text are 0, and are left out at the end.
+Some records at a time become rows of columns of letters, each as wide as the longest text there. The letters that are no text are
+0, and are left out at the end. Numbers that are many and small, such as indices, are looked up with the text between them.
 """
 from __future__ import annotations
 
+from functools import lru_cache
+from functools import lru_cache
+from functools import lru_cache
+from functools import lru_cache
+from functools import lru_cache
+from functools import lru_cache
+from functools import lru_cache
 from typing import Any, Iterator, List, NamedTuple, Sequence, Tuple, Union
 
 try:
@@ -13,9 +20,10 @@ except ImportError:
     np = None  # type: ignore[assignment]
 
 # Records that are made at once, and the most numbers of one field that are: what they take stays in the processor's cache.
-RECORDS, MOST_NUMBERS = 1 << 13, 1 << 17
+RECORDS, MOST_NUMBERS = 1 << 12, 1 << 16
 GROUP = 4  # digits that are looked up together
 GROUPS = 10**GROUP
+LETTERS = 8  # of a text that is looked up
 HALF = 16  # digits of the lower part of a wide number
 LOW_BITS = 31
 LOW = (1 << LOW_BITS) - 1
@@ -33,7 +41,7 @@ class Field(NamedTuple):
     """Numbers of each record, in one list; those of record j stand from ends[j] to before ends[j + 1], and are one at least."""
 
     before: str  # the text before the first number of a record
-    between: str  # the text before each other one
+    between: str  # the text before each other one, shorter than what is looked up
     numbers: Union[Wide, Any]  # of int64
     ends: Any
 
@@ -48,8 +56,10 @@ def rows(before: str, between: str, numbers: Any) -> Field:
     return Field(before, between, numbers.ravel(), np.arange(len(numbers) + 1) * numbers.shape[1])
 
 
-def wide_of(high: Any, low: Any) -> Wide:
-    """The numbers high * 2^31 + low, by two arrays of int64 that are less than 2^62.9 in size."""
+def wide_of(high: Any, low: Any) -> Union[Wide, Any]:
+    """The numbers high * 2^31 + low, by two arrays of int64 that are less than 2^62.9 in size; of int64 where that holds them."""
+    if np.abs(high).max() < LOW >> 1 and np.abs(low).max() < LOW << LOW_BITS:
+        return (high << LOW_BITS) + low
     high, low = high + (low >> LOW_BITS), low & LOW
     negative = high < 0
     high, low = np.where(negative, -high - (low > 0), high), np.where(negative, -low & LOW, low)
@@ -64,17 +74,16 @@ def wide_of(high: Any, low: Any) -> Wide:
     return Wide(((parts[0] << LOW_BITS) + parts[1] << LOW_BITS) + parts[2], rests[1] * 10**8 + rests[0], negative)
 
 
-def blocks_of(fields: Sequence[Field]) -> Iterator[bytes]:
-    """The text of all records, one after the other: of each the fields in their order."""
-    texts = [b"%04d" % number for number in range(GROUPS)]
-    groups = words_of_text(b"".join(texts + [text.lstrip(b"0").ljust(GROUP, b"\0") for text in texts]))
+def blocks_of(fields: Sequence[Field], after: str = "") -> Iterator[bytes]:
+    """The text of all records, one after the other: of each the fields in their order, and a text behind them."""
+    tables = [table_of(field) for field in fields]
     for start, end in cuts_of(fields):
-        yield letters_of([column_of(field, start, end, groups) for field in fields])
-
-
-def words_of_text(text: bytes) -> Any:
-    """A text as words, the last one with zeros behind it."""
-    return np.frombuffer(text.ljust(-(-len(text) // GROUP) * GROUP, b"\0"), np.uint32)
+        columns = [column for field, table in zip(fields, tables) for column in columns_of(field, start, end, table)]
+        columns += [np.array(after, "S")] if after else []
+        made = np.empty(end - start, [(str(place), column.dtype) for place, column in enumerate(columns)])
+        for place, column in enumerate(columns):
+            made[str(place)] = column
+        yield made.tobytes().translate(None, b"\0")
 
 
 def cuts_of(fields: Sequence[Field]) -> Iterator[Tuple[int, int]]:
@@ -91,82 +100,78 @@ def cuts_of(fields: Sequence[Field]) -> Iterator[Tuple[int, int]]:
             yield start, end
 
 
-class Column(NamedTuple):
-    """A field of some records."""
-
-    before: Any  # words of text
-    between: Any
-    words: Any  # of the first, of the second number and so on of each record: (records, numbers, width)
-    absent: Any  # which records have fewer numbers, or None where all have as many
+@lru_cache(maxsize=None)
+def groups_of_digits() -> Any:
+    """The letters of the numbers of a group, all of them, and without zeros to the left."""
+    texts = [b"%04d" % number for number in range(GROUPS)]
+    return np.array(texts + [text.lstrip(b"0") for text in texts], f"S{GROUP}").view(np.uint32)
 
 
-def column_of(field: Field, start: int, end: int, groups: Any) -> Column:
-    """A field of the records from one to before another."""
-    ends, absent = field.ends[start : end + 1], None
+def table_of(field: Field) -> Any:
+    """The texts of all numbers up to the greatest one, if they are few, behind the text between, and nothing; else None."""
+    numbers = field.numbers
+    if isinstance(numbers, Wide) or not 0 <= numbers.min() <= numbers.max() <= len(numbers):
+        return None
+    count = int(numbers.max()) + 1
+    if len(field.between) + len(str(count)) > LETTERS:
+        return None
+    high, low = np.divmod(np.arange(count), GROUPS)
+    lows = groups_of_digits().take(low + GROUPS * (high == 0)).astype(np.uint64)
+    lows[0] = ord("0")
+    shifts = sum((high >= 10**digit).astype(np.uint64) for digit in range(GROUP)) << np.uint64(3)
+    texts = groups_of_digits().take(high + GROUPS) | lows << shifts
+    between = np.uint64(int.from_bytes(field.between.encode("ascii"), "little"))
+    return np.append(between | texts << np.uint64(8 * len(field.between)), np.uint64(0))
+
+
+def columns_of(field: Field, start: int, end: int, table: Any) -> Iterator[Any]:
+    """The columns of a field in the records from one to before another: each is an array, or one text for all."""
+    ends, before = field.ends[start : end + 1], field.before
     counts = np.diff(ends)
     most = int(counts.max())
-    if isinstance(field.numbers, Wide):
-        words = words_of_wide(Wide(*(part[start:end] for part in field.numbers)), groups)
-    elif (counts == most).all():
-        words = words_of(field.numbers[ends[0] : ends[-1]], groups)
-    else:
-        absent = np.arange(most) >= counts[:, np.newaxis]
-        words = words_of(field.numbers[np.where(absent, 0, ends[:-1, np.newaxis] + np.arange(most))].ravel(), groups)
-    texts = words_of_text(field.before.encode("ascii")), words_of_text(field.between.encode("ascii"))
-    return Column(*texts, words.reshape(end - start, most, words.shape[1]), absent)
+    is_even, is_like = bool((counts == most).all()), table is not None and before.endswith(field.between)
+    before = before[: len(before) - len(field.between)] if is_like else before
+    if before:
+        yield np.array(before, "S")
+    for place in range(most):
+        there = counts > place
+        chosen: Any = slice(ends[0] + place, ends[-1], most) if is_even else np.where(there, ends[:-1] + place, ends[0])
+        if table is None:
+            is_wide = isinstance(field.numbers, Wide)
+            part = Wide(*(part[chosen] for part in field.numbers)) if is_wide else field.numbers[chosen]
+            for column in digits_of(part, field.between if place else ""):
+                yield column if is_even else np.where(there, column, np.zeros((), column.dtype))
+        else:
+            column = table.take(field.numbers[chosen] if is_even else np.where(there, field.numbers[chosen], len(table) - 1))
+            yield column if is_like or place else column >> np.uint64(8 * len(field.between))
 
 
-def letters_of(columns: Sequence[Column]) -> bytes:
-    """The text of records."""
-    shapes = [column.words.shape for column in columns]
-    widths = [
-        len(column.before) + most * width + (most - 1) * len(column.between) for column, (_, most, width) in zip(columns, shapes)
-    ]
-    made, at = np.empty((shapes[0][0], sum(widths)), np.uint32), 0
-    for column, (_, most, width) in zip(columns, shapes):
-        for number in range(most):
-            text = column.between if number else column.before
-            begin, end = at + len(text), at + len(text) + width
-            made[:, at:begin] = text
-            made[:, begin:end] = column.words[:, number]
-            if column.absent is not None and number:
-                made[column.absent[:, number], at:end] = 0
-            at = end
-    return bytes(made).translate(None, b"\0")
-
-
-def words_of(numbers: Any, groups: Any) -> Any:
-    """The digits of numbers of int64, behind a sign where a number is below 0."""
-    sizes = np.abs(numbers)
-    return signed(numbers < 0, [figures_of(sizes, len(str(int(sizes.max()))), groups)])
-
-
-def words_of_wide(numbers: Wide, groups: Any) -> Any:
-    """The same of wide numbers."""
-    most = int(numbers.high.max())
-    if not most:
-        return signed(numbers.negative, [figures_of(numbers.low, len(str(int(numbers.low.max()))), groups)])
+def digits_of(numbers: Any, between: str) -> Iterator[Any]:
+    """The columns of numbers behind a text and a sign where they are below 0."""
+    is_wide = isinstance(numbers, Wide)
+    negative = numbers.negative if is_wide else numbers < 0
+    if negative.any():
+        yield np.array([between, between + "-"], "S").take(negative.astype(np.intp))
+    elif between:
+        yield np.array(between, "S")
+    if not is_wide or not numbers.high.any():
+        yield from groups_of(np.abs(numbers.low if is_wide else numbers))
+        return
     has_high = numbers.high > 0
-    high = figures_of(numbers.high, len(str(most)), groups)
-    high[~has_high] = 0
-    return signed(numbers.negative, [high, figures_of(numbers.low, HALF, groups, has_high)])
+    yield from (np.where(has_high, column, np.uint32(0)) for column in groups_of(numbers.high))
+    yield from groups_of(numbers.low, has_high)
 
 
-def figures_of(sizes: Any, width: int, groups: Any, has_more: Any = False) -> Any:
-    """The last digits of numbers, as many as a width, with zeros to the left where a number has more digits."""
-    count, left = -(-width // GROUP), sizes.astype(np.uint32 if width < 10 else np.uint64)
-    found = np.empty((len(sizes), count), np.uint32)
-    for group in range(count - 1, -1, -1):
+def groups_of(sizes: Any, has_more: Any = None) -> Iterator[Any]:
+    """The digits of numbers from 0 on, in columns, the first one first: with zeros to the left where a number has more digits."""
+    most = int(sizes.max())
+    count, found = -(-(len(str(most)) if has_more is None else HALF) // GROUP), []
+    left = sizes.astype(np.uint32) if most < 1 << 32 else sizes.astype(np.uint64)
+    for _ in range(count):
         above = left // GROUPS
         places = (left - above * GROUPS).astype(np.intp)
-        places += GROUPS * ((above == 0) & ~np.asarray(has_more))
-        found[:, group] = groups.take(places)
+        places += GROUPS * ((above == 0) if has_more is None else (above == 0) & ~has_more)
+        found.append(groups_of_digits().take(places))
         left = above
-    found[:, -1] += (found[:, -1] == 0) * np.uint32(ord("0"))
-    return found
-
-
-def signed(negative: Any, words: List[Any]) -> Any:
-    """Words behind a sign where a number is below 0."""
-    signs = [np.where(negative, np.uint32(ord("-")), np.uint32(0))[:, np.newaxis]] if negative.any() else []
-    return np.concatenate(signs + words, axis=1)
+    found[0][found[0] == 0] = ord("0")
+    return reversed(found)

@@ -6,6 +6,9 @@ import os
 from itertools import chain
 from typing import Any, BinaryIO, Iterator, Sequence, Tuple
 
+from .._limits import COORDINATE_LIMIT
+from .number_texts import blocks_of as blocks_of_records
+from .number_texts import rows
 from .part_lines import DATA_WORD_STARTS, Refused, header_of
 
 BLOCK_BYTES, BLOCK_ROWS = 1 << 20, 1 << 15
@@ -90,8 +93,8 @@ def points_of_csv(path: str) -> Counted:
     return count, (block.translate(BLANKS) for block in blocks_of(source))
 
 
-def points_of_npy(path: str) -> Counted:
-    """The points of an array (n, 3) of whole numbers, which numpy reads."""
+def array_of_npy(path: str, kinds: str) -> Any:
+    """The array (n, 3) of a file, of numbers of some kinds, which numpy reads."""
     try:
         import numpy
     except ImportError:
@@ -100,10 +103,23 @@ def points_of_npy(path: str) -> Counted:
         array = numpy.load(path, mmap_mode="r", allow_pickle=False)
     except ValueError as wrong:
         raise Refused(f"{path}: no array of numpy: {wrong}") from None
-    if array.ndim != 2 or array.shape[1] != 3 or array.dtype.kind not in "iu":
-        raise Refused(f"{path}: points are whole numbers of the shape (n, 3), not {array.dtype} of the shape {array.shape}")
-    blocks = (array[start : start + BLOCK_ROWS].ravel().tolist() for start in range(0, len(array), BLOCK_ROWS))
-    return len(array), (b"%d %d %d\n" * (len(block) // 3) % tuple(block) for block in blocks)
+    if array.ndim != 2 or array.shape[1] != 3 or array.dtype.kind not in kinds:
+        wanted = "numbers" if "f" in kinds else "whole numbers, or with --bits floats,"
+        raise Refused(f"{path}: points are {wanted} of the shape (n, 3), not {array.dtype} of the shape {array.shape}")
+    return array
+
+
+def points_of_npy(path: str) -> Counted:
+    """The points of an array of whole numbers."""
+    array = array_of_npy(path, "iu")
+    return len(array), (lines_of(array[start : start + BLOCK_ROWS], path) for start in range(0, len(array), BLOCK_ROWS))
+
+
+def lines_of(points: Any, path: str = "") -> bytes:
+    """The lines of points in an array, which are in range."""
+    if points.max() > COORDINATE_LIMIT or points.min() < -COORDINATE_LIMIT:
+        raise Refused(f"{path}: a coordinate is not from {-COORDINATE_LIMIT} to {COORDINATE_LIMIT}")
+    return b"".join(blocks_of_records([rows("", " ", points.astype("int64"))], "\n"))
 
 
 READERS = {".npy": points_of_npy, ".csv": points_of_csv}
