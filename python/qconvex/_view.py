@@ -12,8 +12,12 @@ _MARK = "/*HULL*/"
 
 def page(ids: Sequence[int], points: Sequence[Sequence[Any]], faces: Sequence[Sequence[int]], title: str = "hull") -> str:
     """The page of a hull: the index and the coordinates of each vertex, and the faces by numbers of vertices from 0 on."""
+    return page_of(json.dumps({"ids": ids, "points": points, "faces": faces}, separators=(",", ":")), title)
+
+
+def page_of(data: str, title: str) -> str:
+    """The page of a hull by its text in JSON."""
     before, _, after = _PAGE.read_text(encoding="utf-8").split(_MARK)
-    data = json.dumps({"ids": ids, "points": points, "faces": faces}, separators=(",", ":"))
     return before.replace("<title>hull</title>", f"<title>{html.escape(title)}</title>") + data + after
 
 

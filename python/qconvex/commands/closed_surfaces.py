@@ -35,7 +35,7 @@ class Surface(NamedTuple):
     offsets: Any
     neighbours: Any  # the face along each side
     normals: Any  # int64, (faces, 3): without a common divisor
-    levels: Wide  # normal . p of each face
+    levels: Any  # normal . p of each face, of int64 or `Wide`
     around: Any  # the faces round each point, the lowest first, counterclockwise
     degrees: Any  # where those of each point begin and the last end
     six_volumes: int
@@ -121,7 +121,7 @@ def cross(u: Any, v: Any) -> Any:
     return np.stack([u[1] * v[2] - u[2] * v[1], u[2] * v[0] - u[0] * v[2], u[0] * v[1] - u[1] * v[0]])
 
 
-def planes_of(arrays: Arrays, sides: Sides) -> Optional[Tuple[Any, Wide, int]]:
+def planes_of(arrays: Arrays, sides: Sides) -> Optional[Tuple[Any, Any, int]]:
     """The normal and the level of each face without a common divisor, if all faces are plane, and six times the volume."""
     places, starts = np.ascontiguousarray(arrays.points.T), arrays.offsets[:-1]
     firsts = places.take(arrays.corners[starts], 1)
@@ -129,20 +129,27 @@ def planes_of(arrays: Arrays, sides: Sides) -> Optional[Tuple[Any, Wide, int]]:
     normals = cross(second, third)
     if not normals.any(axis=0).all():
         return None
-    volume = volume_of(arrays, sides, places, normals)
-    if volume is None:
-        return None
-    divisors = np.gcd(np.gcd(normals[0], normals[1]), normals[2])
+    levels, volume = dot(normals, firsts), None
+    if len(arrays.corners) != normals.size:  # other faces than triangles
+        volume = volume_of(arrays, sides, places, normals)
+        if volume is None:
+            return None
+    volume = sum_of(*levels) if volume is None else volume
+    is_short = max(-int(normals.min()), int(normals.max())) < 1 << 31
+    few = normals.astype(np.int32) if is_short else normals  # whose divisors are found sooner
+    divisors = np.gcd(np.gcd(few[0], few[1]), few[2])
     common = (divisors > 1).nonzero()[0]
     normals[:, common] //= divisors[common]
-    return np.ascontiguousarray(normals.T), wide_of(*dot(normals, firsts)), volume
+    high, low = levels
+    if common.size:
+        changed = dot(normals[:, common], firsts[:, common])
+        high[common], low[common] = changed
+    return np.ascontiguousarray(normals.T), wide_of(high, low), volume
 
 
 def volume_of(arrays: Arrays, sides: Sides, places: Any, normals: Any) -> Optional[int]:
     """Six times the volume, if the corners of each face lie in its plane, and none turns back seen from the first."""
     firsts = places.take(arrays.corners[arrays.offsets[:-1]], 1)
-    if len(arrays.corners) == normals.size:  # triangles
-        return sum_of(*dot(normals, firsts))
     ways = places.take(arrays.corners, 1) - firsts.take(sides.faces, 1)
     inner = np.flatnonzero(sides.before + 2 == sides.behind)
     turns, of_turns = cross(ways.take(inner, 1), ways.take(inner + 1, 1)), sides.faces[inner]
@@ -160,6 +167,9 @@ def are_plane(normals: Any, ways: Any, faces: Any) -> bool:
 
 def dot(normals: Any, places: Any) -> Tuple[Any, Any]:
     """The scalar products of columns as high * 2^31 + low: normals are at most 2^62 in size, places 2^30, so no sum overflows."""
+    if max(-int(normals.min()), int(normals.max())) * max(-int(places.min()), int(places.max())) < 1 << 61:
+        products = np.einsum("ij,ij->j", normals, places)
+        return products >> LOW_BITS, products & LOW
     high, low = normals >> LOW_BITS, normals & LOW
     return (high * places).sum(axis=0), (low * places).sum(axis=0)
 

@@ -17,6 +17,7 @@ import os
 import re
 import signal
 import sys
+from bisect import bisect_right
 from collections import Counter
 from typing import List
 
@@ -58,7 +59,7 @@ def counted(reading: Reading) -> str:
         return f"The header is the first two numbers of the file; found: {words or 'none'}."
     first, second = (word.line for word in reading.header)
     lines = f"line {first}" if first == second else f"lines {first} and {second}"
-    found, wanted = len(reading.words) - 2, 3 * reading.count
+    found, wanted = len(reading.lines) - 2, 3 * reading.count
     return (
         f"The header ({lines}) says {reading.count} points, which are {wanted} coordinates; "
         f"the file has {found}, of which {len(reading.numbers)} were read."
@@ -78,7 +79,7 @@ def comments(reading: Reading, everything: bool) -> List[str]:
 def uneven_rows(reading: Reading) -> List[str]:
     """The lines that have another number of data words than most lines after the header, if they are few."""
     header_line = max(word.line for word in reading.header)
-    rows = Counter(word.line for word in reading.words[2:] if word.line > header_line)
+    rows = Counter(reading.lines[bisect_right(reading.lines, header_line) :])
     if not rows:
         return []
     lengths = Counter(rows.values())
@@ -92,7 +93,7 @@ def uneven_rows(reading: Reading) -> List[str]:
 
 def swallowed(reading: Reading) -> List[str]:
     """Comments with numbers in them, on lines that have fewer than three data words."""
-    full = Counter(word.line for word in reading.words[2:])
+    full = Counter(reading.lines[2:])
     lost = [c for c in reading.comments if c.line > 2 and full[c.line] < 3 and re.search(rb"[ \t][+-]?\d", c.text)]
     if not lost:
         return []
@@ -107,7 +108,7 @@ def file_advice(data: bytes, reading: Reading) -> List[str]:
     kind = kind_of(data)
     if kind:
         return [kind]
-    before = [comment for comment in reading.comments if reading.words and comment.text[0] > 127]
+    before = [comment for comment in reading.comments if reading.lines and comment.text[0] > 127]
     if before:
         return ["A comment begins with a letter that is no ASCII: look for a minus or a blank of another alphabet."]
     return []
@@ -129,7 +130,7 @@ def header_advice(reading: Reading, fault: Fault) -> List[str]:
     """How to mend a header."""
     if len(reading.header) < 2:
         return ["A point file begins with two numbers: the dimension 3, and the number of points."]
-    first, second = map(value_of, reading.header)
+    first, second = [value_of(word.text) for word in reading.header]
     if fault.name == "Count":
         count = second if first == 3 else first
         return [f"The count is {count}; it is to be 1 to {POINT_LIMIT}."] + (
@@ -146,7 +147,7 @@ def word_advice(reading: Reading, fault: Fault, word: Word) -> List[str]:
     """What the word of the fault was to be, and how to mend it."""
     place = len(reading.numbers)
     if fault.name == "Long":
-        extra = len(reading.words) - 2 - place
+        extra = len(reading.lines) - 2 - place
         return [f"The count asks for {place} coordinates, and {extra} more word{'s' * (extra != 1)} follow from here on."]
     if reading.count is None:
         wanted = "is to be one of the two numbers of the header"
@@ -159,7 +160,7 @@ def word_advice(reading: Reading, fault: Fault, word: Word) -> List[str]:
 
 def rows_advice(reading: Reading, fault: Fault) -> List[str]:
     """How to mend a file that has too few or too many numbers."""
-    found = len(reading.words) - 2
+    found = len(reading.lines) - 2
     if fault.name not in ("Short", "Long"):
         return []
     if found % 3:

@@ -12,14 +12,34 @@ import argparse
 import signal
 import sys
 
-from .._view import page
-from .contents import text_of
+from .._view import page, page_of
+from .closed_surfaces import Arrays
+from .contents import bytes_of
+from .number_texts import Field, rows
+from .off_arrays import arrays_of_text
 from .off_files import Malformed, Number, read_off
+from .surface_forms import records
 
 
 def shown(value: Number) -> int | float:
     """A coordinate as the page takes it: whole, or the nearest double."""
     return value if isinstance(value, int) else float(value)
+
+
+def data_of(hull: Arrays) -> str:
+    """The text of a hull in JSON, as `page` makes it, by numpy."""
+    points, faces = records("],[", [rows("", ",", hull.points)]), records("],[", [Field("", ",", hull.corners, hull.offsets)])
+    texts = ",".join(map(str, range(len(hull.points)))), *(b"".join(blocks).decode("ascii") for blocks in (points, faces))
+    return '{"ids":[%s],"points":[[%s]],"faces":[[%s]]}' % texts
+
+
+def shown_file(data: bytes, title: str) -> str:
+    """The page of an OFF file."""
+    hull = arrays_of_text(data)
+    if hull:
+        return page_of(data_of(hull), title)
+    points, faces = read_off(data.decode("utf-8", "replace"))
+    return page(list(range(len(points))), [list(map(shown, point)) for point in points], faces, title)
 
 
 def main() -> int:
@@ -29,13 +49,11 @@ def main() -> int:
     given = parser.parse_args()
     signal.signal(signal.SIGPIPE, signal.SIG_DFL)
     try:
-        points, faces = read_off(text_of(given.file))
-        vertices = [list(map(shown, point)) for point in points]
+        text = shown_file(bytes_of(given.file), "hull" if given.file == "-" else given.file)
     except (Malformed, OverflowError) as error:
         print(f"hullview: {given.file}: {error}", file=sys.stderr)
         return 1
-    title = "hull" if given.file == "-" else given.file
-    sys.stdout.write(page(list(range(len(vertices))), vertices, faces, title))
+    sys.stdout.write(text)
     return 0
 
 

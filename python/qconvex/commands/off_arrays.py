@@ -1,7 +1,7 @@
 """OFF texts of whole numbers as arrays, by numpy: those that programs write with nothing but numbers behind their first line."""
 from __future__ import annotations
 
-from typing import Any, Optional
+from typing import Any, Optional, Tuple
 
 from .._limits import COORDINATE_LIMIT
 from .closed_surfaces import Arrays
@@ -11,18 +11,18 @@ try:
 except ImportError:
     np = None  # type: ignore[assignment]
 
-KEYWORD = b"OFF\n"
-NEWLINE, BLANK = 10, 32
+KEYWORD, FRONT = b"OFF\n", b"0000"  # which together are a word of memory
+NEWLINE, BLANK, MINUS = 10, 32, 45
+DIGITS = 8  # that stand in a word of memory
+BLOCK = 1 << 18  # letters that are read at once, so that what they take stays in the processor's cache
 
 
 def arrays_of_text(data: bytes) -> Optional[Arrays]:
     """The points and the faces of a text; None where numpy is missing, or `read_off` has to look."""
-    if np is None or not data.startswith(KEYWORD) or not are_numbers(data[len(KEYWORD) :]):
+    found = numbers_of(data) if np is not None and data.startswith(KEYWORD) else None
+    if found is None or len(found[1]) < 2 or not 2 <= found[1][0] <= 3:
         return None
-    body = data[len(KEYWORD) :]
-    numbers, widths = np.fromstring(body, np.int64, sep=" "), words_of_lines(body)
-    if not 2 <= widths[0] <= 3:
-        return None
+    numbers, widths = found
     points, faces = numbers[:2].tolist()
     if points < 1 or faces < 1 or len(widths) != 1 + points + faces or (widths[1 : points + 1] != 3).any():
         return None
@@ -30,7 +30,7 @@ def arrays_of_text(data: bytes) -> Optional[Arrays]:
     places, rest = numbers[first : first + 3 * points].reshape(-1, 3), numbers[first + 3 * points :]
     sizes = widths[points + 1 :] - 1
     begins = np.cumsum(widths[points + 1 :]) - widths[points + 1 :]
-    if (rest[begins] != sizes).any() or (sizes < 1).any():
+    if (sizes < 1).any() or (rest[begins] != sizes).any():
         return None
     corners = np.delete(rest, begins)
     if np.abs(places).max() > COORDINATE_LIMIT or corners.min() < 0 or corners.max() >= points:
@@ -38,18 +38,52 @@ def arrays_of_text(data: bytes) -> Optional[Arrays]:
     return Arrays(places, corners, np.append(0, sizes.cumsum()))
 
 
-def are_numbers(body: bytes) -> bool:
-    """Whether a text has whole numbers, blanks and line ends alone, and no empty line."""
-    if body.translate(None, b"0123456789- \n") or b"\n\n" in body or not body.endswith(b"\n"):
-        return False
-    signs = body.count(b"-")
-    return not signs or signs == body.count(b" -") + body.count(b"\n-") and b"- " not in body and b"-\n" not in body
+def numbers_of(data: bytes) -> Optional[Tuple[Any, Any]]:
+    """The numbers behind the first line, and how many each line has; None unless they are whole and short, with blanks between."""
+    text, start, found = FRONT + data, DIGITS, []
+    while start < len(text):
+        end = text.find(b"\n", start + BLOCK) + 1 or len(text)
+        part = numbers_of_lines(text[start - DIGITS : end])
+        if part is None:
+            return None
+        found.append(part)
+        start = end
+    return (np.concatenate([part[0] for part in found]), np.concatenate([part[1] for part in found])) if found else None
 
 
-def words_of_lines(body: bytes) -> Any:
-    """How many words each line has."""
-    letters = np.frombuffer(body, np.uint8)
-    blank = letters <= BLANK
-    starts = np.append(not blank[0], blank[:-1] & ~blank[1:])
-    ends = (letters[starts | (letters == NEWLINE)] == NEWLINE).nonzero()[0]  # among the starts of words and the ends of lines
-    return np.diff(ends, prepend=-1) - 1
+def numbers_of_lines(text: bytes) -> Optional[Tuple[Any, Any]]:
+    """The same of some lines, behind a word of memory."""
+    words = np.frombuffer(text.ljust((len(text) // DIGITS + 2) * DIGITS, b"\0"), np.uint64)
+    letters = words.view(np.uint8)[DIGITS : len(text)]
+    digit, line, minus = letters - np.uint8(ord("0")) < 10, letters == NEWLINE, letters == MINUS
+    gap = line | (letters == BLANK)
+    signs = minus.nonzero()[0]
+    if sum(map(np.count_nonzero, (digit, gap, minus))) < len(letters) or letters[-1] != NEWLINE:
+        return None
+    if not (digit[signs + 1].all() and gap[signs[signs > 0] - 1].all()):
+        return None
+    ends = gap.nonzero()[0]
+    lines, lengths = line[ends].nonzero()[0], np.diff(ends, prepend=-1) - 1
+    if not lengths.all():  # two blanks
+        lines = np.cumsum(lengths > 0)[lines] - 1
+        ends, lengths = ends[lengths > 0], lengths[lengths > 0]
+    negative = minus[ends - lengths]
+    lengths -= negative
+    if not len(lengths) or lengths.max() > 2 * DIGITS:
+        return None
+    numbers = digits_at(words, ends, np.minimum(lengths, DIGITS))
+    long = (lengths > DIGITS).nonzero()[0]
+    numbers[long] += 10**DIGITS * digits_at(words, ends[long] - DIGITS, lengths[long] - DIGITS)
+    numbers[negative] *= -1
+    return numbers, np.diff(lines, prepend=-1)
+
+
+def digits_at(words: Any, ends: Any, counts: Any) -> Any:
+    """The numbers that have some digits, eight at most, before some letters; a word of memory stands before the first letter."""
+    places, shifts = ends >> 3, ((ends & 7) << 3).astype(np.uint64)
+    found = words.take(places) >> shifts | words.take(places + 1) << np.uint64(63) - shifts << np.uint64(1)
+    left = ((DIGITS - counts) << 3).astype(np.uint64)
+    found = (found >> left << left) & np.uint64(0x0F0F0F0F0F0F0F0F)
+    for size, mask in (1, 0x00FF00FF00FF00FF), (2, 0x0000FFFF0000FFFF), (4, 0xFFFFFFFF):
+        found = (found * np.uint64(10**size) + (found >> np.uint64(8 * size))) & np.uint64(mask)
+    return found.astype(np.int64)

@@ -3,7 +3,9 @@ from __future__ import annotations
 
 import re
 import sys
+from bisect import bisect_left
 from dataclasses import dataclass
+from itertools import islice
 from typing import Iterable, List, NamedTuple, Optional, Sequence, Tuple
 
 from .._limits import BYTE_LIMIT, COORDINATE_LIMIT, POINT_LIMIT
@@ -31,40 +33,60 @@ class Fault(NamedTuple):
 
 @dataclass(frozen=True)
 class Reading:
-    """What a point file has: its header's two words, the count, its numbers so far, and the first fault or None."""
+    """What a point file has: its header's two words, the count, its numbers so far, the first fault or None, and the line of each word."""
 
     header: List[Word]
     count: Optional[int]
     numbers: List[int]
     fault: Optional[Fault]
-    words: List[Word]
+    lines: List[int]
     comments: List[Word]
 
 
 # In a line: a longest run of bytes that are no blanks.
 WORD = re.compile(rb"[^\x09\x0b\x0c\x0d\x20]+")
-# A data word begins with a digit, a sign or a point.
-DATA_WORD = re.compile(rb"[0-9+.-]")
+# A data word begins with a digit, a sign or a point; a line of these and blanks has no comment.
+DATA_LETTERS = b"0123456789+-."
+BLANKS = b" \t\r\v\f"
 NUMBER = re.compile(rb"[+-]?[0-9]+")
 
 
-def value_of(word: Word) -> int:
+def value_of(text: bytes) -> int:
     """The value of a number; of one that is far out of every range, one that is, too."""
-    sign, digits = (-1 if word.text[:1] == b"-" else 1), word.text.lstrip(b"+-").lstrip(b"0")
-    return sign * (int(digits or b"0") if len(digits) < 40 else 10**40)
+    return int(text) if len(text) < 40 else (-1 if text[:1] == b"-" else 1) * int(text.lstrip(b"+-0")[:40] or b"0")
 
 
-def words_and_comments(data: bytes) -> Tuple[List[Word], List[Word]]:
-    """The data words of a file, and its comments, each from its first word to the end of its line."""
-    words: List[Word] = []
-    comments: List[Word] = []
-    for number, line in enumerate(data.split(b"\n"), 1):
-        for found in WORD.finditer(line):
-            if not DATA_WORD.match(found.group()):
-                comments.append(Word(line[found.start() :].rstrip(), number, found.start() + 1))
-                break
-            words.append(Word(found.group(), number, found.start() + 1))
-    return words, comments
+class Words:
+    """The data words of a file with their lines, and its comments, each from its first word to the end of its line."""
+
+    def __init__(self, data: bytes) -> None:
+        self.rows = data.split(b"\n")
+        self.texts: List[bytes] = []
+        self.lines: List[int] = []
+        self.comments: List[Word] = []
+        for number, row in enumerate(self.rows, 1):
+            texts = row.split()
+            if row.translate(None, DATA_LETTERS + BLANKS):
+                place = next((place for place, text in enumerate(texts) if text[0] not in DATA_LETTERS), len(texts))
+                if place < len(texts):
+                    column = self.column(number, place)
+                    self.comments.append(Word(row[column - 1 :].rstrip(), number, column))
+                    texts = texts[:place]
+            self.texts += texts
+            self.lines += [number] * len(texts)
+
+    def column(self, line: int, place: int) -> int:
+        """Where a word of a line begins."""
+        return next(islice(WORD.finditer(self.rows[line - 1]), place, None)).start() + 1
+
+    def at(self, place: int) -> Word:
+        """A data word."""
+        line = self.lines[place]
+        return Word(self.texts[place], line, self.column(line, place - bisect_left(self.lines, line)))
+
+    def header(self) -> List[Word]:
+        """The first two words."""
+        return list(map(self.at, range(min(2, len(self.texts)))))
 
 
 def bad_number(words: Iterable[Word]) -> Optional[Fault]:
@@ -80,7 +102,7 @@ def header_fault(header: Sequence[Word]) -> Optional[Fault]:
         return fault
     if len(header) < 2:
         return Fault(1, "NoHeader", None, None)
-    if 3 not in map(value_of, header):
+    if 3 not in [value_of(word.text) for word in header]:
         return Fault(3, "NotThree", None, None)
     count = count_of(header)
     return None if 1 <= count <= POINT_LIMIT else Fault(4, "Count", None, None)
@@ -88,23 +110,26 @@ def header_fault(header: Sequence[Word]) -> Optional[Fault]:
 
 def count_of(header: Sequence[Word]) -> int:
     """The number of points that a header tells; a 3 that stands first is the dimension."""
-    first, second = map(value_of, header)
+    first, second = [value_of(word.text) for word in header]
     return second if first == 3 else first
 
 
-def coordinates_of(words: Sequence[Word], wanted: int) -> Tuple[List[int], Optional[Fault]]:
+def coordinates_of(words: Words, wanted: int) -> Tuple[List[int], Optional[Fault]]:
     """The coordinates up to the first fault, and the fault or None."""
-    numbers: List[int] = []
-    for word in words[:wanted]:
-        if not NUMBER.fullmatch(word.text):
-            return numbers, Fault(2, "BadNumber", word.line, word)
-        numbers.append(value_of(word))
-        if abs(numbers[-1]) > COORDINATE_LIMIT:
-            return numbers[:-1], Fault(5, "Range", word.line, word)
+    given = words.texts[2 : 2 + wanted]
+    bad = next((place for place, text in enumerate(given) if not NUMBER.fullmatch(text)), None)
+    numbers = list(map(value_of, given[:bad]))
+    if numbers and not -COORDINATE_LIMIT <= min(numbers) <= max(numbers) <= COORDINATE_LIMIT:
+        far = next(place for place, number in enumerate(numbers) if abs(number) > COORDINATE_LIMIT)
+        word = words.at(2 + far)
+        return numbers[:far], Fault(5, "Range", word.line, word)
+    if bad is not None:
+        return numbers, bad_number([words.at(2 + bad)])
     if len(numbers) < wanted:
         return numbers, Fault(7, "Short", None, None)
-    if len(words) > wanted:
-        return numbers, Fault(6, "Long", words[wanted].line, words[wanted])
+    if len(words.texts) > 2 + wanted:
+        word = words.at(2 + wanted)
+        return numbers, Fault(6, "Long", word.line, word)
     return numbers, None
 
 
@@ -112,14 +137,14 @@ def read(data: bytes) -> Reading:
     """What the bytes of a point file have, up to their first fault."""
     if len(data) > BYTE_LIMIT:
         return Reading([], None, [], Fault(10, "Big", None, None), [], [])
-    words, comments = words_and_comments(data)
-    header = words[:2]
+    words = Words(data)
+    header = words.header()
     fault = header_fault(header)
     if fault:
-        return Reading(header, None, [], fault, words, comments)
+        return Reading(header, None, [], fault, words.lines, words.comments)
     count = count_of(header)
-    numbers, fault = coordinates_of(words[2:], 3 * count)
-    return Reading(header, count, numbers, fault, words, comments)
+    numbers, fault = coordinates_of(words, 3 * count)
+    return Reading(header, count, numbers, fault, words.lines, words.comments)
 
 
 def message(fault: Fault) -> str:
@@ -137,15 +162,15 @@ def plain_points(data: bytes) -> Optional[List[Point]]:
     """The points of a file that has nothing but right numbers after its first two lines; None for any other."""
     head, _, rest = data.partition(b"\n")
     second, _, rest = rest.partition(b"\n")
-    words, _ = words_and_comments(head + b"\n" + second)
-    if len(words) != 2 or header_fault(words) or b"_" in rest:
+    words = Words(head + b"\n" + second)
+    if len(words.texts) != 2 or header_fault(words.header()) or b"_" in rest:
         return None
     try:
         numbers = list(map(int, rest.split()))
     except ValueError:
         return None
     in_range = numbers and -COORDINATE_LIMIT <= min(numbers) and max(numbers) <= COORDINATE_LIMIT
-    return triples(numbers) if in_range and len(numbers) == 3 * count_of(words) else None
+    return triples(numbers) if in_range and len(numbers) == 3 * count_of(words.header()) else None
 
 
 def points_of_file(path: str) -> List[Point]:
