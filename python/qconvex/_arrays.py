@@ -43,7 +43,7 @@ def _exact_floats_of(given: NDArray[Any]) -> NDArray[np.float64]:
     if given.dtype.kind == "O":
         return _floats_of_objects(given)
     with np.errstate(over="ignore"):
-        floats = given.astype(np.float64)
+        floats = given.astype(np.float64, order="C")
     if given.dtype.itemsize >= 8 and given.dtype != np.float64 and not _is_exact(given, floats):
         raise TypeError(f"points are {given.dtype}, and some of them no float64 exactly")
     return floats
@@ -65,7 +65,7 @@ def _floats_of_objects(given: NDArray[np.object_]) -> NDArray[np.float64]:
         if not issubclass(kind, (Real, Decimal)) or issubclass(kind, bool):
             raise TypeError(f"points must be real numbers, and some are {kind.__name__}")
     try:
-        floats = given.astype(np.float64)
+        floats = given.astype(np.float64, order="C")
     except OverflowError:
         raise TypeError("points are beyond the range of float64") from None
     if kinds - {float, np.float64}:

@@ -11,7 +11,7 @@ import numpy as np
 from numpy.typing import NDArray
 
 from ._hull import WholePoints, whole_points
-from ._library import LIBRARY, error_of
+from ._library import LIBRARY, address_of, error_of
 from ._workers import count_of, shared
 
 Faces = Union[NDArray[np.integer[Any]], Iterable[Sequence[int]], Iterable[NDArray[np.integer[Any]]]]
@@ -157,12 +157,8 @@ def check(points: WholePoints, faces: Faces) -> Verdict:
     whole = whole_points(points)
     offsets, corners = _flat_faces(faces, len(whole))
     told = _Verdict()
-    # Pointers that are not null, also for no points and no corners.
-    source = whole if len(whole) else np.zeros((1, 3), np.int32)
-    held = corners if len(corners) else np.zeros(1, np.uint32)
-    code = LIBRARY.qconvex_check(
-        source.ctypes.data, len(whole), offsets.ctypes.data, len(offsets), held.ctypes.data, len(corners), ctypes.byref(told)
-    )
+    lists = [number for array in (whole, offsets, corners) for number in (address_of(array), len(array))]
+    code = LIBRARY.qconvex_check(*lists, ctypes.byref(told))
     if code != _DONE:
         raise error_of(code)
     return _verdict_of(told)

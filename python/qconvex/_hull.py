@@ -161,7 +161,8 @@ class ConvexHull(Surface):
 
     def to_stl(self) -> str:
         """Returns the triangles of the hull as an STL text, with unit normals that are rounded."""
-        return stl_text(self._coordinates()[self.simplices], self.equations[:, :3])
+        places = self._coordinates()[self.vertices]
+        return stl_text(places, np.searchsorted(self.vertices, self.simplices), self.equations[:, :3])
 
     def to_trimesh(self) -> Any:
         """Returns the triangles as a `trimesh.Trimesh`, whose vertices are those of the hull, in the order of `vertices`.
@@ -195,8 +196,7 @@ class ConvexHull(Surface):
         """Returns a picture that can be turned, for notebooks."""
         from ._view import frame, page
 
-        drawn = self._drawn()
-        return frame(page(self.vertices.tolist(), drawn.places.tolist(), self._numbered_faces(), repr(self)))
+        return frame(page(self.vertices.tolist(), self._drawn().places.tolist(), self._numbered_faces(), repr(self)))
 
     def _meshed(self) -> tuple[NDArray[np.float64], NDArray[np.intp]]:
         """Returns the vertices as float64, and the triangles with each corner as its position in `vertices`."""

@@ -14,7 +14,7 @@ from ._floats import FloatHull
 from ._grid import Snapped
 from ._grids import Grids, snapped_sets
 from ._hull import ConvexHull, WholePoints, whole_points
-from ._library import LIBRARY, FlatHull, error_of
+from ._library import LIBRARY, FlatHull, address_of, error_of
 from ._workers import count_of, shared
 
 _DONE = 0
@@ -260,9 +260,6 @@ def _part_of(
 
 
 def _call(points: NDArray[np.int32], starts: NDArray[np.intp], buffers: _Buffers) -> int:
-    """Calls the library and returns its code. No pointer is null, not even for an empty array."""
-    arguments: list[int] = []
-    nothing = np.zeros(8, np.intp)
-    for array in (points, starts, *buffers):
-        arguments += [(array if array.size else nothing).ctypes.data, len(array)]
+    """Calls the library and returns its code."""
+    arguments = [number for array in (points, starts, *buffers) for number in (address_of(array), len(array))]
     return int(LIBRARY.qconvex_hulls(*arguments))

@@ -4,7 +4,7 @@ from __future__ import annotations
 import ctypes
 import os
 from pathlib import Path
-from typing import NamedTuple
+from typing import Any, NamedTuple
 
 import numpy as np
 from numpy.typing import NDArray
@@ -81,38 +81,14 @@ VERSION = _version()
 """The version of the library that was loaded."""
 
 
-class _Buffers:
-    """Room for offsets, extreme points and corners, one after the other in one piece of memory."""
-
-    def __init__(self, extremes: int, offsets: int, corners: int) -> None:
-        self.rooms = extremes, offsets, corners
-        # Pages that stay unwritten take no memory.
-        self.words = np.zeros(offsets + (extremes + corners + 1) // 2, np.intp)
-
-    def addresses(self) -> tuple[int, int, int]:
-        """Returns the addresses of the extreme points, the offsets and the corners."""
-        extremes, offsets, _corners = self.rooms
-        start = self.words.ctypes.data
-        return start + 8 * offsets, start, start + 8 * offsets + 4 * extremes
-
-    def lists(
-        self, extremes: int, offsets: int, corners: int
-    ) -> tuple[NDArray[np.int32], NDArray[np.intp], NDArray[np.int32]]:
-        """Returns copies of the first entries of each buffer; the buffers are mostly longer than the answer."""
-        numbers = self.words[self.rooms[1] :].view(np.int32)
-        first = self.rooms[0]
-        return numbers[:extremes].copy(), self.words[:offsets].copy(), numbers[first : first + corners].copy()
+_NOTHING = np.zeros(8, np.intp)
+_first_letter: Any = ctypes.c_char.from_buffer
 
 
-def _call(points: NDArray[np.int32], sizes: _Sizes, room: tuple[int, int, int]) -> tuple[int, _Buffers]:
-    """Calls the library with room for extreme points, offsets and corners. Returns the code and the buffers."""
-    buffers = _Buffers(*room)
-    extremes, offsets, corners = buffers.addresses()
-    source = points if len(points) else np.zeros((1, 3), np.int32)  # a pointer that is not null, also for no points
-    code = LIBRARY.qconvex_hull(
-        source.ctypes.data, len(points), ctypes.byref(sizes), extremes, room[0], offsets, room[1], corners, room[2]
-    )
-    return code, buffers
+def address_of(array: NDArray[Any]) -> int:
+    """The address of a C-contiguous array's numbers, or of others if it has none, since no pointer is null."""
+    held = array if array.size else _NOTHING
+    return ctypes.addressof(_first_letter(held)) if held.flags.writeable else held.ctypes.data  # the first is faster
 
 
 def error_of(code: int) -> Exception:
@@ -127,7 +103,7 @@ def six_volumes(points: NDArray[np.int32], triangles: NDArray[np.int32]) -> int:
     """
     volume = _Wide()
     code = LIBRARY.qconvex_six_volumes(
-        points.ctypes.data, len(points), triangles.ctypes.data, triangles.size, ctypes.byref(volume)
+        address_of(points), len(points), address_of(triangles), triangles.size, ctypes.byref(volume)
     )
     if code == _ROOM:
         raise OverflowError("a sum of volumes has more than 128 bits")
@@ -156,11 +132,28 @@ def flat_hull(points: NDArray[np.int32]) -> FlatHull:
     Raises ValueError if the library refuses the points, and MemoryError if it is out of memory.
     """
     count, sizes = len(points), _Sizes()
-    # Enough by Euler's formula. If it is not, the sizes say how much is.
-    code, buffers = _call(points, sizes, (max(count, 1), 2 * min(count, POINT_LIMIT) + 2, 6 * min(count, POINT_LIMIT) + 4))
-    if code == _ROOM:
-        code, buffers = _call(points, sizes, (sizes.extremes, sizes.faces + 1, sizes.corners))
+    few = min(count, POINT_LIMIT)
+    extremes, offsets, corners = max(count, 1), 2 * few + 2, 6 * few + 4  # enough by Euler's formula
+    while True:
+        # Offsets, extreme points and corners, one after the other in one piece of memory, whose pages take none while they stay unwritten.
+        words = np.zeros(offsets + (extremes + corners + 1) // 2, np.intp)
+        start = address_of(words)
+        middle = start + 8 * offsets
+        code = LIBRARY.qconvex_hull(
+            address_of(points), count, ctypes.byref(sizes), middle, extremes, start, offsets, middle + 4 * extremes, corners
+        )
+        if code != _ROOM:
+            break
+        extremes, offsets, corners = sizes.extremes, sizes.faces + 1, sizes.corners
     if code != _DONE:
         raise error_of(code)
-    lists = buffers.lists(sizes.extremes, sizes.faces + 1, sizes.corners)
-    return FlatHull(sizes.dimension, sizes.distinct, sizes.edges, *lists)
+    numbers, ends = words[offsets:].view(np.int32), (sizes.extremes, sizes.corners)
+    # Copies, since the memory is mostly longer than the answer.
+    return FlatHull(
+        sizes.dimension,
+        sizes.distinct,
+        sizes.edges,
+        numbers[: ends[0]].copy(),
+        words[: sizes.faces + 1].copy(),
+        numbers[extremes : extremes + ends[1]].copy(),
+    )

@@ -7,7 +7,7 @@ import time
 import pytest
 
 from qconvex import ConvexHull, _limits
-from qconvex.commands import closed_surfaces, hullfacets, number_texts, off_arrays
+from qconvex.commands import closed_surfaces, hullfacets, hullview, number_texts, off_arrays
 from qconvex.commands.off_files import read_off
 from qconvex.commands.surface_forms import BLOCKS, blocks_in_form
 from test_commands import CUBE, CUBE_OFF, out, run
@@ -137,3 +137,33 @@ def test_many_facets_take_little_time(tmp_path):
     assert len(lines) > 7000 and min(seconds) < 2
     path.write_text(path.read_text() + "3 0 1 2\n")
     assert run("hullfacets", path).returncode == 1
+
+
+@pytest.mark.parametrize("seed", range(6))
+def test_the_page_is_that_of_the_loops(seed, monkeypatch):
+    data = (sphere_of(60) if seed == 5 else hull_of(seed)).to_off().encode()
+    page = hullview.shown_file(data, "a <b>")
+    assert hullview.arrays_of_text(data) and "<title>a &lt;b&gt;</title>" in page
+    monkeypatch.setattr(hullview, "arrays_of_text", lambda _: None)
+    assert hullview.shown_file(data, "a <b>") == page
+
+
+def test_texts_take_no_longer_than_some_hulls():
+    points = sphere_of(30000).points
+    seconds = {}
+    for _ in range(4):
+        start = time.process_time()
+        hull = ConvexHull(points)
+        times = {"hull": time.process_time() - start}
+        data = hull.to_off().encode()
+        works = {
+            "to_off": hull.to_off, "to_ply": hull.to_ply, "to_stl": hull.to_stl, "hullview": lambda: hullview.shown_file(data, ""),
+            "hullfacets": lambda: list(hullfacets.blocks_of(data, "text")),
+        }
+        for name, work in works.items():
+            start = time.process_time()
+            work()
+            times[name] = time.process_time() - start
+        seconds = {name: min(time, seconds.get(name, time)) for name, time in times.items()}
+    ratios = {name: time / seconds["hull"] for name, time in seconds.items()}
+    assert max(ratios.values()) < 5 and max(ratios[name] for name in ("to_off", "to_ply", "hullview")) < 2, ratios

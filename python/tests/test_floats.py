@@ -2,6 +2,7 @@
 from __future__ import annotations
 
 import math
+import timeit
 from decimal import Decimal
 from fractions import Fraction
 
@@ -182,3 +183,21 @@ def test_what_is_a_float64_is_taken():
         np.ma.masked_greater(np.zeros((2, 3)), 5), np.zeros((2, 3), np.float16),
     ):
         assert max(errors(points, snap(points))) <= Fraction(snap(points).error)
+
+
+def test_few_floats_take_much_less_time_than_scipys_hull():
+    scipy = pytest.importorskip("scipy.spatial")
+    floats = np.random.default_rng(4).normal(size=(16, 3))
+    makers = [ConvexHull.from_floats, scipy.ConvexHull]
+    rounds = [[min(timeit.repeat(lambda: maker(floats), number=50, repeat=3)) for maker in makers] for _ in range(20)]
+    ours, theirs = map(min, zip(*rounds))
+    assert ours < 0.5 * theirs, ours / theirs
+
+
+@pytest.mark.parametrize("kind", [np.float64, np.float32, np.longdouble, object])
+def test_floats_may_stand_in_any_order(kind):
+    floats = np.random.default_rng(6).normal(size=(50, 3)).astype(np.float32).astype(kind)
+    wide = np.zeros((100, 6), kind)
+    wide[::2, ::2] = floats
+    for given in (np.asfortranarray(floats), wide[::2, ::2]):
+        assert ConvexHull.from_floats(given).vertices.tolist() == ConvexHull.from_floats(floats.copy()).vertices.tolist()
