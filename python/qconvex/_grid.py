@@ -17,7 +17,7 @@ BITS_LIMIT = 30
 FINEST = -1074
 """All floats are whole multiples of 2 to this power."""
 
-_ROWS = 256
+_FEW, _ROWS = 64, 256
 _NORMAL = 1022
 
 # Whole numbers below this are floats, and so are their differences.
@@ -41,16 +41,19 @@ class Ends(NamedTuple):
 
 
 def ends_of(floats: NDArray[np.float64]) -> Ends:
-    """The ends of some floats."""
+    """The ends of some floats: of few, sorting is the fastest way."""
+    if len(floats) <= _FEW:
+        rising = np.sort(floats, 0)
+        return Ends(rising[0].tolist(), rising[-1].tolist())
     return Ends(_along_axes(np.minimum, floats), _along_axes(np.maximum, floats))
 
 
 def _along_axes(choice: np.ufunc, floats: NDArray[np.float64]) -> list[float]:
     """The least or the greatest float on each axis: numpy is fast in long rows."""
-    whole = len(floats) // _ROWS * _ROWS
-    if whole:
-        floats = np.concatenate([choice.reduce(floats[:whole].reshape(-1, 3 * _ROWS), axis=0).reshape(-1, 3), floats[whole:]])
-    ends: list[float] = choice.reduce(floats, axis=0).tolist()
+    if len(floats) >= _ROWS:
+        whole = len(floats) // _ROWS * _ROWS
+        floats = np.concatenate([choice.reduce(floats[:whole].reshape(-1, 3 * _ROWS)).reshape(-1, 3), floats[whole:]])
+    ends: list[float] = choice.reduce(floats).tolist()
     return ends
 
 
@@ -98,21 +101,23 @@ class Grid(NamedTuple):
 
     def rounded(self, floats: NDArray[np.float64]) -> Rounded:
         """The steps of some of the floats."""
-        if True in self.fixed:
-            floats = np.where(self.fixed, 0.0, floats)
-        steps = _scaled(floats, -self.exponent)
+        exponent, axes, fixed = self
+        if True in fixed:
+            floats = np.where(fixed, 0.0, floats)
+        # By a product, which is faster, where the power of two is a float of full precision.
+        steps = floats * ldexp(1.0, -exponent) if -_NORMAL <= exponent <= _NORMAL else np.ldexp(floats, -exponent)
         whole = np.rint(steps)
-        error = _error(floats, steps, whole, self.exponent)
-        firsts = [0 if fixed else low for (low, _, _), fixed in zip(self.axes, self.fixed)]
-        ways = [0 if fixed else (low + high) // 2 for (low, high, _), fixed in zip(self.axes, self.fixed)]
+        error = _error(floats, steps - whole, whole, exponent)
+        ways = [0 if one else (low + high) // 2 for (low, high, _), one in zip(axes, fixed)]
         if not -_WHOLE < min(ways) <= max(ways) < _WHOLE:  # no float has both the start of an axis and the half of its length
+            firsts = [0 if one else low for (low, _, _), one in zip(axes, fixed)]
             whole -= np.array(firsts, np.float64)
             ways = list(map(operator.sub, ways, firsts))
         whole -= np.array(ways, np.float64)
         points = whole.astype(np.int32)
         if error:
             return Rounded(points, error, 0)
-        least = np.array([low - (low + high) // 2 for low, high, _ in self.axes], np.int32)
+        least = np.array([low - (low + high) // 2 for low, high, _ in axes], np.int32)
         return Rounded(points, error, int(np.bitwise_or.reduce((points - least).ravel())))
 
     def snapped(self, found: Rounded, reading: float = 0.0) -> Snapped:
@@ -121,7 +126,8 @@ class Grid(NamedTuple):
         The error of reading them is added.
         """
         points, error, common = found
-        error = max([error, *[error for _, _, error in self.axes]])
+        if True in self.fixed:
+            error = max(error, *[error for _, _, error in self.axes])
         shift = 0 if error else self._shift(common)
         x, y, z = [((low >> shift) + (high >> shift)) // 2 for low, high, _ in self.axes]
         if shift:
@@ -149,24 +155,21 @@ def grid_of(ends: Ends, bits: int) -> Grid:
     lows, highs = ends
     if not all(map(isfinite, lows + highs)):
         raise ValueError("points must be finite")
-    exponent = FINEST
+    exponent, fixed = FINEST, list(map(operator.eq, lows, highs))
     if lows != highs:
         exponent = max(least_exponent(*frexp(max([high / 2 - low / 2 for low, high in zip(lows, highs)])), bits), FINEST)
     while True:
-        axes = [_axis_of(low, high, exponent) for low, high in zip(lows, highs)]
+        if True in fixed:
+            axes = [_axis_of(low, high, exponent) for low, high in zip(lows, highs)]
+        else:
+            axes = [(round(ldexp(low, -exponent)), round(ldexp(high, -exponent)), 0.0) for low, high in zip(lows, highs)]
         if max([high - low for low, high, _ in axes]) <= 2 << bits:
-            return Grid(exponent, axes, list(map(operator.eq, lows, highs)))
+            return Grid(exponent, axes, fixed)
         exponent += 1
 
 
-def _scaled(floats: NDArray[np.float64], power: int) -> NDArray[np.float64]:
-    """Floats times 2 to a power, exactly rounded: by a product, which is faster, where this power is a float of full precision."""
-    return floats * ldexp(1.0, power) if abs(power) <= _NORMAL else np.ldexp(floats, power)
-
-
-def _error(floats: NDArray[np.float64], steps: NDArray[np.float64], whole: NDArray[np.float64], exponent: int) -> float:
-    """The greatest distance between floats and whole steps. Each one is a float, so none is rounded."""
-    moved = steps - whole
+def _error(floats: NDArray[np.float64], moved: NDArray[np.float64], whole: NDArray[np.float64], exponent: int) -> float:
+    """The greatest distance between floats and whole steps, by how far the steps were moved. Each one is a float, so none is rounded."""
     if exponent > 0:  # a small float may have become 0, or have lost digits; it is as far from 0 as it was
         return float(np.abs(np.where(whole == 0, floats, np.ldexp(moved, exponent))).max())
     return ldexp(moved.item(np.abs(moved, out=moved).argmax()), exponent)

@@ -133,27 +133,36 @@ def flat_hull(points: NDArray[np.int32]) -> FlatHull:
     """
     count, sizes = len(points), _Sizes()
     few = min(count, POINT_LIMIT)
-    extremes, offsets, corners = max(count, 1), 2 * few + 2, 6 * few + 4  # enough by Euler's formula
-    while True:
-        # Offsets, extreme points and corners, one after the other in one piece of memory, whose pages take none while they stay unwritten.
-        words = np.zeros(offsets + (extremes + corners + 1) // 2, np.intp)
-        start = address_of(words)
-        middle = start + 8 * offsets
-        code = LIBRARY.qconvex_hull(
-            address_of(points), count, ctypes.byref(sizes), middle, extremes, start, offsets, middle + 4 * extremes, corners
-        )
-        if code != _ROOM:
-            break
-        extremes, offsets, corners = sizes.extremes, sizes.faces + 1, sizes.corners
+    room = max(count, 1), 2 * few + 2, 6 * few + 4  # enough by Euler's formula; if it is not, the sizes say how much is
+    code, lists = _call(points, sizes, room)
+    if code == _ROOM:
+        room = sizes.extremes, sizes.faces + 1, sizes.corners
+        code, lists = _call(points, sizes, room)
     if code != _DONE:
         raise error_of(code)
-    numbers, ends = words[offsets:].view(np.int32), (sizes.extremes, sizes.corners)
+    extremes, offsets, corners = sizes.extremes, sizes.faces + 1, sizes.corners
+    numbers, first = lists[room[1] :].view(np.int32), room[0]
     # Copies, since the memory is mostly longer than the answer.
     return FlatHull(
         sizes.dimension,
         sizes.distinct,
         sizes.edges,
-        numbers[: ends[0]].copy(),
-        words[: sizes.faces + 1].copy(),
-        numbers[extremes : extremes + ends[1]].copy(),
+        numbers[:extremes].copy(),
+        lists[:offsets].copy(),
+        numbers[first : first + corners].copy(),
     )
+
+
+def _call(points: NDArray[np.int32], sizes: _Sizes, room: tuple[int, int, int]) -> tuple[int, NDArray[np.intp]]:
+    """Calls the library with room for extreme points, offsets and corners. Returns the code, and the three lists in one piece of memory.
+
+    The offsets come first. Pages that stay unwritten take no memory.
+    """
+    extremes, offsets, corners = room
+    lists = np.zeros(offsets + (extremes + corners + 1) // 2, np.intp)
+    start = address_of(lists)
+    middle = start + 8 * offsets
+    code: int = LIBRARY.qconvex_hull(
+        address_of(points), len(points), ctypes.byref(sizes), middle, extremes, start, offsets, middle + 4 * extremes, corners
+    )
+    return code, lists
