@@ -50,8 +50,8 @@ impl Batch {
         &self.bytes[..self.count]
     }
 
-    /// Replaces the bytes by the next ones of the source, at least `room` of them if there are as many. From the source
-    /// `before` bytes were read earlier. Returns true if it ended.
+    /// Replaces the bytes by the next ones of the source: at least `room` bytes, or fewer if it ends. `before` bytes of the
+    /// source were read earlier. Returns true if it ended.
     pub fn fill<S: Source>(
         &mut self,
         source: &mut S,
