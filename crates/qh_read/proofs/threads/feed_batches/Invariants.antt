@@ -8,7 +8,8 @@ use Rattle.qh_read.proofs.threads.feed_batches.Given as goal
 -- the bytes read from the source are those fed to the reader, followed by the two batches
 abbrev pub invariant-loop-at_end : goal.invariant-loop-at_end
 invariant-loop-at_end g l = record {
-  so_far : FedBut l.fn.reader l.reader (batch_text l.batches.done ++ batch_text l.batches.raw) (g.S.Source.remaining l.fn.source) (g.S.Source.remaining l.source);
+  so_far : FedBut l.fn.reader l.reader (batch_text l.batches.done ++ batch_text l.batches.raw)
+      (g.S.Source.remaining l.fn.source) (g.S.Source.remaining l.source);
   done : IsParsed l.batches.done;
   raw : IsParsed l.batches.raw;
   fits : l.reader.count + length (batch_text l.batches.done) + length (batch_text l.batches.raw) ≤ BYTE_LIMIT;
