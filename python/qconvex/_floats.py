@@ -47,7 +47,7 @@ class FloatHull(ConvexHull):
     points: NDArray[np.float64]  # type: ignore[assignment]
 
     def __init__(self, points: Any, bits: int = BITS_LIMIT, *, workers: int = 1) -> None:
-        floats = floats_of(points)
+        floats = floats_of(points, finite=False)
         grid = snapped(floats, operator.index(bits))
         self._take_grid(floats, grid, hull_by_parts(grid.points, workers))
         floats.setflags(write=False)

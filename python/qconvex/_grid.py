@@ -19,6 +19,7 @@ FINEST = -1074
 
 _FEW, _ROWS = 64, 256
 _NORMAL = 1022
+_USUAL = 0.5**900
 
 # Whole numbers below this are floats, and so are their differences.
 _WHOLE = 1 << 52
@@ -63,16 +64,12 @@ def joined_ends(ends: Sequence[Ends]) -> Ends:
     return Ends(list(map(min, lows)), list(map(max, highs)))
 
 
-# The steps of the least and of the greatest float on an axis, and by how much the axis was rounded if it has one float.
-_Axis = Tuple[int, int, float]
-
-
-def _axis_of(low: float, high: float, exponent: int) -> _Axis:
-    """The ends of an axis in steps of 2 to an exponent, exactly rounded."""
-    if low < high:
-        return round(ldexp(low, -exponent)), round(ldexp(high, -exponent)), 0.0
-    whole = round(Fraction(low) / Fraction(2) ** exponent)
-    return whole, whole, float(abs(Fraction(low) - whole * Fraction(2) ** exponent))
+def _steps_of(numbers: list[float], exponent: int) -> list[int]:
+    """Floats in steps of 2 to an exponent, each rounded once."""
+    try:
+        return [round(ldexp(number, -exponent)) for number in numbers]
+    except OverflowError:  # where an axis has one float
+        return [round(Fraction(number) / Fraction(2) ** exponent) for number in numbers]
 
 
 def least_exponent(fraction: Any, power: Any, bits: int) -> Any:
@@ -96,28 +93,30 @@ class Grid(NamedTuple):
     """The finest grid with room for all floats that have some ends: so it is known before the floats are, which may come in parts."""
 
     exponent: int  # its step is 2 to this power
-    axes: list[_Axis]
+    lows: list[int]  # the steps of the least float on each axis
+    highs: list[int]  # and of the greatest
     fixed: list[bool]  # which axes have one float: such an axis may be too far out for so small a step
+    error: float  # by how much these were rounded
 
     def rounded(self, floats: NDArray[np.float64]) -> Rounded:
         """The steps of some of the floats."""
-        exponent, axes, fixed = self
+        exponent, lows, highs, fixed, _ = self
+        ways = middles = [(low + high) // 2 for low, high in zip(lows, highs)]
         if True in fixed:
-            floats = np.where(fixed, 0.0, floats)
+            floats, ways = np.where(fixed, 0.0, floats), [0 if one else middle for one, middle in zip(fixed, middles)]
         # By a product, which is faster, where the power of two is a float of full precision.
         steps = floats * ldexp(1.0, -exponent) if -_NORMAL <= exponent <= _NORMAL else np.ldexp(floats, -exponent)
         whole = np.rint(steps)
         error = _error(floats, steps - whole, whole, exponent)
-        ways = [0 if one else (low + high) // 2 for (low, high, _), one in zip(axes, fixed)]
         if not -_WHOLE < min(ways) <= max(ways) < _WHOLE:  # no float has both the start of an axis and the half of its length
-            firsts = [0 if one else low for (low, _, _), one in zip(axes, fixed)]
+            firsts = [0 if one else low for one, low in zip(fixed, lows)]
             whole -= np.array(firsts, np.float64)
             ways = list(map(operator.sub, ways, firsts))
         whole -= np.array(ways, np.float64)
         points = whole.astype(np.int32)
         if error:
             return Rounded(points, error, 0)
-        least = np.array([low - (low + high) // 2 for low, high, _ in axes], np.int32)
+        least = np.array(list(map(operator.sub, lows, middles)), np.int32)
         return Rounded(points, error, int(np.bitwise_or.reduce((points - least).ravel())))
 
     def snapped(self, found: Rounded, reading: float = 0.0) -> Snapped:
@@ -126,18 +125,17 @@ class Grid(NamedTuple):
         The error of reading them is added.
         """
         points, error, common = found
-        if True in self.fixed:
-            error = max(error, *[error for _, _, error in self.axes])
+        error = max(error, self.error)
         shift = 0 if error else self._shift(common)
-        x, y, z = [((low >> shift) + (high >> shift)) // 2 for low, high, _ in self.axes]
+        x, y, z = [((low >> shift) + (high >> shift)) // 2 for low, high in zip(self.lows, self.highs)]
         if shift:
-            ways = [(low + high) // 2 - (middle << shift) for (low, high, _), middle in zip(self.axes, (x, y, z))]
+            ways = [(low + high) // 2 - (middle << shift) for low, high, middle in zip(self.lows, self.highs, (x, y, z))]
             points = ((points + np.array(ways, np.int64)) >> shift).astype(np.int32)
         return Snapped(points, ldexp(1.0, self.exponent + shift), (x, y, z), nextafter(error + reading, inf) if reading else error)
 
     def _shift(self, common: int) -> int:
         """By how many powers of two the step of an exact grid can be greater: up to 1 if that has room, else as far as it goes."""
-        for low, _, _ in self.axes:
+        for low in self.lows:
             common |= low
         most = (common & -common).bit_length() - 1
         if self.exponent > 0:
@@ -153,19 +151,21 @@ def grid_of(ends: Ends, bits: int) -> Grid:
     if not 1 <= bits <= BITS_LIMIT:
         raise ValueError(f"bits must be from 1 to {BITS_LIMIT}")
     lows, highs = ends
-    if not all(map(isfinite, lows + highs)):
+    if not isfinite(sum(lows + highs)) and not all(map(isfinite, lows + highs)):  # the sum is faster
         raise ValueError("points must be finite")
     exponent, fixed = FINEST, list(map(operator.eq, lows, highs))
     if lows != highs:
         exponent = max(least_exponent(*frexp(max([high / 2 - low / 2 for low, high in zip(lows, highs)])), bits), FINEST)
     while True:
-        if True in fixed:
-            axes = [_axis_of(low, high, exponent) for low, high in zip(lows, highs)]
-        else:
-            axes = [(round(ldexp(low, -exponent)), round(ldexp(high, -exponent)), 0.0) for low, high in zip(lows, highs)]
-        if max([high - low for low, high, _ in axes]) <= 2 << bits:
-            return Grid(exponent, axes, fixed)
+        starts, stops = _steps_of(lows, exponent), _steps_of(highs, exponent)
+        if max(map(operator.sub, stops, starts)) <= 2 << bits:
+            break
         exponent += 1
+    error = 0.0
+    if True in fixed:
+        step = Fraction(2) ** exponent
+        error = float(max(abs(Fraction(low) - start * step) for low, start, one in zip(lows, starts, fixed) if one))
+    return Grid(exponent, starts, stops, fixed, error)
 
 
 def _error(floats: NDArray[np.float64], moved: NDArray[np.float64], whole: NDArray[np.float64], exponent: int) -> float:
@@ -196,5 +196,29 @@ def snapped(floats: NDArray[np.float64], bits: int) -> Snapped:
     """The same of float64."""
     if not len(floats):
         raise ValueError("there is no point")
-    grid = grid_of(ends_of(floats), bits)
+    ends = ends_of(floats)
+    usual = _usual(floats, ends, bits)
+    if usual:
+        return usual
+    grid = grid_of(ends, bits)
     return grid.snapped(grid.rounded(floats))
+
+
+def _usual(floats: NDArray[np.float64], ends: Ends, bits: int) -> Snapped | None:
+    """The same in fewer steps, where all axes have an extent of usual size, the step is 1 at most, and there is an error; else None."""
+    halves = [high / 2 - low / 2 for low, high in zip(*ends)]
+    if not (1 <= bits <= BITS_LIMIT and _USUAL < min(halves) and sum(halves) < 1 / _USUAL):
+        return None
+    for exponent in range(least_exponent(*frexp(max(halves)), bits), 1):
+        factor = ldexp(1.0, -exponent)
+        lows, highs = [[round(end * factor) for end in part] for part in ends]
+        if max(map(operator.sub, highs, lows)) <= 2 << bits:
+            x, y, z = [(low + high) // 2 for low, high in zip(lows, highs)]
+            steps = floats * factor
+            whole = np.rint(steps)
+            error = _error(floats, steps - whole, whole, exponent)
+            if not error or not -_WHOLE < min(x, y, z) <= max(x, y, z) < _WHOLE:
+                break
+            whole -= np.array((x, y, z), np.float64)
+            return Snapped(whole.astype(np.int32), ldexp(1.0, exponent), (x, y, z), error)
+    return None

@@ -126,43 +126,52 @@ def neighbors(triangles: NDArray[np.int32]) -> NDArray[np.int32]:
     return found[: len(triangles)]
 
 
+class _Room:
+    """Memory for what a call writes: the sizes, and three lists in one piece, the offsets first. Pages that stay unwritten take none."""
+
+    def __init__(self, extremes: int, offsets: int, corners: int) -> None:
+        self.sizes = _Sizes()
+        self.offsets = np.zeros(offsets + (extremes + corners + 1) // 2, np.intp)
+        numbers = self.offsets[offsets:].view(np.int32)
+        self.extremes, self.corners = numbers[:extremes], numbers[extremes:]
+        start = address_of(self.offsets)
+        middle = start + 8 * offsets
+        self.places = ctypes.byref(self.sizes), middle, extremes, start, offsets, middle + 4 * extremes, corners
+
+
+_FEW = 64
+_rooms: list[_Room] = []  # for few points, which no call uses now
+
+
+def _room_for(count: int) -> _Room:
+    """Room for the hull of so many points: enough by Euler's formula; if it is not, the sizes say how much is."""
+    try:
+        if count <= _FEW:
+            return _rooms.pop()
+    except IndexError:
+        count = _FEW
+    few = min(count, POINT_LIMIT)
+    return _Room(count, 2 * few + 2, 6 * few + 4)
+
+
 def flat_hull(points: NDArray[np.int32]) -> FlatHull:
     """Returns the hull of a C-contiguous (n, 3) array of int32.
 
     Raises ValueError if the library refuses the points, and MemoryError if it is out of memory.
     """
-    count, sizes = len(points), _Sizes()
-    few = min(count, POINT_LIMIT)
-    room = max(count, 1), 2 * few + 2, 6 * few + 4  # enough by Euler's formula; if it is not, the sizes say how much is
-    code, lists = _call(points, sizes, room)
+    count = len(points)
+    room = _room_for(count)
+    code = LIBRARY.qconvex_hull(address_of(points), count, *room.places)
+    sizes = room.sizes
     if code == _ROOM:
-        room = sizes.extremes, sizes.faces + 1, sizes.corners
-        code, lists = _call(points, sizes, room)
+        room = _Room(sizes.extremes, sizes.faces + 1, sizes.corners)
+        sizes = room.sizes
+        code = LIBRARY.qconvex_hull(address_of(points), count, *room.places)
     if code != _DONE:
         raise error_of(code)
-    extremes, offsets, corners = sizes.extremes, sizes.faces + 1, sizes.corners
-    numbers, first = lists[room[1] :].view(np.int32), room[0]
     # Copies, since the memory is mostly longer than the answer.
-    return FlatHull(
-        sizes.dimension,
-        sizes.distinct,
-        sizes.edges,
-        numbers[:extremes].copy(),
-        lists[:offsets].copy(),
-        numbers[first : first + corners].copy(),
-    )
-
-
-def _call(points: NDArray[np.int32], sizes: _Sizes, room: tuple[int, int, int]) -> tuple[int, NDArray[np.intp]]:
-    """Calls the library with room for extreme points, offsets and corners. Returns the code, and the three lists in one piece of memory.
-
-    The offsets come first. Pages that stay unwritten take no memory.
-    """
-    extremes, offsets, corners = room
-    lists = np.zeros(offsets + (extremes + corners + 1) // 2, np.intp)
-    start = address_of(lists)
-    middle = start + 8 * offsets
-    code: int = LIBRARY.qconvex_hull(
-        address_of(points), len(points), ctypes.byref(sizes), middle, extremes, start, offsets, middle + 4 * extremes, corners
-    )
-    return code, lists
+    extremes, offsets = room.extremes[: sizes.extremes].copy(), room.offsets[: sizes.faces + 1].copy()
+    hull = FlatHull(sizes.dimension, sizes.distinct, sizes.edges, extremes, offsets, room.corners[: sizes.corners].copy())
+    if count <= _FEW:
+        _rooms.append(room)
+    return hull

@@ -97,15 +97,16 @@ def test_other_refusals():
 
 
 def test_room_is_asked_for_again_where_it_is_too_little(monkeypatch):
-    call, rooms = _library._call, []
+    monkeypatch.setattr(_library, "_rooms", [_library._Room(1, 1, 1)])
+    for _ in range(2):
+        assert [face.tolist() for face in ConvexHull(CUBE).faces] == CUBE_FACES
+        assert [len(part) for part in (_library._rooms[0].extremes, _library._rooms[0].offsets, _library._rooms[0].corners)] == [8, 23, 24]
 
-    def with_less(points, sizes, room):
-        rooms.append(room)
-        return call(points, sizes, (1, 1, 1) if len(rooms) == 1 else room)
 
-    monkeypatch.setattr(_library, "_call", with_less)
-    assert [face.tolist() for face in ConvexHull(CUBE).faces] == CUBE_FACES
-    assert rooms[1] == (8, 7, 24)
+def test_hulls_of_few_points_share_no_memory():
+    hulls = [ConvexHull(np.array(CUBE) * scale) for scale in (1, 0, 2)]
+    assert [len(hull.corners) for hull in hulls] == [24, 1, 24]
+    assert [face.tolist() for face in hulls[0].faces] == CUBE_FACES and not np.shares_memory(hulls[0].corners, hulls[2].corners)
 
 
 def test_triangles_and_normals_are_those_of_the_library():

@@ -6,12 +6,6 @@ Some records at a time become rows of columns of letters, each as wide as the lo
 from __future__ import annotations
 
 from functools import lru_cache
-from functools import lru_cache
-from functools import lru_cache
-from functools import lru_cache
-from functools import lru_cache
-from functools import lru_cache
-from functools import lru_cache
 from typing import Any, Iterator, List, NamedTuple, Sequence, Tuple, Union
 
 try:
