@@ -161,8 +161,7 @@ class ConvexHull(Surface):
 
     def to_stl(self) -> str:
         """Returns the triangles of the hull as an STL text, with unit normals that are rounded."""
-        places = self._coordinates()[self.vertices]
-        return stl_text(places, np.searchsorted(self.vertices, self.simplices), self.equations[:, :3])
+        return stl_text(self._coordinates()[self.vertices], self._numbered(self.simplices), self.equations[:, :3])
 
     def to_trimesh(self) -> Any:
         """Returns the triangles as a `trimesh.Trimesh`, whose vertices are those of the hull, in the order of `vertices`.
@@ -200,14 +199,17 @@ class ConvexHull(Surface):
 
     def _meshed(self) -> tuple[NDArray[np.float64], NDArray[np.intp]]:
         """Returns the vertices as float64, and the triangles with each corner as its position in `vertices`."""
-        triangles: NDArray[np.intp] = np.searchsorted(self.vertices, self.simplices)
-        return self._coordinates()[self.vertices].astype(np.float64), triangles
+        return self._coordinates()[self.vertices].astype(np.float64), self._numbered(self.simplices)
 
     def _drawn(self) -> Drawn:
         """Returns the vertices, and the faces with each corner as its position in `vertices`."""
+        return Drawn(self._coordinates()[self.vertices], self._numbered(self.corners), self.offsets)
+
+    def _numbered(self, corners: NDArray[np.int32]) -> NDArray[np.intp]:
+        """Returns the position in `vertices` of each corner."""
         numbers = np.zeros(len(self.points), np.intp)
         numbers[self.vertices] = np.arange(len(self.vertices))
-        return Drawn(self._coordinates()[self.vertices], numbers[self.corners], self.offsets)
+        return numbers[corners]
 
     def _numbered_faces(self) -> list[list[int]]:
         """Returns the faces, with each corner as its position in `vertices`."""

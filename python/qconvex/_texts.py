@@ -58,7 +58,7 @@ def ply_text(drawn: Drawn) -> str:
 
 def stl_text(places: NDArray[Any], triangles: NDArray[np.intp], normals: NDArray[np.float64]) -> str:
     """STL, as text: the normal and the corners of each triangle, which are numbers of places. Each place is written once."""
-    one, two, three = np.array(_rows("vertex %r %r %r\n\f", places).split("\f"), object)[triangles.T]
+    corners = np.array(_rows("vertex %r %r %r\n\f", places).split("\f"), object)[triangles.T].tolist()
     heads = _rows("facet normal %r %r %r\nouter loop\n\f", normals).split("\f")
-    parts = chain.from_iterable(zip(heads, one + two, three, repeat("endloop\nendfacet\n")))
+    parts = chain.from_iterable(zip(heads, *corners, repeat("endloop\nendfacet\n")))
     return f"solid hull\n{''.join(parts)}endsolid hull\n"
