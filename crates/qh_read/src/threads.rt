@@ -19,8 +19,8 @@ use std::alloc::Global;
 use std::mem;
 use std::thread::Threads;
 
-/// The number of bytes that are read serially before the first batch. A file of at most this length starts no thread.
-const START_LENGTH: u32 = 262_144;
+/// The number of bytes that are read serially before the first batch.
+const START_LENGTH: u32 = 131_072;
 
 /// The number of bytes of a batch: large enough to pay for starting threads, small enough that its memory is reused.
 const BATCH_LENGTH: usize = 1_048_576;
@@ -29,7 +29,7 @@ const BATCH_LENGTH: usize = 1_048_576;
 const SEGMENTS: usize = 8;
 
 /// A shorter last batch is parsed by the calling thread, which takes less time than starting other threads.
-const SHARED_FROM: usize = 196_608;
+const SHARED_FROM: usize = 393_216;
 
 /// How a file is cut for several threads.
 #[derive(Clone, Copy, Debug)]
@@ -212,7 +212,7 @@ pub fn read_form_sizes<R: Threads + Sync, S: Source>(
 /// Returns the points of the file of this form in a source, with the results of [`read_form_from`]. It uses at most
 /// this number of threads, including the calling thread.
 ///
-/// A file of at most 262,144 bytes is read by the calling thread alone, and so is any file if `threads` is 0 or 1. The
+/// A file of less than 524,288 bytes is read by the calling thread alone, and so is any file if `threads` is 0 or 1. The
 /// result does not depend on the number of threads, nor on which of them can be started. Out of memory for the points
 /// of a segment only costs time.
 pub fn read_form_threads<R: Threads + Sync, S: Source>(

@@ -5,9 +5,7 @@ ghost use Rattle.qh_model.specs.{contract.IdSets.AreIndices, headline.Extreme.Ex
 ghost use Rattle.qh_model.specs.headline.Sets.{In, Members};
 ghost use Rattle.qh_block.specs.steps.InnerPoints.{IsOuterPart};
 
-use crate::interior::rules::{
-    BOX_FROM, BOX_SAMPLE, Round, SECOND_ROUND, filter_pays, round_of_all,
-};
+use crate::interior::rules::{BOX_FROM, PROBES, Round, SECOND_ROUND, filter_pays, round_of_all};
 use crate::interior::sample::{inner_columns, one_of};
 use crate::regions::{Alone, CornerBox, IdSet, InThreads, Region, Sieve, ids_outside};
 use qh_model::{Id, Memory, Point};
@@ -15,12 +13,13 @@ use qh_pred::point_at;
 use std::alloc::Global;
 use std::thread::Threads;
 
-/// Returns true if at least half of a sample of a set, each `step`-th id, lies in a region, so that it pays to test all
-/// ids.
-fn has_most<R: Region>(region: &R, set: IdSet, step: usize) -> bool {
+/// Returns true if at least half of about [`PROBES`] ids, spread over a set, lie in a region, so that it pays to test
+/// all ids.
+fn has_most<R: Region>(region: &R, set: IdSet) -> bool {
+    let step = (set.ids.len() / PROBES).max(1);
     let mut held: usize = 0;
     let mut count: usize = 0;
-    for part in set.ids.chunks(step.max(1)) {
+    for part in set.ids.chunks(step) {
         count = count.saturating_add(1);
         if region.has(point_at(set.pts, part[0])) {
             held = held.saturating_add(1);
@@ -50,7 +49,7 @@ fn ids_after_round<S: Sieve>(
     let Some(columns) = inner_columns(sieve, alloc, sampled, round.side_bits)? else {
         return Ok(None);
     };
-    if !has_most(&columns, sampled, 1) {
+    if !has_most(&columns, sampled) {
         return Ok(None);
     }
     let outer = sieve.outside(alloc, set, &columns)?;
@@ -93,7 +92,7 @@ fn ids_outside_box(alloc: Global, set: IdSet) -> Result<Option<Vec<Id>>, Memory>
         return Ok(None);
     }
     let corner_box = CornerBox::of(set);
-    if !has_most(&corner_box, set, set.ids.len() / BOX_SAMPLE) {
+    if !has_most(&corner_box, set) {
         return Ok(None);
     }
     let outer = ids_outside(alloc, set, &corner_box)?;

@@ -67,8 +67,8 @@ pub fn round_of_all(count: usize) -> Round {
 /// The box of fewer points holds few of them.
 pub const BOX_FROM: usize = 256;
 
-/// The approximate size of the sample, spread over the set, that decides if most points are in the corner box.
-pub const BOX_SAMPLE: usize = 128;
+/// About this many ids, spread over a set, decide if most of its points are in a region.
+pub const PROBES: usize = 128;
 
 /// Returns true if the hull of the interior filter's sample has few enough facets.
 ///
