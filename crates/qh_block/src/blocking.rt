@@ -31,12 +31,46 @@ pub fn are_few(extremes: usize, among: usize) -> bool
     extremes <= among / 2
 }
 
-/// Returns true if a tree continues above a node: the node's blocks have too few ids to decide, or at most half of
-/// their ids are extreme.
-pub fn tree_pays(extremes: usize, among: usize) -> bool
-    ensures { IsTrue result ↔ ((among < TELLING) ⊎ (extremes ≤ among / 2)) }
-{
-    among < TELLING || are_few(extremes, among)
+/// How many of the ids of some blocks of a tree may be extreme for the tree to pay.
+///
+/// A node hulls the lists of both its children. If the share of extreme ids falls by a quarter with each level, all
+/// levels above the blocks hull at most twice as many ids as there are.
+#[derive(Clone, Copy, Debug)]
+pub struct Allowance {
+    /// The number of ids of the blocks.
+    pub among: usize,
+    /// The most extreme ids with which the tree pays.
+    pub most: usize,
+}
+
+impl Allowance {
+    /// Returns the allowance of a block of this many ids: half of them.
+    pub fn of_block(among: usize) -> Allowance
+        ensures among { result.among ≡ among }
+        ensures most { result.most ≡ among / 2 }
+    {
+        let most = among / 2;
+        Allowance { among, most }
+    }
+
+    /// Returns the allowance of the blocks of two nodes: half of the ids if there are too few to decide, otherwise three
+    /// quarters of both allowances.
+    pub fn and(self, other: Allowance) -> Allowance {
+        let among = self.among.saturating_add(other.among);
+        if among < TELLING {
+            return Allowance::of_block(among);
+        }
+        let most = self.most.saturating_add(other.most) / 4 * 3;
+        Allowance { among, most }
+    }
+
+    /// Returns true if the tree continues above these blocks: they have too few ids to decide, or few of their ids are
+    /// extreme.
+    pub fn admits(self, extremes: usize) -> bool
+        ensures { IsTrue result ↔ ((self.among < TELLING) ⊎ (extremes ≤ self.most)) }
+    {
+        self.among < TELLING || extremes <= self.most
+    }
 }
 
 /// Returns the size of the blocks of a list of points: the wanted size, or a greater one if there would be more than

@@ -26,7 +26,7 @@ pub mod regions;
 mod segment;
 mod solids;
 
-pub use blocking::{BLOCK_ALONE, TELLING, WHOLE_ALONE, are_few, block_size, tree_pays};
+pub use blocking::{Allowance, BLOCK_ALONE, TELLING, WHOLE_ALONE, are_few, block_size};
 pub use faces::{PartedFaces, parted_faces};
 pub use hulls::{extremes, extremes_unculled, few_are_extreme, hull};
 pub use interior::cull_interior;

@@ -8,7 +8,7 @@ ghost use Rattle.qh_model.specs.headline.Sets.{Members};
 
 use crate::reduction::{Claimed, GivesUp, Reduction};
 use crate::unions::union;
-use qh_block::{TELLING, extremes_unculled, tree_pays};
+use qh_block::{Allowance, TELLING, are_few, extremes_unculled};
 use qh_board::Spans;
 use qh_model::{Cut, Id, Point};
 use std::alloc::Global;
@@ -30,8 +30,8 @@ pub(crate) struct Blocks<'a> {
 pub struct Extremes {
     /// The extreme ids of the blocks' ids, rising.
     pub ids: Vec<Id>,
-    /// The number of ids in these blocks.
-    pub among: usize,
+    /// How many ids of these blocks may be extreme for the tree to pay.
+    pub allowance: Allowance,
     ghost some: { 0 < length ids.items },
 }
 
@@ -49,29 +49,34 @@ impl<'a> Blocks<'a> {
         if block.len() > TELLING {
             let (sample, _) = block.split_at(TELLING);
             let found = extremes_unculled(alloc, self.pts, sample)?;
-            if !tree_pays(found.len(), TELLING) {
+            if !are_few(found.len(), TELLING) {
                 return Err(GivesUp);
             }
         }
         Ok(())
     }
 
-    /// Returns the extreme ids of a part of the ids; the part contains every id that is extreme among `among` ids.
-    /// Gives up if the number of extreme ids shows that a tree does not pay.
-    fn extremes_among(&self, alloc: Global, part: &[Id], among: usize) -> Result<Extremes, GivesUp>
+    /// Returns the extreme ids of a part of the ids; the part contains every id that is extreme in the blocks with this
+    /// allowance. Gives up if more ids are extreme than it allows.
+    fn extremes_among(
+        &self,
+        alloc: Global,
+        part: &[Id],
+        allowance: Allowance,
+    ) -> Result<Extremes, GivesUp>
         requires some { 0 < length part.now }
         requires indices { AreIndices self.now.pts.now part.now }
         requires set { IsIdSet self.now.pts.now part.now }
         ensures { IfOk result (λ found. AreExtremes (place self.now.pts.now) (Members part.now) found.ids.items) }
     {
         let ids = extremes_unculled(alloc, self.pts, part)?;
-        if !tree_pays(ids.len(), among) {
+        if !allowance.admits(ids.len()) {
             return Err(GivesUp);
         }
-        Ok(Extremes { ids, among })
+        Ok(Extremes { ids, allowance })
     }
 
-    /// Returns the extreme ids of a block. Gives up if the number of extreme ids shows that a tree does not pay.
+    /// Returns the extreme ids of a block. Gives up if so many ids are extreme that a tree does not pay.
     fn reduced(&self, alloc: Global, block: u32) -> Result<Extremes, GivesUp>
         requires { block < block_count self.now.cut.now }
         ensures { IfOk result (λ found. RightValue self.now.pts.now self.now.ids.now self.now.cut.now
@@ -79,7 +84,7 @@ impl<'a> Blocks<'a> {
     {
         let (from, to) = self.cut.block(block);
         let ids = &self.ids[from as usize..to as usize];
-        self.extremes_among(alloc, ids, ids.len())
+        self.extremes_among(alloc, ids, Allowance::of_block(ids.len()))
     }
 }
 
@@ -106,6 +111,6 @@ impl<'a> Reduction for Blocks<'a> {
         odd: Extremes,
     ) -> Result<Extremes, GivesUp> {
         let both = union(alloc, &even.ids, &odd.ids)?;
-        self.extremes_among(alloc, &both, even.among.saturating_add(odd.among))
+        self.extremes_among(alloc, &both, even.allowance.and(odd.allowance))
     }
 }

@@ -97,7 +97,8 @@ pub(crate) fn run_pass<S: Reduction, G: Gate>(
 /// The board's blocks are those of the job's cut.
 ///
 /// The pass gives up if an allocation failed, and at a node whose blocks have at least `qh_block::TELLING` ids of which
-/// more than half are extreme. For its first block, it tests this with the first ids of the block.
+/// more are extreme than their [`Allowance`](qh_block::Allowance): half of a block, and less with each level. For its
+/// first block, it tests this with the first ids of the block.
 pub fn work<'a, G: Gate>(
     alloc: Global,
     board: &Board<Job<'a>>,
