@@ -2,12 +2,12 @@
 use Rattle.std.proofs.Common.{ℕ, List}
 use Rattle.std.specs.Prelude.{Option, Some, None, MatchOption}
 use Rattle.qh_model.specs.headline.{Vector.Vector, Predicates.place, Predicates.AreInLine, Sets.In}
-use Rattle.qh_check.specs.declared.{faces.Three.Three, fault.FaceFault.FaceFault}
+use Rattle.qh_check.specs.declared.{faces.FirstThree.FirstThree, fault.FaceFault.FaceFault}
 use Rattle.qh_check.specs.declared.fault.FaceFault.TheVariants.{NoPlane, Above, OtherFace}
 use Rattle.qh_check.proofs.Pieces.{one_beginning}
 use Rattle.qh_check.specs.steps.Faces.{BeginsWithThree, IsFaceAt, IsFaultAt, IsFaceOf, IsFaultOf}
 
-module _ (pts : List Vector) (ids : List ℕ) (q : List ℕ) (t : Three) (b : BeginsWithThree pts q t) where
+module _ (pts : List Vector) (ids : List ℕ) (q : List ℕ) (t : FirstThree) (b : BeginsWithThree pts q t) where
   fault : (f : FaceFault) → IsFaultAt pts ids t q f → IsFaultOf pts ids q f
   fault NoPlane h d = λ i j k own.
       one_beginning (λ x y z. In x ids → In y ids → In z ids → AreInLine (place pts x) (place pts y) (place pts z)) q t.i t.j t.k i j k (b.rest, b.is) own h

@@ -5,7 +5,7 @@
 ghost use Rattle.std.specs.Prelude.{IsTrue};
 ghost use Rattle.qh_check.specs.steps.HullFaces.{IsPieceOfFace, TurnsAlike};
 
-use crate::faces::Three;
+use crate::faces::FirstThree;
 use crate::rounds::{goes_round, is_met_round};
 use qh_model::{Point, Polygon};
 use qh_pred::{cross, left, point_at};
@@ -25,10 +25,10 @@ pub(crate) struct HullFaces<'a> {
 fn turns_alike(pts: &[Point], face: &Polygon, claimed: &Polygon) -> bool
     ensures { IsTrue result → TurnsAlike pts.now face.now claimed.now }
 {
-    let Some(plane) = Three::of(pts, face) else {
+    let Some(plane) = FirstThree::of(pts, face) else {
         return false;
     };
-    let Some(three) = Three::of(pts, claimed) else {
+    let Some(three) = FirstThree::of(pts, claimed) else {
         return false;
     };
     let normal = cross(

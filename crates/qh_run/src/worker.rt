@@ -8,13 +8,13 @@ ghost use Rattle.qh_run.specs.steps.Turns.{IsAnswerOf, IsTurnOf, IsWorked, answe
 use crate::gate::Gate;
 use crate::job::Job;
 use crate::reduction::{Claimed, Reduction};
-use crate::turn::Turn;
+use crate::turn::TurnEnd;
 use qh_board::{Board, Claim, Delivered, Left, Pass, Task};
 use std::alloc::Global;
 
 /// Climbs the tree after a delivery: at each node where the pass arrived second, it combines the values of both
 /// children and delivers the parent's value.
-fn climb<S: Reduction>(alloc: Global, board: &Board<S>, answer: Delivered<S>) -> Turn<S>
+fn climb<S: Reduction>(alloc: Global, board: &Board<S>, answer: Delivered<S>) -> TurnEnd<S>
     requires answer { IsAnswerOf S.right board.now answer }
     requires blocks { board.now.setup.blocks ≡ S.count board.now.setup.spans }
     ensures { IsTurnOf board.now (answered answer) result }
@@ -22,12 +22,12 @@ fn climb<S: Reduction>(alloc: Global, board: &Board<S>, answer: Delivered<S>) ->
     let mut answer = answer;
     'up: loop {
         match answer {
-            Delivered::Parked(pass) => return Turn::Ended(pass),
-            Delivered::Root(pass) => return Turn::Ended(pass),
+            Delivered::Parked(pass) => return TurnEnd::Ended(pass),
+            Delivered::Root(pass) => return TurnEnd::Ended(pass),
             Delivered::Both(task, even, odd) => {
                 match board.spans().combine(alloc, task.node(), even, odd) {
                     Ok(value) => answer = board.deliver(task, value),
-                    Err(_) => return Turn::GaveUp(board.give_up(task)),
+                    Err(_) => return TurnEnd::GaveUp(board.give_up(task)),
                 }
             }
         }
@@ -41,7 +41,7 @@ fn take_turn<S: Reduction, G: Gate>(
     task: Task<S>,
     claimed: Claimed,
     gate: &G,
-) -> Turn<S>
+) -> TurnEnd<S>
     requires board { IsOf board.now task }
     requires blocks { board.now.setup.blocks ≡ S.count board.now.setup.spans }
     requires leaf { (j : ℕ) × (j < board.now.setup.blocks) × (task_node task ≡ board.now.setup.blocks + j) }
@@ -56,7 +56,7 @@ fn take_turn<S: Reduction, G: Gate>(
             gate.delivered(pass, block);
             climb(alloc, board, answer)
         }
-        Err(_) => Turn::GaveUp(board.give_up(task)),
+        Err(_) => TurnEnd::GaveUp(board.give_up(task)),
     }
 }
 
@@ -82,8 +82,8 @@ pub(crate) fn run_pass<S: Reduction, G: Gate>(
         match board.claim(pass) {
             Claim::Over(over) => return board.leave(over),
             Claim::Block(task) => match take_turn(alloc, board, task, claimed, gate) {
-                Turn::Ended(next) => pass = next,
-                Turn::GaveUp(left) => return left,
+                TurnEnd::Ended(next) => pass = next,
+                TurnEnd::GaveUp(left) => return left,
             },
         }
         claimed = Claimed::Later;

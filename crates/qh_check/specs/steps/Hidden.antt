@@ -1,7 +1,7 @@
 -- Points under a surface.
 use Rattle.std.specs.Prelude.{ℕ, pos, ◌%◌, ◌<◌, ◌≤ℤ◌, List, length, slice_index}
 use Rattle.qh_model.specs.{contract.ClosedSurface.Triple, headline.Vector.Vector, headline.Predicates.vol}
-use Rattle.qh_check.specs.{declared.convex.steps.Step.Step, declared.convex.steps.TheConstants.ROOM, steps.StepKeys.step_in}
+use Rattle.qh_check.specs.{declared.convex.steps.TriangleStep.TriangleStep, declared.convex.steps.TheConstants.ROOM, steps.StepKeys.step_in}
 
 -- the id of a key along the curve
 abbrev pub id_in : ℕ → ℕ
@@ -19,7 +19,7 @@ abbrev pub IsUnderOne : (ℕ → Vector) → List ℕ → Vector → Vector → 
 IsUnderOne at up z p = (k : ℕ) × (k < length up) × IsUnderStep at z (step_in (slice_index up k)) p
 
 -- the three ids of a step are below a number
-pub record IsStepBelow (count : ℕ) (s : Step) : Type 0 where
+pub record IsStepBelow (count : ℕ) (s : TriangleStep) : Type 0 where
   pub from : s.from < count
   pub to : s.to < count
   pub third : s.third < count

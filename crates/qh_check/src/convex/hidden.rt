@@ -11,7 +11,7 @@ ghost use Rattle.qh_check.specs.steps.{StepKeys.step_in, Triangles.IsBelow};
 
 use crate::convex::curve::{id_of, keys_along};
 use crate::convex::pairs::is_below;
-use crate::convex::steps::{Step, step_key};
+use crate::convex::steps::{TriangleStep, step_key};
 use qh_model::{Id, Point};
 use qh_pred::{Plane, point_at};
 use std::alloc::{AllocError, Global};
@@ -33,20 +33,20 @@ pub struct Surroundings<'a> {
 }
 
 /// Returns a step round the same triangle, to a higher id.
-fn rising(step: &Step) -> Step
+fn rising(step: &TriangleStep) -> TriangleStep
     ensures { (n : ℕ) → IsStepBelow n step.now → IsStepBelow n result }
 {
-    let Step { from, to, third } = *step;
+    let TriangleStep { from, to, third } = *step;
     if from < to {
-        Step { from, to, third }
+        TriangleStep { from, to, third }
     } else if to < third {
-        Step {
+        TriangleStep {
             from: to,
             to: third,
             third: from,
         }
     } else {
-        Step {
+        TriangleStep {
             from: third,
             to: from,
             third: to,
@@ -57,7 +57,7 @@ fn rising(step: &Step) -> Step
 impl Surroundings<'_> {
     /// Returns the step from `u` to `v` round a triangle. If the steps along the edges do not pair off, the third
     /// corner may be any id.
-    fn step(&self, u: Id, v: Id) -> Option<Step>
+    fn step(&self, u: Id, v: Id) -> Option<TriangleStep>
         requires from { u < length self.now.pts.now }
         requires to { v < length self.now.pts.now }
         ensures { IfSome result (IsStepBelow (length self.now.pts.now)) }
@@ -65,8 +65,8 @@ impl Surroundings<'_> {
         let keys = if u < v { self.up } else { self.down };
         let (low, high) = if u < v { (u, v) } else { (v, u) };
         let (Ok(position) | Err(position)) = keys.binary_search(&step_key(low, high, Id::new(0)));
-        let third = Step::of(*keys.get(position)?).third;
-        Some(Step {
+        let third = TriangleStep::of(*keys.get(position)?).third;
+        Some(TriangleStep {
             from: u,
             to: v,
             third,
@@ -82,7 +82,7 @@ impl Surroundings<'_> {
     }
 
     /// Returns the step back along a side of a triangle that has a point past it, if there is one.
-    fn next(&self, step: &Step, p: Point) -> Option<Step>
+    fn next(&self, step: &TriangleStep, p: Point) -> Option<TriangleStep>
         requires { IsStepBelow (length self.now.pts.now) step.now }
         ensures { IfSome result (IsStepBelow (length self.now.pts.now)) }
     {
@@ -100,7 +100,7 @@ impl Surroundings<'_> {
 
     /// Returns a step round the triangle at which a walk to a point ends. The walk visits at most `budget` triangles,
     /// and subtracts their number from the budget.
-    fn walk(&self, start: Step, p: Point, budget: &mut usize) -> Step
+    fn walk(&self, start: TriangleStep, p: Point, budget: &mut usize) -> TriangleStep
         requires { IsStepBelow (length self.now.pts.now) start }
         ensures { IsStepBelow (length self.now.pts.now) result }
     {
@@ -120,7 +120,7 @@ impl Surroundings<'_> {
         requires { IsBelow (length self.now.pts.now) (step_in key) }
         ensures { IsTrue result → IsUnderStep (place self.now.pts.now) self.now.middle (step_in key) p }
     {
-        let step = Step::of(key);
+        let step = TriangleStep::of(key);
         let a = point_at(self.pts, step.from);
         let b = point_at(self.pts, step.to);
         let c = point_at(self.pts, step.third);
@@ -137,7 +137,7 @@ impl Surroundings<'_> {
     }
 
     /// Returns true if a point lies under the triangle of a step, and the surface has the triangle.
-    fn is_under_step(&self, step: &Step, p: Point) -> bool
+    fn is_under_step(&self, step: &TriangleStep, p: Point) -> bool
         requires { IsStepBelow (length self.now.pts.now) step.now }
         ensures { IsTrue result → IsUnderOne (place self.now.pts.now) self.now.up.now self.now.middle p }
     {
@@ -157,7 +157,7 @@ impl Surroundings<'_> {
         let Some(first) = self.up.first() else {
             return false;
         };
-        let mut step = Step::of(*first);
+        let mut step = TriangleStep::of(*first);
         let mut budget = self.up.len().saturating_mul(WALKED_FOR_EACH);
         for key in keys {
             let p = point_at(self.pts, id_of(*key));

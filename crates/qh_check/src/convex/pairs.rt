@@ -4,7 +4,7 @@ ghost use Rattle.qh_model.specs.headline.Predicates.{place, vol};
 ghost use Rattle.qh_check.specs.steps.StepKeys.{step_in, AreSharpPairs, EdgesRise, IsSharpPair};
 ghost use Rattle.qh_check.specs.steps.Triangles.{IsBelow};
 
-use crate::convex::steps::{ROOM, Step};
+use crate::convex::steps::{ROOM, TriangleStep};
 use qh_model::Point;
 use qh_pred::{Plane, point_at};
 
@@ -25,7 +25,7 @@ fn is_sharp_pair(pts: &[Point], up: u64, down: u64) -> bool
     if up / ROOM != down / ROOM {
         return false;
     }
-    let (step, past) = (Step::of(up), Step::of(down));
+    let (step, past) = (TriangleStep::of(up), TriangleStep::of(down));
     is_below(
         point_at(pts, step.from),
         point_at(pts, step.to),

@@ -21,20 +21,20 @@ pub struct Steps {
 
 /// A step from a corner of a triangle to the next, and the third corner.
 #[derive(Clone, Copy, Drop)]
-pub struct Step {
+pub struct TriangleStep {
     pub from: Id,
     pub to: Id,
     pub third: Id,
 }
 
-impl Step {
+impl TriangleStep {
     /// Returns the step of a key.
-    pub fn of(key: u64) -> Step
+    pub fn of(key: u64) -> TriangleStep
         ensures from { result.from ≡ (step_in key).i }
         ensures to { result.to ≡ (step_in key).j }
         ensures third { result.third ≡ (step_in key).k }
     {
-        Step {
+        TriangleStep {
             from: Id::new((key / ROOM / ROOM) as u32),
             to: Id::new((key / ROOM % ROOM) as u32),
             third: Id::new((key % ROOM) as u32),

@@ -5,7 +5,7 @@ use Rattle.qh_board.specs.declared.view.Mark.TheVariants as marks
 use Rattle.qh_board.specs.contract.Tokens.{BoardValue, Token, IsOf, IsRightAt, task_node}
 use Rattle.qh_board.specs.declared.calls.Delivered.{Delivered, TheVariants.Parked, TheVariants.Both, TheVariants.Root}
 use Rattle.qh_board.specs.declared.view.Record.{Record}
-use Rattle.qh_run.specs.declared.turn.Turn.{Turn, TheVariants.Ended, TheVariants.GaveUp}
+use Rattle.qh_run.specs.declared.turn.TurnEnd.{TurnEnd, TheVariants.Ended, TheVariants.GaveUp}
 
 -- the record belongs to the same pass, which has claimed nothing since
 pub record SinceClaim (r r' : Record) : Type 0 where
@@ -34,7 +34,7 @@ module _ {S X : Type 0} where
       × IsRightAt right b (2 * task_node t) x × IsRightAt right b (2 * task_node t + 1) y
 
   -- the pass may claim again, or it gave up
-  abbrev pub IsTurnOf : BoardValue S → Record → Turn S X → Type 0
+  abbrev pub IsTurnOf : BoardValue S → Record → TurnEnd S X → Type 0
   IsTurnOf b r (Ended p) = IsOf b p × SinceClaim r p.pass
   IsTurnOf b r (GaveUp l) = IsOf b l × (l.pass.number ≡ r.number) × (l.pass.mark ≡ Some marks.GaveUp)
 
