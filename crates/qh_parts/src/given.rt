@@ -26,7 +26,7 @@ pub(crate) struct Contribution {
 
 /// The contributions of all parts.
 #[derive(Drop)]
-pub(crate) struct Given {
+pub(crate) struct Contributions {
     pub faces: UnsortedFaces,
     pub gone: Vec<Polygon>,
     pub borders: Vec<Border>,
@@ -88,7 +88,7 @@ fn all_given(
     alloc: Global,
     set: Divided,
     mut made: Vec<Result<Option<Contribution>, Memory>>,
-) -> Result<Option<Given>, Memory>
+) -> Result<Option<Contributions>, Memory>
     requires { All (λ r. IfOk r (λ found. IfSome found (IsContribution set.pts.now set.shared.now set.parts.now))) made.items }
     ensures { IfOk result (λ found. IfSome found (IsGiven set.entry.pts.now set.entry.shared.now set.entry.parts.now)) }
 {
@@ -106,7 +106,7 @@ fn all_given(
         gone.append(&mut part.gone)?;
         borders.push(part.border)?;
     }
-    Ok(Some(Given {
+    Ok(Some(Contributions {
         faces,
         gone,
         borders,
@@ -120,7 +120,7 @@ pub(crate) fn given_in_threads<R: Threads>(
     alloc: Global,
     set: Divided,
     outlines: &[Outline],
-) -> Result<Option<Given>, Memory>
+) -> Result<Option<Contributions>, Memory>
     requires { All (IsPartOf set.pts.now set.shared.now) set.parts.now }
     ensures { IfOk result (λ found. IfSome found (IsGiven set.entry.pts.now set.entry.shared.now set.entry.parts.now)) }
 {

@@ -3,7 +3,7 @@ ghost use Rattle.std.specs.{Prelude.IfOk, Prelude.IfSome, Prelude.IsPermutation,
 ghost use Rattle.qh_parts_join.specs.contract.Parts.{IsPartOf};
 ghost use Rattle.qh_parts.specs.steps.{Given.AreGivenOf, Kept.HaveKept};
 
-use crate::given::{Given, given_in_threads};
+use crate::given::{Contributions, given_in_threads};
 use qh_block::hull;
 use qh_bodies::UnsortedFaces;
 use qh_model::{Id, Memory, Point, Polygon};
@@ -76,7 +76,7 @@ pub(crate) fn joint_of<R: Threads>(
     };
     // The outlines are no longer needed, and the list of faces needs their memory.
     drop(outlines);
-    let Given {
+    let Contributions {
         faces,
         gone,
         borders,

@@ -4,7 +4,7 @@ use Rattle.std.specs.{Prelude.ℕ, Prelude.List, List.flat_map}
 use Rattle.qh_model.specs.{contract.IdSets.HasDistinctPoints, headline.Vector.Vector, headline.Predicates.place, headline.Sets.In, headline.Sets.Members}
 use Rattle.qh_laws.specs.contract.Parts.{IsPartFace}
 use Rattle.qh_parts_join.specs.{contract.Parts.ids_in, contract.Parts.KeepsCorners, declared.parts.Part.Part}
-use Rattle.qh_parts.specs.{contract.Staying.CloseUp, declared.given.Contribution.Contribution, declared.given.Given.Given}
+use Rattle.qh_parts.specs.{contract.Staying.CloseUp, declared.given.Contribution.Contribution, declared.given.Contributions.Contributions}
 
 -- each polygon is that of a facet that stays in a part, for every set that has the ids of all parts
 abbrev pub AreGiven : List Vector → List ℕ → List Part → List (List ℕ) → Type 0
@@ -21,5 +21,5 @@ abbrev pub IsContribution : List Vector → List ℕ → List Part → Contribut
 IsContribution pts shared parts c = AreGivenOf pts shared parts c.faces c.gone.items
 
 -- the same for the contributions of all parts
-abbrev pub IsGiven : List Vector → List ℕ → List Part → Given → Type 0
+abbrev pub IsGiven : List Vector → List ℕ → List Part → Contributions → Type 0
 IsGiven pts shared parts g = AreGivenOf pts shared parts g.faces g.gone.items

@@ -4,7 +4,7 @@ ghost use Rattle.qh_model.specs.{contract.StoredSurface.facet_at, headline.Predi
 ghost use Rattle.qh_mesh.specs.contract.Replacement.{IsLive};
 ghost use Rattle.qh_surface.specs.contract.NamedMeshes.{named, IsNamedMesh};
 
-use crate::seam::triangles::Triangle;
+use crate::seam::triangles::PointTriangle;
 use qh_mesh::FacetNo;
 use qh_model::Point;
 use qh_pred::point_at;
@@ -22,14 +22,14 @@ pub(crate) struct Marked<'a> {
 
 impl Marked<'_> {
     /// Returns the corners of a live facet.
-    pub fn triangle(self, f: FacetNo) -> Triangle
+    pub fn triangle(self, f: FacetNo) -> PointTriangle
         requires { IsLive self.surface.now.mesh f }
         ensures a { result.a ≡ place self.entry.pts.now (facet_at (named self.entry.surface.now) f).i }
         ensures b { result.b ≡ place self.entry.pts.now (facet_at (named self.entry.surface.now) f).j }
         ensures c { result.c ≡ place self.entry.pts.now (facet_at (named self.entry.surface.now) f).k }
     {
         let [i, j, k] = self.surface.corners(f);
-        Triangle {
+        PointTriangle {
             a: point_at(self.pts, i),
             b: point_at(self.pts, j),
             c: point_at(self.pts, k),

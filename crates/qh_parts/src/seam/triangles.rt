@@ -9,7 +9,7 @@ use qh_pred::{Plane, point_at, vol};
 
 /// Three points, counterclockwise seen from the side above.
 #[derive(Clone, Copy, Drop)]
-pub(crate) struct Triangle {
+pub(crate) struct PointTriangle {
     pub a: Point,
     pub b: Point,
     pub c: Point,
@@ -80,7 +80,7 @@ impl Four {
     }
 }
 
-impl Triangle {
+impl PointTriangle {
     /// Returns its plane.
     pub fn plane(&self) -> Plane
         ensures { (p : Vector) → height result p ≡ vol self.now.a self.now.b self.now.c p }

@@ -7,7 +7,7 @@ ghost use Rattle.qh_pred.specs.contract.Planes.{height};
 ghost use Rattle.qh_parts.specs.steps.{Triangles.IsInCone, Witnesses.IsAnswered};
 
 use crate::seam::marked::Marked;
-use crate::seam::triangles::{Four, Triangle};
+use crate::seam::triangles::{Four, PointTriangle};
 use qh_mesh::FacetNo;
 use qh_model::Point;
 use qh_parts_join::Run;
@@ -16,7 +16,7 @@ use qh_pred::Plane;
 /// A facet as a witness: its triangle and plane, true if it stays, and four points of the part.
 #[derive(Clone, Copy, Drop)]
 struct Witness<'a> {
-    triangle: Triangle,
+    triangle: PointTriangle,
     plane: Plane,
     stays: bool,
     four: &'a Four,
