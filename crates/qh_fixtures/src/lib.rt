@@ -5,6 +5,7 @@
 #![tactic(auto)]
 
 pub mod faces;
+pub mod faults;
 pub mod files;
 pub mod ids;
 pub mod points;

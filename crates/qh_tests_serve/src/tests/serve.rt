@@ -13,7 +13,7 @@ mod rows;
 mod solids;
 
 use crate::tests::outcomes::{Asked, Call, Told};
-use qh_fixtures::Host;
+use qh_fixtures::{Host, faults as file_faults};
 use qh_run::NoGate;
 use std::test::Fail;
 
@@ -49,10 +49,12 @@ fn assert_rows(rt: &impl Host, rows: &[(Asked, &str, &str)]) -> Result<(), Fail>
     Ok(())
 }
 
-/// Asserts that each row with the same settings is refused with status 1; a row has an input and its fault line.
-fn assert_faults(rt: &impl Host, asked: Asked, rows: &[(&str, &str)]) -> Result<(), Fail> {
-    for (input, fault) in rows {
-        assert_gives(rt, asked, input.as_bytes(), ("", fault, 1))?;
+/// Asserts that each file of each row is refused with the row's line and status 1.
+fn assert_faults(rt: &impl Host, asked: Asked, rows: &[file_faults::Row]) -> Result<(), Fail> {
+    for (_, line, files) in rows {
+        for file in *files {
+            assert_gives(rt, asked, file.as_bytes(), ("", line, 1))?;
+        }
     }
     Ok(())
 }

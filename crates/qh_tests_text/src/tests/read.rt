@@ -1,5 +1,5 @@
 //! Rows: the result for each text, for each way to read it.
-ghost use Rattle.std.specs.Prelude.{◌<◌, ◌≤◌, length};
+ghost use Rattle.std.specs.Prelude.{◌-◌, ◌^◌, ◌<◌};
 
 mod numbers;
 mod off;
@@ -12,7 +12,11 @@ mod threads;
 
 use qh_fixtures::{Host, table};
 use qh_model::{Form, Point};
-use qh_read::{FeedFault, ReadFault, Reader};
+use qh_read::fakes::FailSource;
+use qh_read::{
+    FeedFault, MemSource, ReadFault, Reader, Sizes, Source, read_form_sizes, read_from, read_off,
+    read_off_from, read_points,
+};
 use std::alloc::{AllocError, Global};
 
 /// The coordinates of a point.
@@ -21,22 +25,8 @@ type Place = (i32, i32, i32);
 /// The points of the tetrahedron file.
 const TETRAHEDRON: [Place; 4] = [(0, 0, 0), (1, 0, 0), (0, 1, 0), (0, 0, 1)];
 
-/// The corners of the cube file.
-const CUBE_CORNERS: [Place; 8] = table![
-    (0, 0, 0); (0, 0, 1); (0, 1, 0); (0, 1, 1); (1, 0, 0); (1, 0, 1); (1, 1, 0); (1, 1, 1);
-];
-
-/// Returns true if the reading returned exactly these points, in this order.
-fn gave(outcome: &Result<Vec<Point>, ReadFault>, places: &[Place]) -> bool {
-    match outcome {
-        Ok(points) => {
-            points.len() == places.len()
-                && points.iter().zip(places).all(|(point, place)| (point.x(), point.y(), point.z())
-                    == *place)
-        }
-        Err(_) => false,
-    }
-}
+/// The expected result of a reading: exactly these points, in this order, or this fault.
+type Wanted<'a> = Result<&'a [Place], ReadFault>;
 
 /// A way to read a text.
 #[derive(Clone, Copy, Debug)]
@@ -45,34 +35,105 @@ enum Way {
     Whole,
     /// From a source.
     Source,
-    /// From a source whose read with this number fails.
+    /// From a source of single bytes, whose read with this number fails.
     FailingRead(u64),
     /// In pieces of this length.
     Pieces(usize),
     /// Cut in two after this number of bytes.
     Cut(usize),
+    /// By threads, in these sizes.
+    Threads(Sizes),
 }
 
-/// Asserts that a reading returned exactly these points, in this order. A failure names the text and the way.
-fn assert_points(
+/// Sizes of a few bytes.
+const SMALL: [Sizes; 6] = table![
+    Sizes { start: 0, batch: 1, segments: 2, threads: 2 };
+    Sizes { start: 0, batch: 16, segments: 1, threads: 3 };
+    Sizes { start: 16, batch: 64, segments: 1, threads: 2 };
+    Sizes { start: 0, batch: 151, segments: 2, threads: 4 };
+    Sizes { start: 7, batch: 230, segments: 3, threads: 1 };
+    Sizes { start: 0, batch: 4096, segments: 4, threads: 3 };
+];
+
+/// Returns true if a reading gave what is expected.
+fn gave(outcome: &Result<Vec<Point>, ReadFault>, want: Wanted) -> bool {
+    match (outcome, want) {
+        (Ok(points), Ok(places)) => {
+            points.len() == places.len()
+                && points.iter().zip(places).all(|(point, place)| (point.x(), point.y(), point.z())
+                    == *place)
+        }
+        (Err(found), Err(fault)) => *found == fault,
+        _ => false,
+    }
+}
+
+/// Asserts the result of a reading. A failure names the text and the way.
+fn assert_gave(
     rt: &impl Host,
     outcome: Result<Vec<Point>, ReadFault>,
-    places: &[Place],
+    want: Wanted,
     text: &str,
     way: Way,
 ) {
-    assert!(rt; gave(&outcome, places), "{text:?}, {way:?}");
+    assert!(rt;
+        gave(&outcome, want),
+        "{text:?}, {way:?}: {:?}",
+        outcome.err()
+    );
 }
 
-/// Asserts that a reading returned this fault. A failure names the text and the way.
-fn assert_fault(
-    rt: &impl Host,
-    outcome: Result<Vec<Point>, ReadFault>,
-    fault: ReadFault,
-    text: &str,
-    way: Way,
-) {
-    assert_eq!(rt; outcome.err(), Some(fault), "{text:?}, {way:?}");
+/// Returns the result of reading a source of this form.
+fn read_source<S: Source>(
+    alloc: Global,
+    form: Form,
+    source: &mut S,
+) -> Result<Vec<Point>, ReadFault>
+    requires { S.failure_count source.old < 2 ^ 64 - 1 }
+{
+    match form {
+        Form::Qhull => read_from(alloc, source),
+        Form::Off => read_off_from(alloc, source),
+    }
+}
+
+/// Returns the result of reading these bytes in this way.
+fn read(rt: &impl Host, form: Form, bytes: &[u8], way: Way) -> Result<Vec<Point>, ReadFault> {
+    let alloc = rt.alloc();
+    match way {
+        Way::Whole if form == Form::Off => read_off(alloc, bytes),
+        Way::Whole => read_points(alloc, bytes),
+        Way::Source => read_source(alloc, form, &mut MemSource::new(bytes)),
+        Way::FailingRead(at) => {
+            read_source(alloc, form, &mut FailSource::new(bytes, 1, Some(at)))
+        }
+        Way::Pieces(length) => read_in_pieces(alloc, form, bytes, length),
+        Way::Cut(at) => read_cut(alloc, form, bytes, at),
+        Way::Threads(sizes) => {
+            read_form_sizes(rt, alloc, form, &mut MemSource::new(bytes), sizes)
+        }
+    }
+}
+
+/// Asserts the result of reading these bytes in this way. A failure names the beginning of the text.
+fn assert_read(rt: &impl Host, form: Form, bytes: &[u8], way: Way, want: Wanted) {
+    let text = str::from_utf8(&bytes[..bytes.len().min(200)]).unwrap_or("no text");
+    assert_gave(rt, read(rt, form, bytes, way), want, text, way);
+}
+
+/// Asserts the result of reading these bytes by threads, in each of the small sizes.
+fn assert_read_in_sizes(rt: &impl Host, form: Form, bytes: &[u8], want: Wanted) {
+    for sizes in SMALL {
+        assert_read(rt, form, bytes, Way::Threads(sizes), want);
+    }
+}
+
+/// Asserts the result of reading a text all at once, from a source, byte by byte, and by threads.
+fn assert_read_in_all_ways(rt: &impl Host, form: Form, text: &str, want: Wanted) {
+    for way in [Way::Whole, Way::Source, Way::Pieces(1)] {
+        assert_read(rt, form, text.as_bytes(), way, want);
+    }
+    assert_read_in_sizes(rt, form, text.as_bytes(), want);
 }
 
 /// Returns these texts, one after the other.
@@ -107,35 +168,29 @@ fn assert_full(rt: &impl Host, reader: &mut Reader) {
 }
 
 /// Returns the result of reading these bytes, cut in two.
-fn read_cut(alloc: Global, form: Form, bytes: &[u8], cut: usize) -> Result<Vec<Point>, ReadFault>
-    requires { cut ≤ length bytes.now }
-{
-    let (front, back) = bytes.split_at(cut);
+fn read_cut(alloc: Global, form: Form, bytes: &[u8], at: usize) -> Result<Vec<Point>, ReadFault> {
+    let (front, back) = bytes.split_at(at.min(bytes.len()));
     let mut reader = reader_of(alloc, form);
     reader.feed(front)?;
     reader.feed(back)?;
     reader.finish()
 }
 
-/// Feeds these bytes in pieces of this length, which is above 0.
-fn feed_in_pieces(reader: &mut Reader, bytes: &[u8], length: usize) -> Result<(), FeedFault>
-    requires { 0 < length }
-{
-    for piece in bytes.chunks(length) {
+/// Feeds these bytes in pieces of this length, at least 1.
+fn feed_in_pieces(reader: &mut Reader, bytes: &[u8], length: usize) -> Result<(), FeedFault> {
+    for piece in bytes.chunks(length.max(1)) {
         reader.feed(piece)?;
     }
     Ok(())
 }
 
-/// Returns the result of reading these bytes in pieces of this length, which is above 0.
+/// Returns the result of reading these bytes in pieces of this length, at least 1.
 fn read_in_pieces(
     alloc: Global,
     form: Form,
     bytes: &[u8],
     length: usize,
-) -> Result<Vec<Point>, ReadFault>
-    requires { 0 < length }
-{
+) -> Result<Vec<Point>, ReadFault> {
     let mut reader = reader_of(alloc, form);
     feed_in_pieces(&mut reader, bytes, length)?;
     reader.finish()

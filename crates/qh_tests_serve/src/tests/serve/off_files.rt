@@ -2,8 +2,8 @@
 use super::solids::{LATTICE_OFF, LIMIT_CUBE_OFF, WIDE_CUBE_OFF};
 use super::{assert_faults, assert_gives};
 use crate::tests::outcomes::{Asked, FX, OFF, RANK};
+use qh_fixtures::faults::OF_OFF_FILES;
 use qh_fixtures::files::{CUBE_OFF, OCTAHEDRON_OFF, SQUARE_OFF, TETRAHEDRON_OFF};
-use qh_fixtures::table;
 use qh_model::Form;
 use std::test::Fail;
 
@@ -28,19 +28,6 @@ const ONE_POINT: [&str; 4] = [
     "OFF\n1 1 0\n5 5 5\n1 zero\n",
     "OFF#F\n1 1 0\n5#5\n5 5\n1 0\n",
     "OFF 1 0 0 5 5 5 6 6 6",
-];
-
-/// OFF files and their fault lines, with status 1 and nothing on standard output.
-const FAULTS: [(&str, &str); 9] = table![
-    ("COFF\n1 0 0\n5 5 5\n", "qconvex: 14: NotOff");
-    ("3\n1\n5 5 5\n", "qconvex: 14: NotOff");
-    ("OFF BINARY\n", "qconvex: 2: BadNumber at line 1");
-    ("", "qconvex: 1: NoHeader");
-    ("OFF\n1 1\n", "qconvex: 1: NoHeader");
-    ("OFF\n0 0 0\n", "qconvex: 4: Count");
-    ("OFF\n2 0 0\n1 2 3\n4 5\n", "qconvex: 7: Short");
-    ("OFF\n1 0 0\n1 2 3.0\n", "qconvex: 2: BadNumber at line 3");
-    ("OFF\n1 0 0\n1 2 1073741825\n", "qconvex: 5: Range at line 3");
 ];
 
 #[test]
@@ -74,5 +61,5 @@ fn refuses_inputs(rt: HostRuntime) -> Result<(), Fail> {
         form: Form::Off,
         ..FX
     };
-    assert_faults(&rt, asked, &FAULTS)
+    assert_faults(&rt, asked, &OF_OFF_FILES)
 }

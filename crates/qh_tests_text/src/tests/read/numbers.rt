@@ -1,9 +1,9 @@
 //! The limits of numbers that are parsed as a whole: in both forms, with many bytes after them or few.
 
-use super::{Place, Way, assert_fault, assert_points, joined, read_cut};
+use super::{Place, Wanted, Way, assert_gave, assert_read, joined};
 use qh_fixtures::{Host, table};
 use qh_model::Form;
-use qh_read::{FeedFault, ReadFault, Reader, read_points};
+use qh_read::{FeedFault, ReadFault, Reader};
 use std::alloc::{AllocError, Global};
 use std::test::Fail;
 
@@ -18,10 +18,7 @@ const READ: [(&str, &[Place]); 12] = table![
     ("1234567 -12345678 123456789\n-987654321 +99999999 0000000\n", &[(1234567, -12345678, 123456789), (-987654321, 99999999, 0)]);
     (
         "999999999 -999999999 +999999999\n1000000000 -1000000000 +1000000000\n",
-        &[
-            (999999999, -999999999, 999999999),
-            (1000000000, -1000000000, 1000000000),
-        ],
+        &[(999999999, -999999999, 999999999), (1000000000, -1000000000, 1000000000)],
     );
     ("1073741824 -1073741824 0\n1073741823 -1073741823 0\n", &[(1073741824, -1073741824, 0), (1073741823, -1073741823, 0)]);
     ("000000012 0000000034 00000000056\n-000000012 -0000000034 -00000000056\n", &[(12, 34, 56), (-12, -34, -56)]);
@@ -35,72 +32,44 @@ const READ: [(&str, &[Place]); 12] = table![
     ("# 1\n2 3 # 4\n5 6\n7 #\n\n8\n", &[(2, 3, 5), (6, 7, 8)]);
 ];
 
-/// Texts that may follow a head, each with the first fault in both forms.
-const REFUSED: [(&str, ReadFault); 15] = table![
-    ("1 2 3\n4 5 1073741825\n", ReadFault::Range(4));
-    ("1 2 3\n-1073741825 5 6\n", ReadFault::Range(4));
-    ("1 2 3\n4 9999999999 6\n", ReadFault::Range(4));
-    ("1 2 10737418240\n4 5 6\n", ReadFault::Range(3));
-    ("4294967297 2 3\n4 5 6\n", ReadFault::Range(3));
-    ("1 -18446744073709551617 3\n4 5 6\n", ReadFault::Range(3));
-    ("1 2 3\r\n\r\n4\n5.5 6\n", ReadFault::BadNumber(6));
-    ("1 2 3\n4 - 6\n", ReadFault::BadNumber(4));
-    ("1 2 3\n+-4 5 6\n", ReadFault::BadNumber(4));
-    ("1 2-3 3\n4 5 6\n", ReadFault::BadNumber(3));
-    ("1 2 3a\n4 5 6\n", ReadFault::BadNumber(3));
-    ("1 2 3\n4 5 6/7\n", ReadFault::BadNumber(4));
-    ("1 2 3:4 5 6\n", ReadFault::BadNumber(3));
-    ("123456789 123456789 123456789.\n4 5 6\n", ReadFault::BadNumber(3));
-    ("1 2 3\n4 5\n", ReadFault::Short);
+/// Texts that may follow a head, by their first fault in both forms.
+const REFUSED: [(ReadFault, &[&str]); 6] = table![
+    (ReadFault::Range(4), &["1 2 3\n4 5 1073741825\n", "1 2 3\n-1073741825 5 6\n", "1 2 3\n4 9999999999 6\n"]);
+    (ReadFault::Range(3), &[
+        "1 2 10737418240\n4 5 6\n", "4294967297 2 3\n4 5 6\n", "1 -18446744073709551617 3\n4 5 6\n",
+    ]);
+    (ReadFault::BadNumber(6), &["1 2 3\r\n\r\n4\n5.5 6\n"]);
+    (ReadFault::BadNumber(4), &["1 2 3\n4 - 6\n", "1 2 3\n+-4 5 6\n", "1 2 3\n4 5 6/7\n"]);
+    (ReadFault::BadNumber(3), &[
+        "1 2-3 3\n4 5 6\n", "1 2 3a\n4 5 6\n", "1 2 3:4 5 6\n", "123456789 123456789 123456789.\n4 5 6\n",
+    ]);
+    (ReadFault::Short, &["1 2 3\n4 5\n"]);
 ];
 
-/// Asserts the points of a head and a body, for each position at which they are cut in two.
-fn assert_read(
-    rt: &impl Host,
-    form: Form,
-    head: &str,
-    row: (&str, &[Place]),
-) -> Result<(), AllocError> {
-    let (body, places) = row;
-    let text = joined(rt.alloc(), &[head, body, BLANKS])?;
-    for cut in 0..text.len() {
-        let outcome = read_cut(rt.alloc(), form, &text, cut);
-        assert_points(rt, outcome, places, body, Way::Cut(cut));
+/// Asserts the result for a body after each head, for each position at which they are cut in two.
+fn assert_cut(rt: &impl Host, body: &str, want: Wanted) -> Result<(), AllocError> {
+    for (form, head) in HEADS {
+        let text = joined(rt.alloc(), &[head, body, BLANKS])?;
+        for cut in 0..text.len() {
+            assert_read(rt, form, &text, Way::Cut(cut), want);
+        }
     }
     Ok(())
 }
 
 #[test]
 fn reads_points_at_once(rt: HostRuntime) -> Result<(), Fail> {
-    for (form, head) in HEADS {
-        for row in READ {
-            assert_read(&rt, form, head, row)?;
-        }
-    }
-    Ok(())
-}
-
-/// Asserts the first fault of a head and a body, for each position at which they are cut in two.
-fn assert_refused(
-    rt: &impl Host,
-    form: Form,
-    head: &str,
-    row: (&str, ReadFault),
-) -> Result<(), AllocError> {
-    let (body, fault) = row;
-    let text = joined(rt.alloc(), &[head, body, BLANKS])?;
-    for cut in 0..text.len() {
-        let outcome = read_cut(rt.alloc(), form, &text, cut);
-        assert_fault(rt, outcome, fault, body, Way::Cut(cut));
+    for (body, places) in READ {
+        assert_cut(&rt, body, Ok(places))?;
     }
     Ok(())
 }
 
 #[test]
 fn finds_faults_after_points_at_once(rt: HostRuntime) -> Result<(), Fail> {
-    for (form, head) in HEADS {
-        for row in REFUSED {
-            assert_refused(&rt, form, head, row)?;
+    for (fault, bodies) in REFUSED {
+        for body in bodies {
+            assert_cut(&rt, body, Err(fault))?;
         }
     }
     Ok(())
@@ -120,11 +89,10 @@ fn long_file(alloc: Global) -> Result<(Vec<u8>, Vec<Place>), AllocError> {
 #[test]
 fn tells_long_files_and_their_lines(rt: HostRuntime) -> Result<(), Fail> {
     let (mut text, places) = long_file(rt.alloc())?;
-    let outcome = read_points(rt.alloc(), &text);
-    assert_points(&rt, outcome, &places, "400 points", Way::Whole);
+    assert_read(&rt, Form::Qhull, &text, Way::Whole, Ok(&places));
     text.extend_from_slice(b"9 9 9\n")?;
-    let outcome = read_points(rt.alloc(), &text);
-    assert_fault(&rt, outcome, ReadFault::Long(603), "401 points", Way::Whole);
+    let want = Err(ReadFault::Long(603));
+    assert_read(&rt, Form::Qhull, &text, Way::Whole, want);
     Ok(())
 }
 
@@ -145,6 +113,6 @@ fn goes_over_blanks_before_a_point_once(rt: HostRuntime) -> Result<(), Fail> {
     let mut reader = Reader::new(rt.alloc());
     feed_late_point(&mut reader)?;
     let way = Way::Pieces(65536);
-    assert_points(&rt, reader.finish(), &[(5, 5, 5)], "after blanks", way);
+    assert_gave(&rt, reader.finish(), Ok(&[(5, 5, 5)]), "after blanks", way);
     Ok(())
 }

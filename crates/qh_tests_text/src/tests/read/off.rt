@@ -1,11 +1,10 @@
 //! OFF files: whole, from a source, and in pieces.
-use super::threads::assert_read_in_sizes;
-use super::{Place, Way, assert_fault, assert_full, assert_points, read_in_pieces};
+use super::{Place, Way, assert_full, assert_gave, assert_read, assert_read_in_all_ways};
+use qh_fixtures::faults::OF_OFF_FILES;
 use qh_fixtures::table;
-use qh_model::{BYTE_LIMIT, Form, Point};
-use qh_read::fakes::{FailSource, Spaces};
-use qh_read::{MemSource, ReadFault, Reader, read_off, read_off_from};
-use std::alloc::Global;
+use qh_model::{BYTE_LIMIT, Form};
+use qh_read::fakes::Spaces;
+use qh_read::{ReadFault, Reader, read_off_from};
 use std::test::Fail;
 
 /// OFF files with their vertices. Source: the rows of texts, comments and ignored faces.
@@ -26,92 +25,53 @@ const READ: [(&str, &[Place]); 14] = table![
     ("OFF 1 0 0 1 2 3#4", &[(1, 2, 3)]);
 ];
 
-/// OFF files with their first faults.
-pub const REFUSED: [(&str, ReadFault); 28] = [
-    ("COFF\n1 0 0\n5 5 5\n", ReadFault::NotOff),
-    ("OFF BINARY\n", ReadFault::BadNumber(1)),
-    ("", ReadFault::NoHeader),
-    ("# OFF\n", ReadFault::NoHeader),
-    ("OFF", ReadFault::NoHeader),
-    ("OFF\n1 1\n", ReadFault::NoHeader),
-    ("OFF\n0 1\n", ReadFault::NoHeader),
-    ("OFF\n0 0 0\n", ReadFault::Count),
-    ("OFF\n-1 0 0\n", ReadFault::Count),
-    ("OFF\n1048577 0 0\n", ReadFault::Count),
-    ("OFF\n4294967297 0 0\n5 5 5\n", ReadFault::Count),
-    ("OFF\n2 0 0\n1 2 3\n4 5\n", ReadFault::Short),
-    ("OFF\n1048576 0 0\n", ReadFault::Short),
-    ("OFF\n1 0 0\n1 2 3.0\n", ReadFault::BadNumber(3)),
-    ("OFF\n1 0 0\n1 two 3\n", ReadFault::BadNumber(3)),
-    ("OFF\n1 0 0\n1 2 OFF\n", ReadFault::BadNumber(3)),
-    ("OFF\n1 0 0\n1 2 1073741825\n", ReadFault::Range(3)),
-    ("OFF\n1 0 0\n1 -4294967297 x\n", ReadFault::Range(3)),
-    ("OFF\n1 0 x\n1 2 3\n", ReadFault::BadNumber(2)),
-    ("OFF\n0 f 0\n", ReadFault::BadNumber(2)),
-    ("OFF\n1 2#3\n", ReadFault::NoHeader),
-    ("O", ReadFault::NotOff),
-    ("OF", ReadFault::NotOff),
-    ("OFFF", ReadFault::NotOff),
-    ("off\n1 0 0\n5 5 5\n", ReadFault::NotOff),
-    ("OF F\n", ReadFault::NotOff),
-    ("3\n1\n5 5 5\n", ReadFault::NotOff),
-    // A byte order mark is a part of the first word.
-    ("\u{feff}OFF\n1 0 0\n5 5 5\n", ReadFault::NotOff),
-];
-
 #[test]
 fn reads_vertices(rt: HostRuntime) {
     for (text, places) in READ {
-        let bytes = text.as_bytes();
-        assert_points(&rt, read_off(rt.alloc(), bytes), places, text, Way::Whole);
-        let streamed = read_off_from(rt.alloc(), &mut MemSource::new(bytes));
-        assert_points(&rt, streamed, places, text, Way::Source);
-        let pieces = read_in_pieces(rt.alloc(), Form::Off, bytes, 1);
-        assert_points(&rt, pieces, places, text, Way::Pieces(1));
-        assert_read_in_sizes(&rt, Form::Off, bytes, places, text);
+        assert_read_in_all_ways(&rt, Form::Off, text, Ok(places));
     }
 }
 
 #[test]
 fn finds_first_faults(rt: HostRuntime) {
-    for (text, fault) in REFUSED {
-        let bytes = text.as_bytes();
-        assert_fault(&rt, read_off(rt.alloc(), bytes), fault, text, Way::Whole);
-        let streamed = read_off_from(rt.alloc(), &mut MemSource::new(bytes));
-        assert_fault(&rt, streamed, fault, text, Way::Source);
-        let pieces = read_in_pieces(rt.alloc(), Form::Off, bytes, 1);
-        assert_fault(&rt, pieces, fault, text, Way::Pieces(1));
+    for (fault, _, texts) in OF_OFF_FILES {
+        for text in texts {
+            assert_read_in_all_ways(&rt, Form::Off, text, Err(fault));
+        }
     }
-}
-
-/// Returns the result of reading one vertex byte by byte, where the read with this number fails.
-fn read_failing(alloc: Global, fails_at: u64) -> Result<Vec<Point>, ReadFault> {
-    let mut source = FailSource::new(b"OFF\n1 0 0\n5 5 5\n", 1, Some(fails_at));
-    read_off_from(alloc, &mut source)
 }
 
 #[test]
 fn tells_devices(rt: HostRuntime) {
+    let bytes = b"OFF\n1 0 0\n5 5 5\n";
     for fails_at in 1..18 {
-        let (outcome, way) = (
-            read_failing(rt.alloc(), fails_at),
-            Way::FailingRead(fails_at),
-        );
-        assert_fault(&rt, outcome, ReadFault::Device, "one vertex", way);
+        let (way, want) = (Way::FailingRead(fails_at), Err(ReadFault::Device));
+        assert_read(&rt, Form::Off, bytes, way, want);
     }
-    let (outcome, way) = (read_failing(rt.alloc(), 18), Way::FailingRead(18));
-    assert_points(&rt, outcome, &[(5, 5, 5)], "one vertex", way);
+    assert_read(
+        &rt,
+        Form::Off,
+        bytes,
+        Way::FailingRead(18),
+        Ok(&[(5, 5, 5)]),
+    );
 }
 
 #[test]
 fn tells_lengths(rt: HostRuntime) -> Result<(), Fail> {
     let endless = read_off_from(rt.alloc(), &mut Spaces);
-    assert_fault(&rt, endless, ReadFault::Big, "without end", Way::Source);
+    assert_gave(
+        &rt,
+        endless,
+        Err(ReadFault::Big),
+        "without end",
+        Way::Source,
+    );
     let blanks = Vec::from_elem(rt.alloc(), b' ', BYTE_LIMIT as usize)?;
     let mut reader = Reader::new_off(rt.alloc());
     reader.feed(&blanks)?;
     assert_full(&rt, &mut reader);
-    let way = Way::Pieces(blanks.len());
-    assert_fault(&rt, reader.finish(), ReadFault::NoHeader, "blanks", way);
+    let (way, want) = (Way::Pieces(blanks.len()), Err(ReadFault::NoHeader));
+    assert_gave(&rt, reader.finish(), want, "blanks", way);
     Ok(())
 }

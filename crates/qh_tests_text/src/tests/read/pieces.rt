@@ -1,8 +1,5 @@
 //! The same bytes in pieces.
-use super::{
-    TETRAHEDRON, Way, assert_fault, assert_full, assert_points, feed_times, read_cut,
-    read_in_pieces,
-};
+use super::{TETRAHEDRON, Way, assert_full, assert_gave, assert_read, feed_times};
 use qh_fixtures::files::COMMENTED_TETRAHEDRON;
 use qh_model::Form;
 use qh_read::{FeedFault, ReadFault, Reader};
@@ -12,11 +9,9 @@ use std::test::Fail;
 #[test]
 fn cuts_change_nothing(rt: HostRuntime) {
     let bytes = COMMENTED_TETRAHEDRON.as_bytes();
-    let outcome = read_in_pieces(rt.alloc(), Form::Qhull, bytes, 1);
-    assert_points(&rt, outcome, &TETRAHEDRON, "a tetrahedron", Way::Pieces(1));
     for cut in 0..bytes.len() {
-        let outcome = read_cut(rt.alloc(), Form::Qhull, bytes, cut);
-        assert_points(&rt, outcome, &TETRAHEDRON, "a tetrahedron", Way::Cut(cut));
+        let want = Ok(TETRAHEDRON.as_slice());
+        assert_read(&rt, Form::Qhull, bytes, Way::Cut(cut), want);
     }
 }
 
@@ -32,12 +27,10 @@ fn long_word(alloc: Global, front: &[u8], digit: u8, back: &[u8]) -> Result<Vec<
 #[test]
 fn tells_long_words_without_keeping_them(rt: HostRuntime) -> Result<(), Fail> {
     let zeros = long_word(rt.alloc(), b"3\n1\n", b'0', b"5 0 0")?;
-    let outcome = read_in_pieces(rt.alloc(), Form::Qhull, &zeros, 4096);
-    assert_points(&rt, outcome, &[(5, 0, 0)], "zeros", Way::Pieces(4096));
-    let nines = long_word(rt.alloc(), b"3\n1\n0 0 ", b'9', b"")?;
-    let outcome = read_in_pieces(rt.alloc(), Form::Qhull, &nines, 4096);
     let way = Way::Pieces(4096);
-    assert_fault(&rt, outcome, ReadFault::Range(3), "nines", way);
+    assert_read(&rt, Form::Qhull, &zeros, way, Ok(&[(5, 0, 0)]));
+    let nines = long_word(rt.alloc(), b"3\n1\n0 0 ", b'9', b"")?;
+    assert_read(&rt, Form::Qhull, &nines, way, Err(ReadFault::Range(3)));
     Ok(())
 }
 
@@ -46,13 +39,8 @@ fn finds_no_header_in_nothing(rt: HostRuntime) -> Result<(), Fail> {
     for times in 0..3 {
         let mut reader = Reader::new(rt.alloc());
         feed_times(&mut reader, b"", times)?;
-        assert_fault(
-            &rt,
-            reader.finish(),
-            ReadFault::NoHeader,
-            "",
-            Way::Pieces(0),
-        );
+        let want = Err(ReadFault::NoHeader);
+        assert_gave(&rt, reader.finish(), want, "", Way::Pieces(0));
     }
     Ok(())
 }
@@ -71,6 +59,6 @@ fn takes_just_the_greatest_length(rt: HostRuntime) -> Result<(), Fail> {
     fill(&mut reader)?;
     assert_full(&rt, &mut reader);
     let way = Way::Pieces(65536);
-    assert_points(&rt, reader.finish(), &[(5, 5, 5)], "full", way);
+    assert_gave(&rt, reader.finish(), Ok(&[(5, 5, 5)]), "full", way);
     Ok(())
 }

@@ -2,69 +2,58 @@
 //!
 //! A segment contains points only after the end of its first line, and only from numbers that are followed by eleven
 //! bytes, so these texts are longer than those of the other rows.
-use super::{Place, Way, assert_fault, assert_points, joined, off, rows};
-use qh_fixtures::{Host, table};
+use super::{Place, SMALL, Way, assert_gave, assert_read, assert_read_in_sizes, joined};
+use qh_fixtures::Host;
 use qh_model::{Form, Point};
 use qh_read::fakes::{FailSource, Spaces};
 use qh_read::{MemSource, ReadFault, Sizes, Source, read_form_sizes, read_form_threads};
 use std::alloc::{AllocError, Global};
 use std::test::Fail;
 
-/// A line for each point, in every layout.
-const LINES: [&str; 24] = [
-    "0 -1 0\n",
-    "-8\t-7  8\n",
-    "  -75 -6 50 \n",
-    "-878368 907787 64169\n",
-    "-151620148 -912699176 -704601254\r\n",
-    "0\x0b0\x0c-1\n",
-    "-2 -7 8 # 1 2 3\n",
-    "00000000009 -84 45\n",
-    "-740369 986946 -531834\n",
-    "-808046351\t629987860  -860757348\n",
-    "  -1 -1 1 \n",
-    "-5 0 4\n",
-    "-63 39 -69\r\n",
-    "197292\x0b-353067\x0c174944\n",
-    "-297527925 -631120926 -266841915 # 1 2 3\n",
-    "00000000000 -1 1\n",
-    "-7 9 -8\n",
-    "59\t-47  28\n",
-    "  426902 115098 -103274 \n",
-    "+275509999 926002960 872670256\n",
-    "0 0 -1\r\n",
-    "-4\x0b-2\x0c-7\n",
-    "48 -23 35 # 1 2 3\n",
-    "00000038334 835296 -279680\n",
+/// Lines in every layout, each with its point.
+const LINES: [(&str, Place); 24] = [
+    ("0 -1 0\n", (0, -1, 0)),
+    ("-8\t-7  8\n", (-8, -7, 8)),
+    ("  -75 -6 50 \n", (-75, -6, 50)),
+    ("-878368 907787 64169\n", (-878368, 907787, 64169)),
+    (
+        "-151620148 -912699176 -704601254\r\n",
+        (-151620148, -912699176, -704601254),
+    ),
+    ("0\x0b0\x0c-1\n", (0, 0, -1)),
+    ("-2 -7 8 # 1 2 3\n", (-2, -7, 8)),
+    ("00000000009 -84 45\n", (9, -84, 45)),
+    ("-740369 986946 -531834\n", (-740369, 986946, -531834)),
+    (
+        "-808046351\t629987860  -860757348\n",
+        (-808046351, 629987860, -860757348),
+    ),
+    ("  -1 -1 1 \n", (-1, -1, 1)),
+    ("-5 0 4\n", (-5, 0, 4)),
+    ("-63 39 -69\r\n", (-63, 39, -69)),
+    ("197292\x0b-353067\x0c174944\n", (197292, -353067, 174944)),
+    (
+        "-297527925 -631120926 -266841915 # 1 2 3\n",
+        (-297527925, -631120926, -266841915),
+    ),
+    ("00000000000 -1 1\n", (0, -1, 1)),
+    ("-7 9 -8\n", (-7, 9, -8)),
+    ("59\t-47  28\n", (59, -47, 28)),
+    ("  426902 115098 -103274 \n", (426902, 115098, -103274)),
+    (
+        "+275509999 926002960 872670256\n",
+        (275509999, 926002960, 872670256),
+    ),
+    ("0 0 -1\r\n", (0, 0, -1)),
+    ("-4\x0b-2\x0c-7\n", (-4, -2, -7)),
+    ("48 -23 35 # 1 2 3\n", (48, -23, 35)),
+    ("00000038334 835296 -279680\n", (38334, 835296, -279680)),
 ];
 
-/// The points of these lines.
-const PLACES: [Place; 24] = [
-    (0, -1, 0),
-    (-8, -7, 8),
-    (-75, -6, 50),
-    (-878368, 907787, 64169),
-    (-151620148, -912699176, -704601254),
-    (0, 0, -1),
-    (-2, -7, 8),
-    (9, -84, 45),
-    (-740369, 986946, -531834),
-    (-808046351, 629987860, -860757348),
-    (-1, -1, 1),
-    (-5, 0, 4),
-    (-63, 39, -69),
-    (197292, -353067, 174944),
-    (-297527925, -631120926, -266841915),
-    (0, -1, 1),
-    (-7, 9, -8),
-    (59, -47, 28),
-    (426902, 115098, -103274),
-    (275509999, 926002960, 872670256),
-    (0, 0, -1),
-    (-4, -2, -7),
-    (48, -23, 35),
-    (38334, 835296, -279680),
-];
+/// Returns the points of these lines.
+fn places() -> [Place; 24] {
+    LINES.map(|(_, place)| place)
+}
 
 /// Headers for these lines, with their number. Each header has two lines.
 const HEADERS: [(Form, &str); 2] = [
@@ -80,67 +69,14 @@ const LONG_COMMENT: &str =
 const FACES: &str =
     "4 0 1 2 3\n4 0 1 2 3\n4 0 1 2 3\n4 0 1 2 3\n4 0 1 2 3\n4 0 1 2 3\n4 0 1 2 3\n4 0 1 2 3\n4 0 1 2 3\n4 0 1 2 3\n";
 
-/// Sizes of a few bytes.
-const SMALL: [Sizes; 6] = table![
-    Sizes { start: 0, batch: 1, segments: 2, threads: 2 };
-    Sizes { start: 0, batch: 16, segments: 1, threads: 3 };
-    Sizes { start: 16, batch: 64, segments: 1, threads: 2 };
-    Sizes { start: 0, batch: 151, segments: 2, threads: 4 };
-    Sizes { start: 7, batch: 230, segments: 3, threads: 1 };
-    Sizes { start: 0, batch: 4096, segments: 4, threads: 3 };
-];
-
-/// Returns the result of reading these bytes in these sizes.
-pub fn read_sizes(
-    rt: &impl Host,
-    alloc: Global,
-    form: Form,
-    bytes: &[u8],
-    sizes: Sizes,
-) -> Result<Vec<Point>, ReadFault> {
-    read_form_sizes(rt, alloc, form, &mut MemSource::new(bytes), sizes)
-}
-
 /// Returns the lines after a header, with the line of this number replaced by another.
 fn with_line(alloc: Global, header: &str, place: usize, line: &str) -> Result<Vec<u8>, AllocError> {
     let mut bytes = joined(alloc, &[header])?;
-    for (i, other) in LINES.iter().enumerate() {
+    for (i, (other, _)) in LINES.iter().enumerate() {
         let text = if i == place { line } else { *other };
         bytes.extend_from_slice(text.as_bytes())?;
     }
     Ok(bytes)
-}
-
-/// Asserts the points of a text, in each of the small sizes.
-pub fn assert_read_in_sizes(
-    rt: &impl Host,
-    form: Form,
-    bytes: &[u8],
-    places: &[Place],
-    text: &str,
-) {
-    for sizes in &SMALL {
-        let outcome = read_sizes(rt, rt.alloc(), form, bytes, *sizes);
-        assert_points(rt, outcome, places, text, Way::Pieces(sizes.batch));
-    }
-}
-
-/// Asserts the first fault of a text, in each of some sizes.
-fn assert_refused(rt: &impl Host, form: Form, bytes: &[u8], fault: ReadFault, all: &[Sizes]) {
-    for sizes in all {
-        let outcome = read_sizes(rt, rt.alloc(), form, bytes, *sizes);
-        assert_fault(rt, outcome, fault, "by threads", Way::Pieces(sizes.batch));
-    }
-}
-
-#[test]
-fn finds_faults_of_rows_in_any_sizes(rt: HostRuntime) {
-    for (text, fault) in rows::REFUSED {
-        assert_refused(&rt, Form::Qhull, text.as_bytes(), fault, &SMALL);
-    }
-    for (text, fault) in off::REFUSED {
-        assert_refused(&rt, Form::Off, text.as_bytes(), fault, &SMALL);
-    }
 }
 
 #[test]
@@ -154,11 +90,17 @@ fn reads_lines_cut_anywhere(rt: HostRuntime) -> Result<(), Fail> {
                 segments: 2,
                 threads: 4,
             };
-            let outcome = read_sizes(&rt, rt.alloc(), form, &bytes, sizes);
-            assert_points(&rt, outcome, &PLACES, header, Way::Pieces(batch));
+            assert_read(&rt, form, &bytes, Way::Threads(sizes), Ok(&places()));
         }
     }
     Ok(())
+}
+
+/// Asserts the first fault of a text in each of the small sizes but the first two.
+fn assert_refused(rt: &impl Host, form: Form, bytes: &[u8], fault: ReadFault) {
+    for sizes in &SMALL[2..] {
+        assert_read(rt, form, bytes, Way::Threads(*sizes), Err(fault));
+    }
 }
 
 #[test]
@@ -169,8 +111,8 @@ fn tells_the_line_of_each_fault(rt: HostRuntime) -> Result<(), Fail> {
             let line = 3 + place as u32;
             let bad = with_line(rt.alloc(), header, place, "7 7.5 7\n")?;
             let far = with_line(rt.alloc(), header, place, "7 1073741825 7\n")?;
-            assert_refused(&rt, form, &bad, ReadFault::BadNumber(line), &SMALL[2..]);
-            assert_refused(&rt, form, &far, ReadFault::Range(line), &SMALL[2..]);
+            assert_refused(&rt, form, &bad, ReadFault::BadNumber(line));
+            assert_refused(&rt, form, &far, ReadFault::Range(line));
         }
     }
     Ok(())
@@ -181,16 +123,16 @@ fn tells_points_too_few_or_too_many(rt: HostRuntime) -> Result<(), Fail> {
     let few = with_line(rt.alloc(), "3\n25\n", 24, "")?;
     let many = with_line(rt.alloc(), "3\n23\n", 24, "")?;
     let off = with_line(rt.alloc(), "OFF\n23 0 0\n", 24, "")?;
-    assert_refused(&rt, Form::Qhull, &few, ReadFault::Short, &SMALL);
-    assert_refused(&rt, Form::Qhull, &many, ReadFault::Long(26), &SMALL);
-    assert_read_in_sizes(&rt, Form::Off, &off, &PLACES[..23], "23 vertices");
+    assert_read_in_sizes(&rt, Form::Qhull, &few, Err(ReadFault::Short));
+    assert_read_in_sizes(&rt, Form::Qhull, &many, Err(ReadFault::Long(26)));
+    assert_read_in_sizes(&rt, Form::Off, &off, Ok(&places()[..23]));
     Ok(())
 }
 
 /// Returns the lines between two texts.
 fn between(alloc: Global, front: &[&str], back: &str) -> Result<Vec<u8>, AllocError> {
     let mut bytes = joined(alloc, front)?;
-    bytes.extend_from_slice(&joined(alloc, &LINES)?)?;
+    bytes.extend_from_slice(&joined(alloc, &LINES.map(|(line, _)| line))?)?;
     bytes.extend_from_slice(back.as_bytes())?;
     Ok(bytes)
 }
@@ -199,11 +141,11 @@ fn between(alloc: Global, front: &[&str], back: &str) -> Result<Vec<u8>, AllocEr
 fn reads_no_comment_and_no_face(rt: HostRuntime) -> Result<(), Fail> {
     let line = "0 -1 0 x 1 1 1 1 1 1 1 1 1 1 1 1 1 1 1 1 1 1 1 1 1 1 1 1 1 1 1\n";
     let commented = with_line(rt.alloc(), "3\n24\n", 0, line)?;
-    assert_read_in_sizes(&rt, Form::Qhull, &commented, &PLACES, "a comment");
+    assert_read_in_sizes(&rt, Form::Qhull, &commented, Ok(&places()));
     let long = between(rt.alloc(), &["3\n24\n", LONG_COMMENT, LONG_COMMENT], "")?;
-    assert_read_in_sizes(&rt, Form::Qhull, &long, &PLACES, "two long comments");
+    assert_read_in_sizes(&rt, Form::Qhull, &long, Ok(&places()));
     let faces = between(rt.alloc(), &["OFF\n24 20 0\n", LONG_COMMENT], FACES)?;
-    assert_read_in_sizes(&rt, Form::Off, &faces, &PLACES, "faces");
+    assert_read_in_sizes(&rt, Form::Off, &faces, Ok(&places()));
     Ok(())
 }
 
@@ -230,12 +172,12 @@ fn tells_failing_reads(rt: HostRuntime) {
     for fails_at in 1..12 {
         let (outcome, failures) = read_failing(&rt, rt.alloc(), fails_at);
         let way = Way::FailingRead(fails_at);
-        assert_fault(&rt, outcome, ReadFault::Device, "one point", way);
+        assert_gave(&rt, outcome, Err(ReadFault::Device), "one point", way);
         assert_eq!(rt; failures, 1, "{way:?}");
     }
     let (outcome, failures) = read_failing(&rt, rt.alloc(), 12);
     let way = Way::FailingRead(12);
-    assert_points(&rt, outcome, &[(5, 5, 5)], "one point", way);
+    assert_gave(&rt, outcome, Ok(&[(5, 5, 5)]), "one point", way);
     assert_eq!(rt; failures, 0);
 }
 
@@ -245,9 +187,15 @@ fn reads_by_any_number_of_threads(rt: HostRuntime) -> Result<(), Fail> {
     for threads in 0..5 {
         let mut source = MemSource::new(&bytes);
         let outcome = read_form_threads(&rt, rt.alloc(), threads, Form::Qhull, &mut source);
-        assert_points(&rt, outcome, &PLACES, "lines", Way::Source);
+        assert_gave(&rt, outcome, Ok(&places()), "lines", Way::Source);
     }
     let endless = read_form_threads(&rt, rt.alloc(), 4, Form::Qhull, &mut Spaces);
-    assert_fault(&rt, endless, ReadFault::Big, "without end", Way::Source);
+    assert_gave(
+        &rt,
+        endless,
+        Err(ReadFault::Big),
+        "without end",
+        Way::Source,
+    );
     Ok(())
 }
