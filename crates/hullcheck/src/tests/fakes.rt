@@ -1,41 +1,13 @@
-//! Fake files and line devices, which replace those of the system.
+//! Fake files and line devices, which replace those of the system. A file that cannot be read fails at its first read.
 ghost use Rattle.std.specs.Prelude.{◌≡◌, None};
 
 use crate::files::Files;
-use qh_read::{DeviceFault, Source};
+use qh_read::Source;
+use qh_read::fakes::FailSource;
 use qh_write::{Lines, SinkFault};
 use std::alloc::Global;
 use std::fmt::{Display, Write};
 use std::io::ErrorKind;
-
-/// A file in memory. A read fails if the file has no bytes.
-#[derive(Drop)]
-pub struct FakeFile<'a> {
-    rest: Option<&'a [u8]>,
-    failures: u64,
-}
-
-impl Source for FakeFile<'_> {
-    ghost remaining = { λ _. None };
-
-    ghost failure_count = { λ f. f.failures };
-
-    fn read(&mut self, buf: &mut [u8]) -> Result<usize, DeviceFault> {
-        let Some(bytes) = self.rest else {
-            self.failures += 1;
-            return Err(DeviceFault);
-        };
-        let count = bytes.len().min(buf.len());
-        let (piece, rest) = bytes.split_at(count);
-        buf[..count].copy_from_slice(piece);
-        self.rest = Some(rest);
-        Ok(count)
-    }
-
-    fn failures(&self) -> u64 {
-        self.failures
-    }
-}
 
 /// Named files and a standard input. Files without bytes cannot be read.
 #[derive(Drop)]
@@ -58,18 +30,16 @@ impl<'a> FakeFiles<'a> {
 }
 
 impl<'a> Files for FakeFiles<'a> {
-    type File = FakeFile<'a>;
+    type File = FailSource<'a>;
 
     ghost contents = { λ _ _. None };
 
     ghost failed = { λ f. f.failed };
 
-    fn open(&mut self, name: &str) -> Result<FakeFile<'a>, ErrorKind> {
+    fn open(&mut self, name: &str) -> Result<FailSource<'a>, ErrorKind> {
         match self.named(name) {
-            Some(text) => Ok(FakeFile {
-                rest: text.map(|text| text.as_bytes()),
-                failures: 0,
-            }),
+            Some(Some(text)) => Ok(FailSource::new(text.as_bytes(), text.len().max(1), None)),
+            Some(None) => Ok(FailSource::new(b"", 1, Some(1))),
             None => {
                 self.failed = true;
                 Err(ErrorKind::NotFound)
@@ -77,8 +47,8 @@ impl<'a> Files for FakeFiles<'a> {
         }
     }
 
-    fn close(&mut self, file: FakeFile<'a>) {
-        if file.failures > 0 {
+    fn close(&mut self, file: FailSource<'a>) {
+        if file.failures() > 0 {
             self.failed = true;
         }
     }
@@ -127,9 +97,8 @@ impl FakeLines {
         ensures { result.failures ≡ 0 }
     {
         FakeLines {
-            text: String::new(alloc),
             fails: true,
-            failures: 0,
+            ..FakeLines::kept(alloc)
         }
     }
 }

@@ -47,21 +47,31 @@ pub const COUNTED: &str = "6\n4 8 2 6 4\n4 0 4 5 1\n4 4 6 9 5\n4 2 0 1 3\n4 6 2 
 const TETRAHEDRON: &str =
     "OFF # four corners\n4 4 6\n1 1 1\n0 0 0\n1 0 0\n0 1 0\n3 0 1 2\n3 0 3 1\n3 0 2 3\n3 1 3 2\n";
 
-#[test]
-fn faces_by_indices_are_right(rt: HostRuntime) -> Result<(), Fail> {
-    let told = told(&rt, rt.alloc(), BY_INDICES, INDICES);
-    assert!(rt; matches!(told, Ok(Judgement::Told(SurfaceVerdict::Right))));
-    Ok(())
-}
+/// The reading of faces with the numbers of their corners.
+const WITH_COUNTS: Reading = Reading {
+    layout: Layout::Counted,
+    ..OFF
+};
+
+/// An OFF file whose second vertex is no point.
+const STRANGE_VERTEX: &str = "OFF\n3 1 3\n0 0 0\n2 0 0\n0 1 0\n3 0 1 2\n";
+
+/// Texts of faces, their readings and the judgements on them.
+const ROWS: [(&str, Reading, Result<Judgement, Fault>); 5] = table![
+    (BY_INDICES, INDICES, Ok(Judgement::Told(SurfaceVerdict::Right)));
+    (COUNTED, WITH_COUNTS, Ok(Judgement::Told(SurfaceVerdict::Right)));
+    // An index of no point.
+    ("2\n0 1 2\n0 1 10\n", INDICES, Ok(Judgement::Stranger(1)));
+    (STRANGE_VERTEX, OFF, Ok(Judgement::Stranger(0)));
+    ("3\n0 1 2\n", INDICES, Err(Fault::Faces(ReadFault::Short)));
+];
 
 #[test]
-fn counted_faces_are_right(rt: HostRuntime) -> Result<(), Fail> {
-    let reading = Reading {
-        layout: Layout::Counted,
-        turn: Turn::Counterclockwise,
-    };
-    let told = told(&rt, rt.alloc(), COUNTED, reading);
-    assert!(rt; matches!(told, Ok(Judgement::Told(SurfaceVerdict::Right))));
+fn faces_have_their_judgements(rt: HostRuntime) -> Result<(), Fail> {
+    for (text, reading, wanted) in ROWS {
+        let told = told(&rt, rt.alloc(), text, reading);
+        assert_eq!(rt; told, wanted, "{text:?}");
+    }
     Ok(())
 }
 
@@ -69,32 +79,6 @@ fn counted_faces_are_right(rt: HostRuntime) -> Result<(), Fail> {
 fn the_hull_of_some_of_the_points_is_wrong(rt: HostRuntime) -> Result<(), Fail> {
     let told = told(&rt, rt.alloc(), TETRAHEDRON, OFF);
     assert!(rt; matches!(told, Ok(Judgement::Told(SurfaceVerdict::NoPiece(_, _)))));
-    Ok(())
-}
-
-#[test]
-fn an_index_of_no_point_is_a_stranger(rt: HostRuntime) -> Result<(), Fail> {
-    let told = told(&rt, rt.alloc(), "2\n0 1 2\n0 1 10\n", INDICES);
-    assert!(rt; matches!(told, Ok(Judgement::Stranger(1))));
-    Ok(())
-}
-
-#[test]
-fn a_vertex_that_is_no_point_is_a_stranger(rt: HostRuntime) -> Result<(), Fail> {
-    let told = told(
-        &rt,
-        rt.alloc(),
-        "OFF\n3 1 3\n0 0 0\n2 0 0\n0 1 0\n3 0 1 2\n",
-        OFF,
-    );
-    assert!(rt; matches!(told, Ok(Judgement::Stranger(0))));
-    Ok(())
-}
-
-#[test]
-fn a_text_that_ends_early_is_short(rt: HostRuntime) -> Result<(), Fail> {
-    let told = told(&rt, rt.alloc(), "3\n0 1 2\n", INDICES);
-    assert!(rt; matches!(told, Err(Fault::Faces(ReadFault::Short))));
     Ok(())
 }
 

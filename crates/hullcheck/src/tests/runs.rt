@@ -21,73 +21,19 @@ const FILES: [(&str, Option<&str>); 5] = [
 ];
 
 /// Words, the standard input, the exit status, the text on the output and the text on the errors.
-const RUNS: [(&[&str], &str, u8, &str, &str); 12] = [
-    (
-        &["hullcheck", "cube", "faces", "--counted"],
-        "",
-        0,
-        "all right\n",
-        "",
-    ),
-    (
-        &["hullcheck", "--counted", "cube"],
-        COUNTED,
-        0,
-        "all right\n",
-        "",
-    ),
-    (
-        &["hullcheck", "--indices", "--clockwise", "cube"],
-        BY_INDICES,
-        0,
-        "all right\n",
-        "",
-    ),
-    (
-        &["hullcheck", "--counted", "cube", "stranger"],
-        COUNTED,
-        1,
-        "face 1: one of its corners is not a point of the set\n",
-        "",
-    ),
-    (&["hullcheck"], COUNTED, 2, "", USAGE),
-    (&["--help"], COUNTED, 2, "", USAGE),
-    (&["hullcheck", "cube", "--helper"], COUNTED, 2, "", USAGE),
-    (
-        &["hullcheck", "cube", "none"],
-        COUNTED,
-        4,
-        "",
-        "hullcheck: a file could not be read\n",
-    ),
-    (
-        &["hullcheck", "broken", "faces"],
-        "",
-        4,
-        "",
-        "hullcheck: the points: the file could not be read\n",
-    ),
-    (
-        &["hullcheck", "cube", "broken"],
-        "",
-        4,
-        "",
-        "hullcheck: a file could not be read\n",
-    ),
-    (
-        &["hullcheck", "word", "faces"],
-        "",
-        5,
-        "",
-        "hullcheck: the points: BadNumber at line 3\n",
-    ),
-    (
-        &["hullcheck", "cube", "--counted"],
-        "2\n3 0 1 2\n",
-        5,
-        "",
-        "hullcheck: the faces: Short\n",
-    ),
+const RUNS: [(&[&str], &str, u8, &str, &str); 12] = table![
+    (&["hullcheck", "cube", "faces", "--counted"], "", 0, "all right\n", "");
+    (&["hullcheck", "--counted", "cube"], COUNTED, 0, "all right\n", "");
+    (&["hullcheck", "--indices", "--clockwise", "cube"], BY_INDICES, 0, "all right\n", "");
+    (&["hullcheck", "--counted", "cube", "stranger"], COUNTED, 1, "face 1: one of its corners is not a point of the set\n", "");
+    (&["hullcheck"], COUNTED, 2, "", USAGE);
+    (&["--help"], COUNTED, 2, "", USAGE);
+    (&["hullcheck", "cube", "--helper"], COUNTED, 2, "", USAGE);
+    (&["hullcheck", "cube", "none"], COUNTED, 4, "", "hullcheck: a file could not be read\n");
+    (&["hullcheck", "broken", "faces"], "", 4, "", "hullcheck: the points: the file could not be read\n");
+    (&["hullcheck", "cube", "broken"], "", 4, "", "hullcheck: a file could not be read\n");
+    (&["hullcheck", "word", "faces"], "", 5, "", "hullcheck: the points: BadNumber at line 3\n");
+    (&["hullcheck", "cube", "--counted"], "2\n3 0 1 2\n", 5, "", "hullcheck: the faces: Short\n");
 ];
 
 /// Returns the exit status of a run that writes to this output, and the text on the errors.
