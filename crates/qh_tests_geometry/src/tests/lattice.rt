@@ -11,34 +11,17 @@ use std::test::Fail;
 /// The number of points of a set.
 const COUNT: u16 = 5000;
 
-/// Returns points of a rod along (1, 2, 3) that is some units thick.
-fn rod(alloc: Global) -> Result<Vec<Point>, AllocError> {
-    let mut points = Vec::new(alloc);
+/// Returns points of a rod along (1, 2, 3) that is some units thick, those of a grid with equal length, width and height,
+/// and points in the plane of x and z.
+fn sets(alloc: Global) -> Result<[Vec<Point>; 3], AllocError> {
+    let (mut rod, mut grid, mut sheet) = (Vec::new(alloc), Vec::new(alloc), Vec::new(alloc));
     for number in 0..COUNT {
         let k = i32::from(number);
-        points.push(Point::new(k, 2 * k + k % 3, 3 * k + k % 5))?;
+        rod.push(Point::new(k, 2 * k + k % 3, 3 * k + k % 5))?;
+        grid.push(Point::new(k % 17, k / 17 % 17, k / 289))?;
+        sheet.push(Point::new(k, 0, k % 71))?;
     }
-    Ok(points)
-}
-
-/// Returns the points of a grid with equal length, width and height.
-fn grid(alloc: Global) -> Result<Vec<Point>, AllocError> {
-    let mut points = Vec::new(alloc);
-    for number in 0..COUNT {
-        let k = i32::from(number);
-        points.push(Point::new(k % 17, k / 17 % 17, k / 289))?;
-    }
-    Ok(points)
-}
-
-/// Returns points in the plane of x and z.
-fn sheet(alloc: Global) -> Result<Vec<Point>, AllocError> {
-    let mut points = Vec::new(alloc);
-    for number in 0..COUNT {
-        let k = i32::from(number);
-        points.push(Point::new(k, 0, k % 71))?;
-    }
-    Ok(points)
+    Ok([rod, grid, sheet])
 }
 
 /// Returns the images of points under the map that is found for all of them.
@@ -63,7 +46,7 @@ fn volume(points: &[Point], step: u16) -> Option<i128> {
 
 #[test]
 fn a_rod_is_mapped(rt: HostRuntime) -> Result<(), Fail> {
-    let points = rod(rt.alloc())?;
+    let [points, _, _] = sets(rt.alloc())?;
     let images = images_of(rt.alloc(), &points)?.ok_or("no map")?;
     assert_eq!(rt; images.len(), points.len());
     let far = (COORDINATE_LIMIT - COORDINATE_LIMIT / 8) as i32;
@@ -86,9 +69,8 @@ fn a_rod_is_mapped(rt: HostRuntime) -> Result<(), Fail> {
 
 #[test]
 fn a_grid_and_a_sheet_stay(rt: HostRuntime) -> Result<(), Fail> {
-    let points = grid(rt.alloc())?;
-    assert!(rt; images_of(rt.alloc(), &points)?.is_none());
-    let points = sheet(rt.alloc())?;
-    assert!(rt; images_of(rt.alloc(), &points)?.is_none());
+    let [_, grid, sheet] = sets(rt.alloc())?;
+    assert!(rt; images_of(rt.alloc(), &grid)?.is_none());
+    assert!(rt; images_of(rt.alloc(), &sheet)?.is_none());
     Ok(())
 }

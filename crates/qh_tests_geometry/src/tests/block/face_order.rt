@@ -4,7 +4,7 @@ use super::{Row, is};
 use qh_block::hull;
 use qh_fixtures::ids::ids_of;
 use qh_fixtures::{faces_of, points_at};
-use qh_model::{Body, Memory, Point};
+use qh_model::Point;
 use std::alloc::{AllocError, Global};
 use std::test::Fail;
 
@@ -39,19 +39,14 @@ fn points(alloc: Global) -> Result<Vec<Point>, AllocError> {
     Ok(pts)
 }
 
-/// Returns the hull of the corners.
-fn hull_of_corners(alloc: Global) -> Result<Option<Body>, Memory> {
-    let pts = points(alloc)?;
-    let ids = ids_of(alloc, &pts, CUBOCTAHEDRON.extremes)?;
-    if ids.is_empty() {
-        return Ok(None);
-    }
-    Ok(Some(hull(alloc, &pts, &ids)?))
-}
-
 #[test]
 fn triangles_and_squares(rt: HostRuntime) -> Result<(), Fail> {
-    let body = hull_of_corners(rt.alloc())?.ok_or("no corners")?;
+    let pts = points(rt.alloc())?;
+    let ids = ids_of(rt.alloc(), &pts, CUBOCTAHEDRON.extremes)?;
+    if ids.is_empty() {
+        return Err("no corners".into());
+    }
+    let body = hull(rt.alloc(), &pts, &ids)?;
     assert!(rt; is(&body, &CUBOCTAHEDRON), "{body:?}");
     Ok(())
 }

@@ -27,35 +27,25 @@ fn left_of(
     Ok((left, extremes))
 }
 
-/// Returns true if the filter finds no interior point in few points, of which eight are extreme.
-fn leaves_few(rt: &impl Host, alloc: Global) -> Result<bool, Memory> {
-    let points = grid(alloc, [3; 3])?;
-    let (left, extremes) = left_of(rt, alloc, &points, 4)?;
-    Ok(left.is_none() && extremes.len() == 8)
-}
-
 #[test]
 fn few_points(rt: HostRuntime) -> Result<(), Fail> {
-    let holds = leaves_few(&rt, rt.alloc())?;
-    assert!(rt; holds);
+    let points = grid(rt.alloc(), [3; 3])?;
+    let (left, extremes) = left_of(&rt, rt.alloc(), &points, 4)?;
+    assert!(rt; left.is_none());
+    assert_eq!(rt; extremes.len(), 8usize);
     Ok(())
-}
-
-/// Returns true if the filter leaves less than half of many points with three threads, and the same with one.
-fn leaves_less_than_half(rt: &impl Host, alloc: Global) -> Result<bool, Memory> {
-    let points = grid(alloc, [40; 3])?;
-    let (left, extremes) = left_of(rt, alloc, &points, 3)?;
-    let (alone, _) = left_of(rt, alloc, &points, 1)?;
-    let is_less = match &left {
-        Some(ids) => ids.len() < points.len() / 2,
-        None => false,
-    };
-    Ok(is_less && alone == left && extremes.len() == 8)
 }
 
 #[test]
 fn many_points(rt: HostRuntime) -> Result<(), Fail> {
-    let holds = leaves_less_than_half(&rt, rt.alloc())?;
-    assert!(rt; holds);
+    let points = grid(rt.alloc(), [40; 3])?;
+    let (left, extremes) = left_of(&rt, rt.alloc(), &points, 3)?;
+    let (alone, _) = left_of(&rt, rt.alloc(), &points, 1)?;
+    assert!(rt; alone == left);
+    let count = left.ok_or("no interior point")?.len();
+    assert!(rt;
+        count < points.len() / 2 && extremes.len() == 8,
+        "{count} ids"
+    );
     Ok(())
 }

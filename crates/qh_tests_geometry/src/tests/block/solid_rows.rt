@@ -16,10 +16,9 @@ pub(super) const CUBE: Row<'static> = Row {
 };
 
 pub(super) const OCTAHEDRON: Row<'static> = Row {
-    dim: 3,
     extremes: &[0, 2, 3, 5, 6, 9],
     faces: &faces_of![0 2 6, 0 5 9, 0 6 5, 0 9 2, 2 3 6, 2 9 3, 3 5 6, 3 9 5],
-    edges: 12,
+    ..CUBE
 };
 
 const TETRAHEDRON: Row<'static> = Row {
@@ -31,38 +30,33 @@ const TETRAHEDRON: Row<'static> = Row {
 
 /// The cube, with each corner given twice.
 const DOUBLED_CUBE: Row<'static> = Row {
-    dim: 3,
     extremes: &[0, 2, 4, 6, 8, 10, 12, 14],
     faces: &faces_of![0 2 6 4, 0 4 12 8, 0 8 10 2, 2 10 14 6, 4 6 14 12, 8 12 14 10],
-    edges: 12,
+    ..CUBE
 };
 
 /// The cube of 27 lattice points.
 const LATTICE: Row<'static> = Row {
-    dim: 3,
     extremes: &[0, 2, 6, 8, 18, 20, 24, 26],
     faces: &faces_of![0 2 8 6, 0 6 24 18, 0 18 20 2, 2 20 26 8, 6 8 26 24, 18 24 26 20],
-    edges: 12,
+    ..CUBE
 };
 
 /// The cube of `greatest_and_least`: its faces are those of the unit cube, by its corners.
 const GREATEST_AND_LEAST: Row<'static> = Row {
-    dim: 3,
     extremes: &[0, 1, 198, 199, 19800, 19801, 19998, 19999],
     faces: &faces_of![
         0 1 19801 19800, 0 198 199 1, 0 19800 19998 198, 1 199 19999 19801, 198 19998 19999 199,
         19800 19801 19999 19998
     ],
-    edges: 12,
+    ..CUBE
 };
 
 #[test]
 fn few_points(rt: HostRuntime) -> Result<(), Fail> {
     let (tetrahedron, octahedron) = (tetrahedron(), octahedron());
-    let (doubled, lattice) = (
-        doubled_cube(rt.alloc())?,
-        lattice(rt.alloc(), &[0, 1, 2], 1)?,
-    );
+    let doubled = doubled_cube(rt.alloc())?;
+    let lattice = lattice(rt.alloc(), &[0, 1, 2], 1)?;
     let (unit, wide, widest) = (cube(0, 1), cube(-1048576, 1048576), cube(-LIMIT, LIMIT));
     for (pts, row) in [
         (tetrahedron.as_slice(), &TETRAHEDRON),
