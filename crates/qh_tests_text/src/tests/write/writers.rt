@@ -1,5 +1,5 @@
 //! A sink over a writer of std: the calls of the writer, and its failures.
-use qh_fixtures::Host;
+use qh_fixtures::{Host, table};
 use qh_write::{SendFault, Sink, StdSink, send};
 use std::io;
 use std::io::{ErrorKind, Write};
@@ -128,32 +128,16 @@ fn assert_calls(
 #[test]
 fn flushes_once_and_calls_no_writer_that_failed(rt: HostRuntime) {
     // A writer, the result of sending 10 bytes, and the calls that the writer received.
-    let rows = [
-        (takes(100), Ok(()), [1, 10, 1, 10]),
-        (takes(10), Ok(()), [1, 10, 1, 10]),
-        (takes(3), Ok(()), [4, 10, 1, 10]),
-        (takes(1), Ok(()), [10, 10, 1, 10]),
-        (takes(0), Err(SendFault), [1, 0, 0, 0]),
-        (
-            fails_to_write(ErrorKind::Other),
-            Err(SendFault),
-            [1, 0, 0, 0],
-        ),
-        (
-            fails_to_write(ErrorKind::Interrupted),
-            Err(SendFault),
-            [1, 0, 0, 0],
-        ),
-        (
-            fails_to_flush(ErrorKind::Other),
-            Err(SendFault),
-            [1, 10, 1, 10],
-        ),
-        (
-            fails_to_flush(ErrorKind::Interrupted),
-            Err(SendFault),
-            [1, 10, 1, 10],
-        ),
+    let rows = table![
+        (takes(100), Ok(()), [1, 10, 1, 10]);
+        (takes(10), Ok(()), [1, 10, 1, 10]);
+        (takes(3), Ok(()), [4, 10, 1, 10]);
+        (takes(1), Ok(()), [10, 10, 1, 10]);
+        (takes(0), Err(SendFault), [1, 0, 0, 0]);
+        (fails_to_write(ErrorKind::Other), Err(SendFault), [1, 0, 0, 0]);
+        (fails_to_write(ErrorKind::Interrupted), Err(SendFault), [1, 0, 0, 0]);
+        (fails_to_flush(ErrorKind::Other), Err(SendFault), [1, 10, 1, 10]);
+        (fails_to_flush(ErrorKind::Interrupted), Err(SendFault), [1, 10, 1, 10]);
     ];
     for (manner, want, counts) in rows {
         assert_calls(&rt, manner, b"OFF\n1 1 0\n", want, counts);
