@@ -84,19 +84,11 @@ const HELPED: [&[&str]; 4] = [
 ];
 
 /// Parts of the help text: how the program is called, each option and each exit status.
-const PARTS: [&str; 12] = [
-    "\nUsage: hullcheck [--workers N] [--indices | --counted] [--clockwise] POINTS [FACES]\n",
-    "\n  --indices ",
-    "\n  --counted ",
-    "\n  --clockwise ",
-    "\n  --workers N ",
-    "1 to 64 [default: 4]\n",
-    "\n  0  the faces are the hull\n",
-    "\n  1  they are not",
-    "\n  2  the command line is refused\n",
-    "\n  3  out of memory\n",
-    "\n  4  a file could not be read",
-    "\n  5  POINTS is no point file",
+const PARTS: [&str; 12] = table![
+    "\nUsage: hullcheck [--workers N] [--indices | --counted] [--clockwise] POINTS [FACES]\n";
+    "\n  --indices "; "\n  --counted "; "\n  --clockwise "; "\n  --workers N "; "1 to 64 [default: 4]\n";
+    "\n  0  the faces are the hull\n"; "\n  1  they are not"; "\n  2  the command line is refused\n";
+    "\n  3  out of memory\n"; "\n  4  a file could not be read"; "\n  5  POINTS is no point file";
 ];
 
 #[test]
