@@ -42,46 +42,26 @@ fn judge(alloc: Global, line: &str) -> Result<Judged, AllocError> {
 }
 
 /// Lines that are refused.
-const REFUSED: [&str; 20] = [
-    "--workers 0",
-    "--workers 65",
-    "--block 0",
-    "--block 1048577",
-    "Fy",
-    "fx",
-    "OFFT",
-    "--workers 2 --workers 2",
-    "--block 2 --block 3",
-    "--work 2",
-    "-V",
-    "--version=1",
-    "--workers 0 --version",
-    "help",
-    "--workers two",
-    "--from",
-    "--from obj",
-    "--from OFF",
-    "--from off --from off",
-    "--from off,qhull",
+const REFUSED: [&str; 20] = table![
+    "--workers 0"; "--workers 65"; "--workers two"; "--block 0"; "--block 1048577"; "Fy"; "fx"; "OFFT"; "help";
+    "--workers 2 --workers 2"; "--block 2 --block 3"; "--work 2"; "-V"; "--version=1"; "--workers 0 --version";
+    "--from"; "--from obj"; "--from OFF"; "--from off --from off"; "--from off,qhull";
 ];
 
 /// Lines that are accepted, with their settings.
-const ACCEPTED: [(&str, Numbers); 12] = [
-    ("", (4, 4096, 1, Form::Qhull)),
-    ("rank", (4, 4096, 1, Form::Qhull)),
-    ("rank --workers 2 s", (2, 4096, 2, Form::Qhull)),
-    ("--block=3 rank", (4, 3, 1, Form::Qhull)),
-    ("-- rank", (4, 4096, 1, Form::Qhull)),
-    ("off Fx s rank off", (4, 4096, 5, Form::Qhull)),
-    ("offt rank off offt", (4, 4096, 4, Form::Qhull)),
-    (
-        "--workers 64 --block 1048576",
-        (64, 1048576, 1, Form::Qhull),
-    ),
-    ("--workers +4 --block 004", (4, 4, 1, Form::Qhull)),
-    ("--from qhull", (4, 4096, 1, Form::Qhull)),
-    ("--from off rank", (4, 4096, 1, Form::Off)),
-    ("off --from=off --block 2 Fx", (4, 2, 2, Form::Off)),
+const ACCEPTED: [(&str, Numbers); 12] = table![
+    ("", (4, 4096, 1, Form::Qhull));
+    ("rank", (4, 4096, 1, Form::Qhull));
+    ("rank --workers 2 s", (2, 4096, 2, Form::Qhull));
+    ("--block=3 rank", (4, 3, 1, Form::Qhull));
+    ("-- rank", (4, 4096, 1, Form::Qhull));
+    ("off Fx s rank off", (4, 4096, 5, Form::Qhull));
+    ("offt rank off offt", (4, 4096, 4, Form::Qhull));
+    ("--workers 64 --block 1048576", (64, 1048576, 1, Form::Qhull));
+    ("--workers +4 --block 004", (4, 4, 1, Form::Qhull));
+    ("--from qhull", (4, 4096, 1, Form::Qhull));
+    ("--from off rank", (4, 4096, 1, Form::Off));
+    ("off --from=off --block 2 Fx", (4, 2, 2, Form::Off));
 ];
 
 #[test]
@@ -116,24 +96,11 @@ fn accepts_lines(rt: HostRuntime) -> Result<(), Fail> {
 }
 
 /// Parts of the help text: the options with their ranges, each output and each exit status.
-const HELPED: [&str; 17] = [
-    "Usage: qconvex [--from FORM] [--workers N] [--block N] [OUT]...\n",
-    "standard input",
-    "\n  rank ",
-    "\n  s ",
-    "\n  Fx ",
-    "\n  off ",
-    "\n  offt ",
-    "\n  --from FORM ",
-    "\n  --workers N ",
-    "1 to 64 [default: 4]",
-    "\n  --block N ",
-    "1 to 1048576 [default: 4096]",
-    "\n  --version ",
-    "\n  1  the input is refused",
-    "\n  2  the command line is refused",
-    "\n  3  out of memory",
-    "\n  4  a device failed",
+const HELPED: [&str; 17] = table![
+    "Usage: qconvex [--from FORM] [--workers N] [--block N] [OUT]...\n"; "standard input"; "\n  rank "; "\n  s ";
+    "\n  Fx "; "\n  off "; "\n  offt "; "\n  --from FORM "; "\n  --workers N "; "1 to 64 [default: 4]";
+    "\n  --block N "; "1 to 1048576 [default: 4096]"; "\n  --version "; "\n  1  the input is refused";
+    "\n  2  the command line is refused"; "\n  3  out of memory"; "\n  4  a device failed";
 ];
 
 /// Asserts that a line is answered with this text.

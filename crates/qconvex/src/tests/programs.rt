@@ -16,83 +16,20 @@ const SQUARE_OFF_AND_SUMMARY: &str =
 
 /// Words, an input, the capacity of standard output in bytes, the exit status, the text on standard output, and the
 /// text on standard error.
-const RUNS: [(&[&str], &str, usize, u8, &str, &str); 13] = [
-    (&["qconvex", "rank"], ONE_POINT, 99, 0, "1 1 0\n", ""),
-    (
-        &["qconvex", "rank", "Fx"],
-        ONE_POINT,
-        99,
-        0,
-        "1 1 0\n1\n0\n",
-        "",
-    ),
-    (
-        &["qconvex", "off"],
-        "3\n1\n5 5\n",
-        99,
-        1,
-        "",
-        "qconvex: 7: Short\n",
-    ),
-    (
-        &["qconvex"],
-        "3\n1\n5 5 0.5\n",
-        99,
-        1,
-        "",
-        "qconvex: 2: BadNumber at line 3\n",
-    ),
-    (
-        &["qconvex", "--from", "off", "rank"],
-        "OFF\n1 1 0\n5 5 5\n1 0\n",
-        99,
-        0,
-        "1 1 0\n",
-        "",
-    ),
-    (
-        &["qconvex", "--from=off"],
-        ONE_POINT,
-        99,
-        1,
-        "",
-        "qconvex: 14: NotOff\n",
-    ),
-    (
-        &["qconvex", "off", "--workers", "2", "s", "--block=3"],
-        SQUARE,
-        999,
-        0,
-        SQUARE_OFF_AND_SUMMARY,
-        "",
-    ),
-    (
-        &["qconvex", "--", "offt"],
-        SQUARE,
-        99,
-        0,
-        "OFF\n4 2 5\n0 0 0\n2 0 0\n2 2 0\n0 2 0\n3 0 1 2\n3 0 2 3\n",
-        "",
-    ),
-    (&["qconvex", "--help"], "", 9999, 0, HELP, ""),
-    (&["qconvex", "--version"], "", 99, 0, VERSION, ""),
-    (&["qconvex", "-h"], "", 9, 4, "", "qconvex: 11: Send\n"),
-    (
-        &["qconvex", "--workers", "0"],
-        ONE_POINT,
-        99,
-        2,
-        "",
-        "qconvex: 12: Usage\n",
-    ),
-    (
-        &["qconvex", "rank"],
-        ONE_POINT,
-        5,
-        4,
-        "",
-        "qconvex: 11: Send\n",
-    ),
+const RUNS: [(&[&str], &str, usize, u8, &str, &str); 13] = table![
+    (&["qconvex", "rank"], ONE_POINT, 99, 0, "1 1 0\n", "");
+    (&["qconvex", "rank", "Fx"], ONE_POINT, 99, 0, "1 1 0\n1\n0\n", "");
+    (&["qconvex", "off"], "3\n1\n5 5\n", 99, 1, "", "qconvex: 7: Short\n");
+    (&["qconvex"], "3\n1\n5 5 0.5\n", 99, 1, "", "qconvex: 2: BadNumber at line 3\n");
+    (&["qconvex", "--from", "off", "rank"], "OFF\n1 1 0\n5 5 5\n1 0\n", 99, 0, "1 1 0\n", "");
+    (&["qconvex", "--from=off"], ONE_POINT, 99, 1, "", "qconvex: 14: NotOff\n");
+    (&["qconvex", "off", "--workers", "2", "s", "--block=3"], SQUARE, 999, 0, SQUARE_OFF_AND_SUMMARY, "");
+    (&["qconvex", "--", "offt"], SQUARE, 99, 0, "OFF\n4 2 5\n0 0 0\n2 0 0\n2 2 0\n0 2 0\n3 0 1 2\n3 0 2 3\n", "");
+    (&["qconvex", "--help"], "", 9999, 0, HELP, "");
+    (&["qconvex", "--version"], "", 99, 0, VERSION, "");
+    (&["qconvex", "-h"], "", 9, 4, "", "qconvex: 11: Send\n");
+    (&["qconvex", "--workers", "0"], ONE_POINT, 99, 2, "", "qconvex: 12: Usage\n");
+    (&["qconvex", "rank"], ONE_POINT, 5, 4, "", "qconvex: 11: Send\n");
 ];
 
 /// Returns the exit status for these words and this input, and whether standard output and standard error received the
