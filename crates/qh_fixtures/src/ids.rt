@@ -5,6 +5,9 @@ ghost use Rattle.qh_model.specs.contract.IdSets.{AreIndices};
 use qh_model::{Id, Memory, Point};
 use std::alloc::Global;
 
+/// The numbers of eight points.
+pub const EIGHT: [u32; 8] = [0, 1, 2, 3, 4, 5, 6, 7];
+
 /// Returns true if the ids have these numbers, in this order.
 pub fn are(ids: &[Id], numbers: &[u32]) -> bool {
     ids.len() == numbers.len()

@@ -16,6 +16,15 @@ pub fn point(x: i32, y: i32, z: i32) -> Point {
     )
 }
 
+/// Returns the point with all coordinates multiplied by a factor, clamped to the limit.
+pub fn times(p: Point, factor: i32) -> Point {
+    point(
+        p.x().wrapping_mul(factor),
+        p.y().wrapping_mul(factor),
+        p.z().wrapping_mul(factor),
+    )
+}
+
 /// The points with these coordinates, as `points_at![0 0 0, -1 2 0]`.
 #[macro_export]
 macro_rules! points_at {

@@ -1,9 +1,9 @@
 //! Hulls of few ids by parts, compared with those of one thread.
 use qh_block::hull;
-use qh_fixtures::Host;
 use qh_fixtures::ids::ids_of;
 use qh_fixtures::points::{cube, octahedron, square};
-use qh_model::{Body, Id, Memory, Point};
+use qh_fixtures::{Host, table};
+use qh_model::{Body, Memory, Point};
 use qh_parts::{Parting, Seams, hull_by_parts, hull_in_parts};
 use std::alloc::Global;
 use std::test::Fail;
@@ -42,83 +42,57 @@ const CUBE: Told = Told {
 
 /// An octahedron: six corners, eight triangles.
 const OCTAHEDRON: Told = Told {
-    dim: 3,
     extremes: 6,
     faces: 8,
-    edges: 12,
+    ..CUBE
 };
 
-/// Returns the properties of the hull of points by `parts` parts; `None` if the attempt fails.
+/// Returns the hull of points by `parts` parts; `None` if the attempt fails.
 fn by_parts(
     rt: &impl Host,
-    alloc: Global,
     pts: &[Point],
+    threads: u32,
     parts: usize,
     seams: Seams,
-) -> Result<Option<Told>, Memory> {
-    let ids = ids_of(alloc, pts, &NUMBERS)?;
-    match hull_by_parts(rt, alloc, pts, &ids, 2, Parting { parts, seams })? {
-        Some(body) => Ok(Some(Told::of(&body))),
-        None => Ok(None),
-    }
+) -> Result<Option<Body>, Memory> {
+    let ids = ids_of(rt.alloc(), pts, &NUMBERS)?;
+    hull_by_parts(rt, rt.alloc(), pts, &ids, threads, Parting { parts, seams })
 }
 
 #[test]
 fn parts_are_joined_where_they_are_solid(rt: HostRuntime) -> Result<(), Fail> {
     let (cube, octahedron, square) = (cube(0, 1), octahedron(), square());
-    for (pts, parts, seams, wanted) in [
-        (cube.as_slice(), 2, Seams::Always, Some(CUBE)),
-        // Each part has one or two ids.
-        (octahedron.as_slice(), 16, Seams::Always, Some(OCTAHEDRON)),
-        // The few corners of all parts have one hull.
-        (
-            octahedron.as_slice(),
-            3,
-            Seams::WhereTheyPay,
-            Some(OCTAHEDRON),
-        ),
-        // No part is solid.
-        (square.as_slice(), 2, Seams::Always, None),
+    // Each of 16 parts has one or two ids. The few corners of 3 parts have one hull. No part of the square is solid.
+    for (pts, parts, seams, wanted) in table![
+        (cube.as_slice(), 2, Seams::Always, Some(CUBE));
+        (octahedron.as_slice(), 16, Seams::Always, Some(OCTAHEDRON));
+        (octahedron.as_slice(), 3, Seams::WhereTheyPay, Some(OCTAHEDRON));
+        (square.as_slice(), 2, Seams::Always, None);
     ] {
-        let found = by_parts(&rt, rt.alloc(), pts, parts, seams)?;
+        let found = by_parts(&rt, pts, 2, parts, seams)?.map(|body| Told::of(&body));
         assert_eq!(rt; found, wanted, "{parts} parts");
     }
     Ok(())
 }
 
-/// Returns true if two lists of ids are equal.
-fn are_same(ids: &[Id], others: &[Id]) -> bool {
-    ids == others
-}
-
-/// Returns true if the faces of points by parts are those of one thread, in the same order.
-fn has_same_faces(rt: &impl Host, alloc: Global, pts: &[Point]) -> Result<bool, Memory> {
+/// Returns the hull of points by one thread; `None` if there are no points.
+fn whole(alloc: Global, pts: &[Point]) -> Result<Option<Body>, Memory> {
     let ids = ids_of(alloc, pts, &NUMBERS)?;
-    if ids.len() == 0 {
-        return Ok(false);
+    if ids.is_empty() {
+        return Ok(None);
     }
-    let whole = hull(alloc, pts, &ids)?;
-    let parting = Parting {
-        parts: 4,
-        seams: Seams::Always,
-    };
-    let Some(body) = hull_by_parts(rt, alloc, pts, &ids, 3, parting)? else {
-        return Ok(false);
-    };
-    Ok(
-        body.polygons.len() == whole.polygons.len()
-            && body
-                .polygons
-                .iter()
-                .zip(&whole.polygons)
-                .all(|(polygon, other)| are_same(polygon.ids(), other.ids())),
-    )
+    Ok(Some(hull(alloc, pts, &ids)?))
 }
 
 #[test]
 fn joined_faces_stand_in_order(rt: HostRuntime) -> Result<(), Fail> {
-    let same = has_same_faces(&rt, rt.alloc(), &octahedron())?;
-    assert!(rt; same);
+    let pts = octahedron();
+    let whole = whole(rt.alloc(), &pts)?.ok_or("no points")?;
+    let joined = by_parts(&rt, &pts, 3, 4, Seams::Always)?.ok_or("no parts")?;
+    assert_eq!(rt; joined.polygons.len(), whole.polygons.len());
+    for (polygon, other) in joined.polygons.iter().zip(&whole.polygons) {
+        assert!(rt; polygon.ids() == other.ids());
+    }
     Ok(())
 }
 

@@ -18,9 +18,6 @@ const SHARED: [u32; 4] = [0, 3, 5, 6];
 /// The other corners of each part.
 const OWN: [[u32; 2]; 2] = [[1, 2], [4, 7]];
 
-/// All corners.
-const ALL: [u32; 8] = [0, 1, 2, 3, 4, 5, 6, 7];
-
 /// The parts of the cube, and the ids that belong to both.
 #[derive(Drop)]
 struct Halves {

@@ -1,5 +1,5 @@
 //! Rows of eight points of a square, and of repeated points.
-use qh_fixtures::ids::{are, ids_of};
+use qh_fixtures::ids::{EIGHT, are, ids_of};
 use qh_fixtures::{Host, points_at};
 use qh_model::{Id, Memory, POINT_LIMIT, Point, Polygon};
 use qh_plane::{distinct, distinct_alone};
@@ -22,9 +22,6 @@ fn assert_ids(rt: &impl Host, ids: &[Id], numbers: &[u32]) {
 fn square() -> [Point; 8] {
     points_at![0 0 0, 1 0 0, 2 0 0, 2 1 0, 2 2 0, 1 1 0, 0 2 0, 0 1 0]
 }
-
-/// The numbers of all eight points.
-const ALL_EIGHT: [u32; 8] = [0, 1, 2, 3, 4, 5, 6, 7];
 
 /// Returns the distinct ids of points, found by threads, if they are those that the calling thread finds alone.
 fn distinct_ids(rt: &impl Host, alloc: Global, pts: &[Point]) -> Result<Option<Vec<Id>>, Memory> {
@@ -76,7 +73,7 @@ fn assert_polygons(
 fn polygons(rt: HostRuntime) -> Result<(), Fail> {
     let pts = square();
     let up = cross(pts[0], pts[1], pts[7]);
-    assert_polygons(&rt, &pts, &ALL_EIGHT, &up, [&[0, 2, 4, 6], &[0, 6, 4, 2]])
+    assert_polygons(&rt, &pts, &EIGHT, &up, [&[0, 2, 4, 6], &[0, 6, 4, 2]])
 }
 
 #[test]
@@ -100,7 +97,7 @@ fn assert_shape(rt: &impl Host, pts: &[Point], numbers: &[u32], wanted: Shape) -
 fn shapes(rt: HostRuntime) -> Result<(), Fail> {
     let pts = square();
     let [a, b, c, d] = [0, 1, 3, 4].map(Id::new);
-    assert_shape(&rt, &pts, &ALL_EIGHT, Shape::Flat(a, b, c))?;
+    assert_shape(&rt, &pts, &EIGHT, Shape::Flat(a, b, c))?;
     assert_shape(&rt, &pts, &[3], Shape::Point(c))?;
     assert_shape(&rt, &pts, &[0, 4, 5], Shape::Segment(a, d))
 }

@@ -1,9 +1,8 @@
 //! Worked rows: surfaces of an octahedron with points inside, and of a cube, whose triangles lie in planes in pairs.
-use super::EIGHT;
 use super::surfaces::TRIANGLES;
 use qh_check::convex::is_sharp_surface;
 use qh_fixtures::faces::polygons_of;
-use qh_fixtures::ids::ids_of;
+use qh_fixtures::ids::{EIGHT, ids_of};
 use qh_fixtures::points::cube;
 use qh_fixtures::{faces_of, points_at};
 use qh_model::{Memory, Point};

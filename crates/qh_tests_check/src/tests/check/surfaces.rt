@@ -1,8 +1,7 @@
 //! Worked rows: surfaces of a cube in pieces, and the faults of others.
-use super::EIGHT;
 use qh_check::{ClaimedPolygons, FaceFault, SurfaceVerdict, check_surface};
 use qh_fixtures::faces::{CUBE_FACES, polygons_of};
-use qh_fixtures::ids::ids_of;
+use qh_fixtures::ids::{EIGHT, ids_of};
 use qh_fixtures::points::cube;
 use qh_fixtures::{Host, faces_of};
 use qh_model::{Id, Memory};

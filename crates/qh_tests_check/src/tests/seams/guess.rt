@@ -1,7 +1,7 @@
 //! The guesses for the cube.
-use super::{ALL, halves_of};
+use super::halves_of;
 use qh_fixtures::faces::{CUBE_FACES, polygons_of};
-use qh_fixtures::ids::ids_of;
+use qh_fixtures::ids::{EIGHT, ids_of};
 use qh_fixtures::points::cube;
 use qh_model::{Memory, Polygon};
 use qh_parts_guess::curve::{along_curve, shared_ids};
@@ -113,7 +113,7 @@ fn no_face_has_a_diagonal(rt: HostRuntime) -> Result<(), Fail> {
 #[test]
 fn first_four_shared_corners_are_solid(rt: HostRuntime) -> Result<(), Fail> {
     let pts = cube(0, 1);
-    let ids = ids_of(rt.alloc(), &pts, &ALL)?;
+    let ids = ids_of(rt.alloc(), &pts, &EIGHT)?;
     let shared = shared_ids(rt.alloc(), &pts, &ids)?.ok_or("a plane")?;
     let [i, j, k, l, ..] = shared.as_slice() else {
         return Err(Fail::from("fewer than four"));
@@ -128,7 +128,7 @@ fn first_four_shared_corners_are_solid(rt: HostRuntime) -> Result<(), Fail> {
 #[test]
 fn the_curve_has_each_id_once(rt: HostRuntime) -> Result<(), Fail> {
     let pts = cube(0, 1);
-    let ids = ids_of(rt.alloc(), &pts, &ALL)?;
+    let ids = ids_of(rt.alloc(), &pts, &EIGHT)?;
     let listed = along_curve(&rt, rt.alloc(), &pts, &ids, &ids, 2)?;
     let rising = rising_ids(rt.alloc(), &listed)?;
     assert!(rt; listed.len() == 8 && rising.as_slice() == ids.as_slice());

@@ -3,12 +3,12 @@ ghost use Rattle.std.specs.Prelude.{◌<◌, length};
 ghost use Rattle.qh_mesh.specs.contract.Replacement.{IsLive};
 ghost use Rattle.qh_surface.specs.contract.NamedMeshes.{IsNamedMesh};
 
-use super::{ALL, Halves, halves_of};
+use super::{Halves, halves_of};
 use qh_block::PartedFaces;
 use qh_bodies::UnsortedFaces;
 use qh_fixtures::Host;
 use qh_fixtures::faces::{CUBE_FACES, are_round, polygons_of};
-use qh_fixtures::ids::ids_of;
+use qh_fixtures::ids::{EIGHT, ids_of};
 use qh_fixtures::points::cube;
 use qh_mesh::FacetNo;
 use qh_model::{Body, Id, Memory, Point};
@@ -159,9 +159,9 @@ fn kept_count(alloc: Global, numbers: &[u32]) -> Result<Option<usize>, Memory> {
 
 #[test]
 fn all_corners_of_the_cube_are_kept(rt: HostRuntime) -> Result<(), Fail> {
-    let count = kept_count(rt.alloc(), &ALL)?;
+    let count = kept_count(rt.alloc(), &EIGHT)?;
     assert!(rt; count == Some(8));
-    let more = kept_count(rt.alloc(), &ALL[..7])?;
+    let more = kept_count(rt.alloc(), &EIGHT[..7])?;
     assert!(rt; more.is_none());
     Ok(())
 }
