@@ -1,5 +1,5 @@
-//! Data that the tests of several libraries use: point files with their OFF files, sets of points, and ids and faces by
-//! number. The tests' macros and their bound are here, too.
+//! Data that the tests of several libraries use: point files with their OFF files, files with faults, sets of points, and
+//! ids and faces by number. The tests' macros and their bound are here, too.
 //!
 //! It has no tests of its own, so that test crates use it without proving it again.
 #![tactic(auto)]
