@@ -1,11 +1,9 @@
 //! Rows of points and their hulls, from the list of a cube in Geomview's OFF.
-use qh_fixtures::points::doubled_cube;
+use qh_fixtures::points::{doubled_cube, grid};
 use qh_hull::hull_alone;
 use qh_model::{Hull, Memory, POINT_LIMIT, Point};
 use std::alloc::Global;
 use std::test::Fail;
-
-mod large_sets;
 
 /// Returns the counts of a hull: its points, its distinct points, the dimension, its edges, extreme ids and faces.
 fn counts_of(hull: &Hull) -> (u32, u32, u8, u64, usize, usize) {
@@ -33,5 +31,16 @@ fn cube_with_each_corner_twice(rt: HostRuntime) -> Result<(), Fail> {
     let points = doubled_cube(rt.alloc())?;
     let hull = hull_of(rt.alloc(), &points)?;
     assert_eq!(rt; counts_of(&hull), (16, 8, 3, 12, 8, 6));
+    Ok(())
+}
+
+/// A set of more than two blocks, each of which has ids that are extreme there but not in the whole set.
+#[test]
+fn lattice_of_a_cube(rt: HostRuntime) -> Result<(), Fail> {
+    let points = grid(rt.alloc(), [51; 3])?;
+    let hull = hull_of(rt.alloc(), &points)?;
+    assert_eq!(rt; counts_of(&hull), (132651, 132651, 3, 12, 8, 6));
+    let last = hull.body.extremes.last().map(|id| id.number());
+    assert_eq!(rt; last, Some(132650));
     Ok(())
 }

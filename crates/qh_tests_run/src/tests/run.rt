@@ -4,14 +4,13 @@ ghost use Rattle.qh_board.specs.contract.Closings.{closed_setup};
 ghost use Rattle.qh_model.specs.headline.DistinctIds.{AreDistinctIds};
 
 use qh_board::{Board, BoardError, Closed, Mark};
+use qh_fixtures::Host;
 use qh_fixtures::points::{doubled_cube, grid, octahedron, paraboloid};
 use qh_model::{Cut, CutError, Hull, Id, POINT_LIMIT, Point};
 use qh_plane::distinct;
 use qh_run::{Job, NoGate, RunError, run_hull, work};
 use std::alloc::{AllocError, Global};
-use std::process::Abort;
 use std::test::Fail;
-use std::thread::Threads;
 
 mod finishes;
 mod refusals;
@@ -46,9 +45,8 @@ fn cuts_of(alloc: Global, count: u32) -> Result<Vec<Cut>, CutError> {
 
 /// Returns the hull of a list of points by a cut of its distinct ids; `None` if the cut has a different number of
 /// positions.
-fn hull_by<R: Threads + Sync>(
-    rt: &R,
-    alloc: Global,
+fn hull_by(
+    rt: &impl Host,
     points: &[Point],
     cut: &Cut,
     workers: u32,
@@ -56,12 +54,13 @@ fn hull_by<R: Threads + Sync>(
     if points.len() > POINT_LIMIT as usize {
         return Ok(None);
     }
-    let ids = distinct(rt, alloc, points)?;
+    let ids = distinct(rt, rt.alloc(), points)?;
     let (_, end) = cut.block(cut.blocks() - 1);
     if end as usize != ids.len() {
         return Ok(None);
     }
-    Ok(Some(run_hull(rt, alloc, points, &ids, cut, workers, &NoGate)?))
+    let hull = run_hull(rt, rt.alloc(), points, &ids, cut, workers, &NoGate)?;
+    Ok(Some(hull))
 }
 
 /// Appends the number of ids, and the ids.
@@ -136,12 +135,8 @@ fn one_pass_reduces_all_blocks(rt: HostRuntime) -> Result<(), Fail> {
 }
 
 /// Returns how one pass ends on 2,048 points in blocks of one size: the number of claims, and the mark.
-fn end_of<R: Threads + Sync>(
-    rt: &R,
-    alloc: Global,
-    points: &[Point],
-    size: u32,
-) -> Result<Option<(u64, Mark)>, BoardError> {
+fn end_of(rt: &impl Host, points: &[Point], size: u32) -> Result<Option<(u64, Mark)>, BoardError> {
+    let alloc = rt.alloc();
     if points.len() > POINT_LIMIT as usize {
         return Ok(None);
     }
@@ -157,13 +152,9 @@ fn end_of<R: Threads + Sync>(
 }
 
 /// Asserts how one pass ends on 2,048 points in blocks of each size.
-fn assert_ends<R: AllocGlobal + Abort + Threads + Sync>(
-    rt: &R,
-    points: &[Point],
-    rows: &[(u32, u64, Mark)],
-) -> Result<(), Fail> {
+fn assert_ends(rt: &impl Host, points: &[Point], rows: &[(u32, u64, Mark)]) -> Result<(), Fail> {
     for (size, claims, mark) in rows {
-        let end = end_of(rt, rt.alloc(), points, *size)?;
+        let end = end_of(rt, points, *size)?;
         assert_eq!(rt; end, Some((*claims, *mark)), "blocks of {size}");
     }
     Ok(())
@@ -192,14 +183,9 @@ fn gives_up_where_the_tree_does_not_pay(rt: HostRuntime) -> Result<(), Fail> {
 }
 
 /// Asserts the hull of a list of points by a cut, for every number of workers.
-fn assert_hull<R: AllocGlobal + Abort + Threads + Sync>(
-    rt: &R,
-    points: &[Point],
-    cut: &Cut,
-    want: &[usize],
-) -> Result<(), Fail> {
+fn assert_hull(rt: &impl Host, points: &[Point], cut: &Cut, want: &[usize]) -> Result<(), Fail> {
     for workers in [1, 2, 7, 64] {
-        let hull = hull_by(rt, rt.alloc(), points, cut, workers)?.ok_or("another cut")?;
+        let hull = hull_by(rt, points, cut, workers)?.ok_or("another cut")?;
         let numbers = numbers_of(rt.alloc(), &hull)?;
         assert_eq!(rt; numbers.as_slice(), want, "{workers} workers, {cut:?}");
     }
@@ -224,24 +210,18 @@ fn has_one_hull_of_a_doubled_cube(rt: HostRuntime) -> Result<(), Fail> {
     Ok(())
 }
 
-/// Asserts that numbers of workers that are out of range are refused.
-fn assert_refused<R: AllocGlobal + Abort + Threads + Sync>(
-    rt: &R,
-    points: &[Point],
-    cut: &Cut,
-) -> Result<(), Fail> {
-    for workers in [0, 65, 4294967295] {
-        let refused = hull_by(rt, rt.alloc(), points, cut, workers).err();
-        assert_eq!(rt; refused, Some(RunError::BadWorkers), "{workers} workers");
-    }
-    Ok(())
-}
-
 #[test]
 fn refuses_no_workers_and_too_many(rt: HostRuntime) -> Result<(), Fail> {
     let points = octahedron();
     for cut in &cuts_of(rt.alloc(), 18)? {
-        assert_refused(&rt, &points, cut)?;
+        for workers in [0, 65, 4294967295] {
+            let refused = hull_by(&rt, &points, cut, workers).err();
+            assert_eq!(rt;
+                refused,
+                Some(RunError::BadWorkers),
+                "{workers} workers, {cut:?}"
+            );
+        }
     }
     Ok(())
 }

@@ -7,15 +7,14 @@ ghost use Rattle.qh_model.specs.headline.DistinctIds.{AreDistinctIds};
 use super::finishes::Finishes;
 use super::{OCTAHEDRON_HULL, hull_by, job, numbers_of, worked_by_one};
 use qh_board::{BoardError, Mark};
-use qh_fixtures::again;
+use qh_fixtures::ids::are;
 use qh_fixtures::points::{cube, octahedron, paraboloid, square};
+use qh_fixtures::{Host, again};
 use qh_model::{Cut, CutError, Hull, Id, Memory, POINT_LIMIT, Point};
 use qh_plane::distinct;
 use qh_run::{RunError, run_hull};
 use std::alloc::{AllocError, Global};
-use std::process::Abort;
 use std::test::Fail;
-use std::thread::Threads;
 
 /// The hulls of the square and of the cube, as `numbers_of` returns them.
 const SQUARE_HULL: [usize; 14] = [5, 5, 2, 4, 4, 0, 1, 2, 3, 4, 0, 1, 2, 3];
@@ -26,16 +25,13 @@ const CUBE_HULL: [usize; 43] = [
 ];
 
 /// Returns the hull. Repeats the call if an allocation failed.
-fn hull_again<R: AllocGlobal + Threads + Sync>(
-    rt: &R,
+fn hull_again(
+    rt: &impl Host,
     points: &[Point],
     cut: &Cut,
     workers: u32,
 ) -> Result<Option<Hull>, RunError> {
-    again!(
-        hull_by(rt, rt.alloc(), points, cut, workers),
-        RunError::Memory
-    )
+    again!(hull_by(rt, points, cut, workers), RunError::Memory)
 }
 
 /// Returns the even cut. Repeats the call if an allocation failed.
@@ -48,8 +44,8 @@ fn cut_again(alloc: Global, m: u32, size: u32) -> Result<Cut, CutError>
 
 /// Returns true if the hull of a list of points by the even cut of its positions has these numbers. Repeats each call
 /// if an allocation failed.
-fn comes_out_right<R: AllocGlobal + Threads + Sync>(
-    rt: &R,
+fn comes_out_right(
+    rt: &impl Host,
     points: &[Point],
     size: u32,
     workers: u32,
@@ -98,16 +94,7 @@ fn found_by_one(alloc: Global, points: &[Point], ids: &[Id], cut: &Cut) -> Resul
     let mark = closed.mark(0);
     Ok(match closed.into_root() {
         None if mark == Mark::GaveUp => Found::GaveUp,
-        Some(root) if mark == Mark::Left => {
-            let numbers = [0u32, 2, 3, 5, 6, 9];
-            let is_right = root.ids.len() == 6
-                && root
-                    .ids
-                    .iter()
-                    .zip(numbers)
-                    .all(|(id, number)| id.number() == number);
-            if is_right { Found::Right } else { Found::Wrong }
-        }
+        Some(root) if mark == Mark::Left && are(&root.ids, &[0, 2, 3, 5, 6, 9]) => Found::Right,
         _ => Found::Wrong,
     })
 }
@@ -116,7 +103,7 @@ fn found_by_one(alloc: Global, points: &[Point], ids: &[Id], cut: &Cut) -> Resul
 fn a_worker_gives_up(rt: HostRuntime) -> Result<(), Fail> {
     let alloc = rt.alloc();
     let points = octahedron();
-    let ids = ids_again(&rt, alloc, &points)?;
+    let ids = ids_again(&rt, &points)?;
     let cut = cut_again(alloc, 18, 3)?;
     let found = match found_by_one(alloc, &points, &ids, &cut) {
         Err(BoardError::Memory) | Ok(Found::GaveUp) => found_by_one(alloc, &points, &ids, &cut)?,
@@ -127,18 +114,17 @@ fn a_worker_gives_up(rt: HostRuntime) -> Result<(), Fail> {
 }
 
 /// Returns the distinct ids of some points. Repeats the call if an allocation failed.
-fn ids_again<R: Threads + Sync>(rt: &R, alloc: Global, points: &[Point]) -> Result<Vec<Id>, Memory>
+fn ids_again(rt: &impl Host, points: &[Point]) -> Result<Vec<Id>, Memory>
     requires few { length points.now ≤ POINT_LIMIT }
     ensures { IfOk result (λ ids. AreDistinctIds points.now ids.items) }
 {
-    again!(distinct(rt, alloc, points), Memory)
+    again!(distinct(rt, rt.alloc(), points), Memory)
 }
 
 /// Returns how often a run over a cut of some points calls the gate's `finish`, and with how many ids at last, whether
 /// the run succeeds or not.
-fn finishes_of<R: Threads + Sync>(
-    rt: &R,
-    alloc: Global,
+fn finishes_of(
+    rt: &impl Host,
     points: &[Point],
     cut: &Cut,
     workers: u32,
@@ -146,13 +132,13 @@ fn finishes_of<R: Threads + Sync>(
     if points.len() > POINT_LIMIT as usize {
         return Err("too many points".into());
     }
-    let ids = ids_again(rt, alloc, points)?;
+    let ids = ids_again(rt, points)?;
     let (_, end) = cut.block(cut.blocks() - 1);
     if end as usize != ids.len() {
         return Err("another cut".into());
     }
     let gate = Finishes::new();
-    let _ = run_hull(rt, alloc, points, &ids, cut, workers, &gate);
+    let _ = run_hull(rt, rt.alloc(), points, &ids, cut, workers, &gate);
     Ok((gate.calls(), gate.ids()))
 }
 
@@ -161,7 +147,7 @@ fn finishes_once(rt: HostRuntime) -> Result<(), Fail> {
     let octahedron = octahedron();
     let cut = cut_again(rt.alloc(), 18, 3)?;
     for workers in [1, 2, 7] {
-        let (calls, _) = finishes_of(&rt, rt.alloc(), &octahedron, &cut, workers)?;
+        let (calls, _) = finishes_of(&rt, &octahedron, &cut, workers)?;
         assert_eq!(rt; calls, 1, "{workers} workers");
     }
     Ok(())
@@ -172,7 +158,7 @@ fn finishes_with_all_ids_if_a_pass_gives_up(rt: HostRuntime) -> Result<(), Fail>
     let points = again!(paraboloid(rt.alloc(), 64, 32), AllocError)?;
     let cut = cut_again(rt.alloc(), 2048, 512)?;
     for workers in [1, 2, 7] {
-        let found = finishes_of(&rt, rt.alloc(), &points, &cut, workers)?;
+        let found = finishes_of(&rt, &points, &cut, workers)?;
         assert_eq!(rt; found, (1, 2048), "{workers} workers");
     }
     Ok(())
