@@ -24,10 +24,7 @@ fn counted(list: &[u32]) -> Option<usize> {
 
 /// Returns `counted` of the root's value, if there is one.
 fn counted_root(closed: Closed<Numbers>) -> Option<Option<usize>> {
-    match closed.into_root() {
-        Some(root) => Some(counted(&root)),
-        None => None,
-    }
+    closed.into_root().map(|root| counted(&root))
 }
 
 /// Returns how many passes of a board left.

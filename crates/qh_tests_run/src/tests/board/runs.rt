@@ -118,13 +118,7 @@ fn blocks_got(alloc: Global, met: &[Met]) -> Result<Vec<u32>, AllocError> {
 
 /// Returns the number of roots that passes published.
 fn roots_of(met: &[Met]) -> usize {
-    let mut roots = 0usize;
-    for met in met {
-        if *met == Met::Root {
-            roots = roots.saturating_add(1);
-        }
-    }
-    roots
+    met.iter().filter(|met| **met == Met::Root).count()
 }
 
 /// Asserts that no block was got twice. Asserts that, if all blocks were claimed and every pass left, all were got and

@@ -20,14 +20,10 @@ impl Finishes {
         }
     }
 
-    /// Returns the number of calls of `finish`.
-    pub fn calls(&self) -> u64 {
-        self.calls.load(Ordering::SeqCst)
-    }
-
-    /// Returns the number of ids that the last call was given.
-    pub fn ids(&self) -> u64 {
-        self.ids.load(Ordering::SeqCst)
+    /// Returns the number of calls of `finish`, and the number of ids that the last call was given.
+    pub fn counts(&self) -> (u64, u64) {
+        let calls = self.calls.load(Ordering::SeqCst);
+        (calls, self.ids.load(Ordering::SeqCst))
     }
 }
 

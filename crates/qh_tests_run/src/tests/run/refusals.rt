@@ -139,7 +139,7 @@ fn finishes_of(
     }
     let gate = Finishes::new();
     let _ = run_hull(rt, rt.alloc(), points, &ids, cut, workers, &gate);
-    Ok((gate.calls(), gate.ids()))
+    Ok(gate.counts())
 }
 
 #[test]
