@@ -23,22 +23,9 @@ fn words(alloc: Global, line: &str) -> Result<Vec<String>, AllocError> {
     Ok(words)
 }
 
-/// The result for a line, if no allocation fails.
-#[derive(Drop)]
-enum Judged {
-    Accepted(Settings),
-    Helped(String),
-    Refused,
-}
-
-/// Returns the result for a line.
-fn judge(alloc: Global, line: &str) -> Result<Judged, AllocError> {
-    match settings_of(alloc, words(alloc, line)?) {
-        Ok(settings) => Ok(Judged::Accepted(settings)),
-        Err(ArgFault::Help(text)) => Ok(Judged::Helped(text)),
-        Err(ArgFault::Usage) => Ok(Judged::Refused),
-        Err(ArgFault::Memory) => Err(AllocError),
-    }
+/// Returns the settings of a line, or why there are none.
+fn judge(alloc: Global, line: &str) -> Result<Result<Settings, ArgFault>, AllocError> {
+    Ok(settings_of(alloc, words(alloc, line)?))
 }
 
 /// Lines that are refused.
@@ -68,7 +55,7 @@ const ACCEPTED: [(&str, Numbers); 12] = table![
 fn refuses_lines(rt: HostRuntime) -> Result<(), Fail> {
     for line in &REFUSED {
         let judged = judge(rt.alloc(), line)?;
-        assert!(rt; matches!(judged, Judged::Refused), "at {line}");
+        assert!(rt; matches!(judged, Err(ArgFault::Usage)), "at {line}");
     }
     Ok(())
 }
@@ -78,7 +65,7 @@ type Numbers = (u32, u32, usize, Form);
 
 /// Asserts the settings of a line.
 fn assert_accepted<R: AllocGlobal + Abort>(rt: &R, line: &str, want: Numbers) -> Result<(), Fail> {
-    let Judged::Accepted(settings) = judge(rt.alloc(), line)? else {
+    let Ok(settings) = judge(rt.alloc(), line)? else {
         return Err("the line is a command line".into());
     };
     let outs = settings.outs().len();
@@ -105,7 +92,7 @@ const HELPED: [&str; 17] = table![
 
 /// Asserts that a line is answered with this text.
 fn assert_helped<R: AllocGlobal + Abort>(rt: &R, line: &str, wanted: &str) -> Result<(), Fail> {
-    let Judged::Helped(text) = judge(rt.alloc(), line)? else {
+    let Err(ArgFault::Help(text)) = judge(rt.alloc(), line)? else {
         return Err("the line asks for a text".into());
     };
     assert_eq!(rt; text.as_str(), wanted, "at {line}");

@@ -4,7 +4,6 @@ use crate::help::{HELP, VERSION};
 use crate::system::start;
 use std::process::ExitCode;
 use std::test::Fail;
-use std::thread::Threads;
 
 const ONE_POINT: &str = "3\n1\n5 5 5\n";
 
@@ -32,34 +31,19 @@ const RUNS: [(&[&str], &str, usize, u8, &str, &str); 13] = table![
     (&["qconvex", "rank"], ONE_POINT, 5, 4, "", "qconvex: 11: Send\n");
 ];
 
-/// Returns the exit status for these words and this input, and whether standard output and standard error received the
-/// expected texts.
-fn outcome<'a, R: AllocGlobal + Threads + Sync>(
-    rt: &R,
-    words: &'a [&'a str],
-    input: &'a str,
-    output: Stream<'a>,
-    error: Stream<'a>,
-) -> (ExitCode, bool, bool) {
-    let stand_in = StandIn {
-        rt,
-        words,
-        input: input.as_bytes(),
-        output,
-        error,
-    };
-    let code = start(&stand_in);
-    (code, stand_in.output.is_whole(), stand_in.error.is_whole())
-}
-
 #[test]
 fn runs(rt: HostRuntime) -> Result<(), Fail> {
     for (words, input, room, status, wanted, line) in RUNS {
-        let output = Stream::new(wanted.as_bytes(), room);
-        let error = Stream::new(line.as_bytes(), 99);
-        let outcome = outcome(&rt, words, input, output, error);
-        let want = (ExitCode::from(status), true, true);
-        assert_eq!(rt; outcome, want, "at {words:?}");
+        let stand_in = StandIn {
+            rt: &rt,
+            words,
+            input: input.as_bytes(),
+            output: Stream::new(wanted.as_bytes(), room),
+            error: Stream::new(line.as_bytes(), 99),
+        };
+        let code = start(&stand_in);
+        let found = (code, stand_in.output.is_whole(), stand_in.error.is_whole());
+        assert_eq!(rt; found, (ExitCode::from(status), true, true), "at {words:?}");
     }
     Ok(())
 }
