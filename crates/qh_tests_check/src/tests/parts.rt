@@ -11,41 +11,24 @@ use std::test::Fail;
 /// The ids of a set, of which a test uses the first ones.
 const NUMBERS: [u32; 18] = [0, 1, 2, 3, 4, 5, 6, 7, 8, 9, 10, 11, 12, 13, 14, 15, 16, 17];
 
-/// The properties of a hull that the tests compare.
-#[derive(Clone, Copy, Debug, PartialEq, Eq, Drop)]
-struct Told {
-    dim: u8,
-    extremes: usize,
-    faces: usize,
-    edges: u64,
-}
+/// The properties of a hull that the tests compare: its dimension, and the numbers of extreme ids, faces and edges.
+type Told = (u8, usize, usize, u64);
 
-impl Told {
-    /// Returns the properties of a hull.
-    fn of(body: &Body) -> Told {
-        Told {
-            dim: body.dim,
-            extremes: body.extremes.len(),
-            faces: body.polygons.len(),
-            edges: body.edges,
-        }
-    }
+/// Returns the properties of a hull.
+fn told(body: &Body) -> Told {
+    (
+        body.dim,
+        body.extremes.len(),
+        body.polygons.len(),
+        body.edges,
+    )
 }
 
 /// A cube: eight corners, six squares.
-const CUBE: Told = Told {
-    dim: 3,
-    extremes: 8,
-    faces: 6,
-    edges: 12,
-};
+const CUBE: Told = (3, 8, 6, 12);
 
 /// An octahedron: six corners, eight triangles.
-const OCTAHEDRON: Told = Told {
-    extremes: 6,
-    faces: 8,
-    ..CUBE
-};
+const OCTAHEDRON: Told = (3, 6, 8, 12);
 
 /// Returns the hull of points by `parts` parts; `None` if the attempt fails.
 fn by_parts(
@@ -69,7 +52,7 @@ fn parts_are_joined_where_they_are_solid(rt: HostRuntime) -> Result<(), Fail> {
         (octahedron.as_slice(), 3, Seams::WhereTheyPay, Some(OCTAHEDRON));
         (square.as_slice(), 2, Seams::Always, None);
     ] {
-        let found = by_parts(&rt, pts, 2, parts, seams)?.map(|body| Told::of(&body));
+        let found = by_parts(&rt, pts, 2, parts, seams)?.map(|body| told(&body));
         assert_eq!(rt; found, wanted, "{parts} parts");
     }
     Ok(())
@@ -102,6 +85,6 @@ fn few_ids_are_not_parted(rt: HostRuntime) -> Result<(), Fail> {
     let ids = ids_of(rt.alloc(), &pts, &NUMBERS)?;
     assert!(rt; ids.len() == 8);
     let body = hull_in_parts(&rt, rt.alloc(), &pts, &ids, 4)?;
-    assert!(rt; Told::of(&body) == CUBE);
+    assert!(rt; told(&body) == CUBE);
     Ok(())
 }

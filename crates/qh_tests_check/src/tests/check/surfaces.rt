@@ -16,15 +16,6 @@ pub const TRIANGLES: [&[u32]; 12] = faces_of![
 /// The faces of a cube in any order, each from any corner.
 const TURNED_FACES: [&[u32]; 6] = faces_of![6 7 5 4, 3 2 0 1, 1 5 7 3, 4 0 2 6, 2 3 7 6, 5 1 0 4];
 
-/// A triangle of a cube, seen from inside.
-const INWARD: [&[u32]; 1] = [&[0, 6, 2]];
-
-/// Two corners of a cube.
-const EDGE: [&[u32]; 1] = [&[0, 1]];
-
-/// A face of a cube that returns to one of its corners.
-const BACK_TO_A_CORNER: [&[u32]; 1] = [&[0, 1, 3, 2, 1]];
-
 /// Returns the id that represents, in a row, any id that a verdict names.
 fn any() -> Id {
     Id::new(0)
@@ -87,19 +78,19 @@ fn surfaces_of_a_cube(rt: HostRuntime) -> Result<(), Fail> {
     assert_verdict(&rt, &TURNED_FACES, SurfaceVerdict::Right)
 }
 
-/// Returns the verdict that the first polygon is not a piece of a face, with this fault.
-fn first_is_no_piece(fault: FaceFault) -> SurfaceVerdict {
-    SurfaceVerdict::NoPiece(0, fault)
-}
-
 #[test]
 fn polygons_that_are_no_pieces(rt: HostRuntime) -> Result<(), Fail> {
-    assert_verdict(&rt, &INWARD, first_is_no_piece(FaceFault::Above(any())))?;
-    let back = first_is_no_piece(FaceFault::OtherFace);
-    assert_verdict(&rt, &BACK_TO_A_CORNER, back)?;
-    assert_verdict(&rt, &EDGE, first_is_no_piece(FaceFault::NoPlane))?;
-    let (few, no_plane) = ([0, 1, 2, 4, 5, 6, 7], first_is_no_piece(FaceFault::NoPlane));
-    assert_told(&rt, &few, &CUBE_FACES[..1], no_plane)
+    // A triangle seen from inside, a face that returns to one of its corners, and two corners.
+    let [inward, back, edge]: [&[u32]; 3] = faces_of![0 6 2, 0 1 3 2 1, 0 1];
+    for (face, fault) in [
+        (inward, FaceFault::Above(any())),
+        (back, FaceFault::OtherFace),
+        (edge, FaceFault::NoPlane),
+    ] {
+        assert_verdict(&rt, &[face], SurfaceVerdict::NoPiece(0, fault))?;
+    }
+    let no_plane = SurfaceVerdict::NoPiece(0, FaceFault::NoPlane);
+    assert_told(&rt, &[0, 1, 2, 4, 5, 6, 7], &CUBE_FACES[..1], no_plane)
 }
 
 #[test]

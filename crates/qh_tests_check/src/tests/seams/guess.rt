@@ -87,13 +87,10 @@ fn bridged(alloc: Global, go: &[&[u32]]) -> Result<Option<Vec<u32>>, Memory> {
 
 /// Returns true if the numbers of the corners of squares are exactly those of these squares, in any order.
 fn are_squares(found: &[u32], squares: &[&[u32]]) -> bool {
-    for square in squares {
-        let is_there = found.chunks(4).any(|part| part == *square);
-        if !is_there {
-            return false;
-        }
-    }
     found.len() == 16
+        && squares
+            .iter()
+            .all(|square| found.chunks(4).any(|part| part == *square))
 }
 
 #[test]
