@@ -176,14 +176,6 @@ fn read_cut(alloc: Global, form: Form, bytes: &[u8], at: usize) -> Result<Vec<Po
     reader.finish()
 }
 
-/// Feeds these bytes in pieces of this length, at least 1.
-fn feed_in_pieces(reader: &mut Reader, bytes: &[u8], length: usize) -> Result<(), FeedFault> {
-    for piece in bytes.chunks(length.max(1)) {
-        reader.feed(piece)?;
-    }
-    Ok(())
-}
-
 /// Returns the result of reading these bytes in pieces of this length, at least 1.
 fn read_in_pieces(
     alloc: Global,
@@ -192,6 +184,8 @@ fn read_in_pieces(
     length: usize,
 ) -> Result<Vec<Point>, ReadFault> {
     let mut reader = reader_of(alloc, form);
-    feed_in_pieces(&mut reader, bytes, length)?;
+    for piece in bytes.chunks(length.max(1)) {
+        reader.feed(piece)?;
+    }
     reader.finish()
 }
