@@ -23,7 +23,7 @@ fn words(alloc: Global, line: &str) -> Result<Vec<String>, AllocError> {
     Ok(words)
 }
 
-/// Returns the settings of a line, or why there are none.
+/// Returns the result of `settings_of` for a line.
 fn judge(alloc: Global, line: &str) -> Result<Result<Settings, ArgFault>, AllocError> {
     Ok(settings_of(alloc, words(alloc, line)?))
 }
