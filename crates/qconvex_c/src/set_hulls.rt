@@ -12,7 +12,7 @@ use crate::sizes::Sizes;
 use std::alloc::Global;
 
 /// Returns sizes that are all 0.
-fn no_sizes() -> Sizes
+pub fn no_sizes() -> Sizes
     ensures { result ≡ NO_SIZES }
 {
     Sizes {

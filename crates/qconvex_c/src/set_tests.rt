@@ -1,21 +1,8 @@
 //! Rows of many sets, with the lists of Geomview's OFF for a tetrahedron and a segment.
+use crate::set_hulls::no_sizes;
 use crate::{DONE, Given, NO_POINT, SetAnswer, Sizes, qconvex_hulls};
 use std::alloc::Global;
 use std::test::Fail;
-
-/// An answer that no set has.
-const UNTOLD: SetAnswer = SetAnswer {
-    code: 99,
-    sizes: Sizes {
-        points: 9,
-        distinct: 9,
-        dimension: 9,
-        extremes: 9,
-        faces: 9,
-        corners: 9,
-        edges: 9,
-    },
-};
 
 /// The extreme points of each set, by their positions in it, and unused room.
 const EXTREMES: [u32; 7] = [0, 1, 2, 3, 0, 1, 99];
@@ -46,7 +33,11 @@ fn points() -> [Given; 6] {
 /// Returns the codes and the numbers of faces of two sets and an empty set between them, and true if the buffers have
 /// the expected contents.
 fn hulls_of_sets(alloc: Global) -> ([u32; 4], [usize; 4], bool) {
-    let mut answers = [UNTOLD; 4];
+    let sizes = Sizes {
+        faces: 9,
+        ..no_sizes()
+    };
+    let mut answers = [SetAnswer { code: 99, sizes }; 4];
     let (mut extremes, mut offsets, mut corners) = ([99u32; 7], [99usize; 19], [99u32; 49]);
     let code = qconvex_hulls(
         alloc,

@@ -1,20 +1,8 @@
 //! Rows with expected values from outside: the lists of Geomview's OFF for a cube and a point.
+use crate::set_hulls::no_sizes;
 use crate::{DONE, Given, Sizes, qconvex_fans, qconvex_hull};
 use std::alloc::Global;
 use std::test::Fail;
-
-/// Returns sizes that are all 0.
-fn no_sizes() -> Sizes {
-    Sizes {
-        points: 0,
-        distinct: 0,
-        dimension: 9,
-        extremes: 0,
-        faces: 0,
-        corners: 0,
-        edges: 0,
-    }
-}
 
 /// Returns the corners of a cube, in rising order of their coordinates, and the first one twice.
 pub(crate) fn cube() -> [Given; 9] {
