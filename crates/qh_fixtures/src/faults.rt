@@ -3,10 +3,10 @@ use crate::table;
 use qh_model::ReadFault;
 
 /// A fault, its line, and files of which it is the first fault.
-pub type Row = (ReadFault, &'static str, &'static [&'static str]);
+pub type FaultRow = (ReadFault, &'static str, &'static [&'static str]);
 
 /// Point files. A byte order mark begins a comment there.
-pub const OF_POINT_FILES: [Row; 9] = table![
+pub const OF_POINT_FILES: [FaultRow; 9] = table![
     (ReadFault::NoHeader, "qconvex: 1: NoHeader", &["", "3", "2", "2\n", "points below\n"]);
     (ReadFault::BadNumber(1), "qconvex: 2: BadNumber at line 1", &["1.5 3\n", "4 4.0\n"]);
     // The last three have bytes next to the digits in ASCII.
@@ -34,7 +34,7 @@ pub const OF_POINT_FILES: [Row; 9] = table![
 ];
 
 /// OFF files. A byte order mark is a part of the first word there.
-pub const OF_OFF_FILES: [Row; 8] = table![
+pub const OF_OFF_FILES: [FaultRow; 8] = table![
     (ReadFault::NoHeader, "qconvex: 1: NoHeader", &[
         "", "# OFF\n", "OFF", "OFF\n1 1\n", "OFF\n0 1\n", "OFF\n1 2#3\n",
     ]);

@@ -1,8 +1,5 @@
 //! Tests of the public functions of qh_serve, and of the workers in runs of qh_run and qh_serve: the answers for
 //! settings and inputs, the parallel work of the workers, and the same text for every distribution of the work.
-//!
-//! They are in a separate crate so that checking the proofs of the libraries does not include them: a crate that
-//! contains tests is proved a second time with its tests.
 #![tactic(auto)]
 
 #[cfg(test)]

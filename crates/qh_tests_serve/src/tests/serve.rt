@@ -13,7 +13,8 @@ mod rows;
 mod solids;
 
 use crate::tests::outcomes::{Asked, Call, Told};
-use qh_fixtures::{Host, faults as file_faults};
+use qh_fixtures::Host;
+use qh_fixtures::faults::FaultRow;
 use qh_run::NoGate;
 use std::test::Fail;
 
@@ -50,7 +51,7 @@ fn assert_rows(rt: &impl Host, rows: &[(Asked, &str, &str)]) -> Result<(), Fail>
 }
 
 /// Asserts that each file of each row is refused with the row's line and status 1.
-fn assert_faults(rt: &impl Host, asked: Asked, rows: &[file_faults::Row]) -> Result<(), Fail> {
+fn assert_faults(rt: &impl Host, asked: Asked, rows: &[FaultRow]) -> Result<(), Fail> {
     for (_, line, files) in rows {
         for file in *files {
             assert_gives(rt, asked, file.as_bytes(), ("", line, 1))?;

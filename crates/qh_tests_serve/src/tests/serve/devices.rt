@@ -1,55 +1,47 @@
 //! Devices that fail: no device is called again after a failed call, and the output is a prefix of the text.
-ghost use Rattle.std.specs.Prelude.{◌<◌};
-
 use crate::tests::outcomes::OFF;
 use qh_fixtures::files::{CUBE, CUBE_OFF, ONE_POINT, TETRAHEDRON, TETRAHEDRON_OFF};
 use qh_fixtures::{Host, table};
 use qh_read::fakes::FailSource;
-use qh_read::{MemSource, ReadFault, Source};
+use qh_read::{ReadFault, Source};
 use qh_run::NoGate;
 use qh_serve::{Fault, serve};
+use qh_write::Sink;
 use qh_write::fakes::{FailSink, SinkPlan};
-use qh_write::{MemSink, Sink};
 use std::test::Fail;
 
 /// A plan that never fails.
 const FREE: SinkPlan = SinkPlan {
-    greatest_piece: 100,
-    room: 100,
+    greatest_piece: 999,
+    room: 999,
     failing_write: None,
     flush_fails: false,
 };
 
+/// The greatest number of bytes of a read, and the number of the read that fails.
+type Reads = (usize, Option<u64>);
+
+/// Reads that never fail.
+const FREE_READS: Reads = (999, None);
+
 /// The result of `serve`: its outcome, the bytes sent, and the numbers of failures of the source and of the sink.
 type Served<'a> = (Result<(), Fault>, &'a [u8], u64, u64);
 
-/// Asserts the result of `off` of an input with a plan of the source, and a sink that never fails.
-fn assert_read(
+/// Asserts the result of `off` of an input with a plan of the source, and one of the sink.
+fn assert_served(
     rt: &impl Host,
-    input: &[u8],
-    piece: usize,
-    failing_read: u64,
+    input: &str,
+    reads: Reads,
+    plan: SinkPlan,
     want: Served,
-) -> Result<(), Fail>
-    requires { 0 < piece }
-{
+) -> Result<(), Fail> {
+    let (greatest_piece, failing_read) = reads;
     let settings = OFF.settings(rt.alloc())?;
-    let mut source = FailSource::new(input, piece, Some(failing_read));
-    let mut sink = MemSink::new(rt.alloc());
-    let outcome = serve(rt, rt.alloc(), &mut source, &mut sink, &settings, &NoGate);
-    let served = (outcome, sink.bytes(), source.failures(), sink.failures());
-    assert_eq!(rt; served, want, "at read {failing_read}");
-    Ok(())
-}
-
-/// Asserts the result of `off` of an input with a plan of the sink.
-fn assert_written(rt: &impl Host, input: &[u8], plan: SinkPlan, want: Served) -> Result<(), Fail> {
-    let settings = OFF.settings(rt.alloc())?;
-    let mut source = MemSource::new(input);
+    let mut source = FailSource::new(input.as_bytes(), greatest_piece.max(1), failing_read);
     let mut sink = FailSink::new(rt.alloc(), plan);
     let outcome = serve(rt, rt.alloc(), &mut source, &mut sink, &settings, &NoGate);
     let served = (outcome, sink.bytes(), source.failures(), sink.failures());
-    assert_eq!(rt; served, want, "{plan:?}");
+    assert_eq!(rt; served, want, "{reads:?}, {plan:?}");
     Ok(())
 }
 
@@ -60,12 +52,12 @@ const UNREAD: Served<'static> = (Err(Fault::Read(ReadFault::Device)), &[], 1, 0)
 fn a_failing_source_sends_nothing(rt: HostRuntime) -> Result<(), Fail> {
     // One byte for each read: each of the 52 bytes and the end.
     for k in 1..54u64 {
-        assert_read(&rt, CUBE.as_bytes(), 1, k, UNREAD)?;
+        assert_served(&rt, CUBE, (1, Some(k)), FREE, UNREAD)?;
     }
     let all = (Ok(()), CUBE_OFF.as_bytes(), 0, 0);
-    assert_read(&rt, CUBE.as_bytes(), 1, 54, all)?;
+    assert_served(&rt, CUBE, (1, Some(54)), FREE, all)?;
     // The first read returns 4 bytes, the second fails.
-    assert_read(&rt, TETRAHEDRON.as_bytes(), 4, 2, UNREAD)
+    assert_served(&rt, TETRAHEDRON, (4, Some(2)), FREE, UNREAD)
 }
 
 #[test]
@@ -79,7 +71,7 @@ fn a_failing_sink_has_a_beginning(rt: HostRuntime) -> Result<(), Fail> {
             ..FREE
         };
         let want = (Err(Fault::Send), &text[..k - 1], 0, 1);
-        assert_written(&rt, TETRAHEDRON.as_bytes(), plan, want)?;
+        assert_served(&rt, TETRAHEDRON, FREE_READS, plan, want)?;
     }
     Ok(())
 }
@@ -94,7 +86,7 @@ fn the_worked_failures(rt: HostRuntime) -> Result<(), Fail> {
     ];
     for (input, plan, sent) in rows {
         let want = (Err(Fault::Send), sent.as_bytes(), 0, 1);
-        assert_written(&rt, input.as_bytes(), plan, want)?;
+        assert_served(&rt, input, FREE_READS, plan, want)?;
     }
     Ok(())
 }

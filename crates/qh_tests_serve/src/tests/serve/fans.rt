@@ -20,10 +20,7 @@ const ROWS: [(Asked, &str, &str); 10] = table![
     (OFFT, "3 2\n0 0 0\n2 2 2\n", "OFF\n2 1 1\n0 0 0\n2 2 2\n2 0 1\n");
     (OFFT, SQUARE, SQUARE_OFFT);
     (
-        Asked {
-            outs: &[Out::Off, Out::OffTriangles, Out::Rank],
-            ..SUMMARY
-        },
+        Asked { outs: &[Out::Off, Out::OffTriangles, Out::Rank], ..SUMMARY },
         "3\n4\n5 0 0\n5 0 2\n5 2 2\n5 2 0\n",
         "OFF\n4 1 4\n5 0 0\n5 0 2\n5 2 2\n5 2 0\n4 0 3 2 1\nOFF\n4 2 5\n5 0 0\n5 0 2\n5 2 2\n5 2 0\n3 0 3 2\n3 0 2 1\n4 4 2\n",
     );

@@ -1,8 +1,8 @@
 //! Files with faults, and the lines that report them.
 use super::assert_faults;
-use crate::tests::outcomes::{OFF, RANK, Told, refusal};
+use crate::tests::outcomes::{OFF, RANK, refusal};
 use qh_fixtures::faults::OF_POINT_FILES;
-use qh_fixtures::{Host, table};
+use qh_fixtures::table;
 use qh_read::ReadFault;
 use qh_serve::Fault;
 use std::test::Fail;
@@ -30,17 +30,11 @@ const LINES: [(Fault, &str, u8); 13] = table![
     (Fault::Read(ReadFault::NotOff), "qconvex: 14: NotOff", 1);
 ];
 
-/// Asserts the line and the exit status of a fault.
-fn assert_told(rt: &impl Host, fault: Fault, want: Told) -> Result<(), Fail> {
-    let refusal = refusal(rt.alloc(), &fault)?;
-    assert_eq!(rt; refusal.told(), want);
-    Ok(())
-}
-
 #[test]
 fn each_fault_has_its_line_and_status(rt: HostRuntime) -> Result<(), Fail> {
     for (fault, line, status) in LINES {
-        assert_told(&rt, fault, ("", line, status))?;
+        let refusal = refusal(rt.alloc(), &fault)?;
+        assert_eq!(rt; refusal.told(), ("", line, status));
     }
     Ok(())
 }

@@ -30,13 +30,17 @@ const ONE_POINT: [&str; 4] = [
     "OFF 1 0 0 5 5 5 6 6 6",
 ];
 
+/// Returns parts of settings for OFF files.
+fn from_off(asked: Asked) -> Asked {
+    Asked {
+        form: Form::Off,
+        ..asked
+    }
+}
+
 #[test]
 fn gives_back_what_was_written(rt: HostRuntime) -> Result<(), Fail> {
-    let asked = Asked {
-        block: 3,
-        form: Form::Off,
-        ..OFF
-    };
+    let asked = from_off(OFF.by(4, 3));
     for text in &ROUND_TRIPS {
         assert_gives(&rt, asked, text.as_bytes(), (text, "", 0))?;
     }
@@ -45,21 +49,13 @@ fn gives_back_what_was_written(rt: HostRuntime) -> Result<(), Fail> {
 
 #[test]
 fn drops_comments_and_faces(rt: HostRuntime) -> Result<(), Fail> {
-    let asked = Asked {
-        form: Form::Off,
-        ..RANK
-    };
     for text in &ONE_POINT {
-        assert_gives(&rt, asked, text.as_bytes(), ("1 1 0\n", "", 0))?;
+        assert_gives(&rt, from_off(RANK), text.as_bytes(), ("1 1 0\n", "", 0))?;
     }
     Ok(())
 }
 
 #[test]
 fn refuses_inputs(rt: HostRuntime) -> Result<(), Fail> {
-    let asked = Asked {
-        form: Form::Off,
-        ..FX
-    };
-    assert_faults(&rt, asked, &OF_OFF_FILES)
+    assert_faults(&rt, from_off(FX), &OF_OFF_FILES)
 }

@@ -86,10 +86,7 @@ const ROWS: [(Asked, &str, &str); 23] = table![
     (Asked { outs: &[Out::Rank, Out::Fx], ..SUMMARY }, "3\n6\n1 0 0\n0 0 0\n0 1 0\n0 0 0\n0 0 1\n0 0 0\n", "6 4 3\n4\n0\n1\n2\n4\n");
     // Each corner is in its own block.
     (
-        Asked {
-            block: 1,
-            ..SUMMARY
-        },
+        Asked { block: 1, ..SUMMARY },
         CUBE,
         "Convex hull of 8 points in 3-d:\n  dimension: 3\n  distinct points: 8\n  extreme points: 8\n  facets: 6\n  edges: 12\n",
     );
@@ -104,12 +101,8 @@ fn answers_solid_rows(rt: HostRuntime) -> Result<(), Fail> {
 fn gives_the_same_each_time(rt: HostRuntime) -> Result<(), Fail> {
     for (workers, block) in [(2, 1), (4, 2), (8, 5), (64, 3)] {
         for _ in 0..8 {
-            assert_answered(
-                &rt,
-                OFF.by(workers, block),
-                OCTAHEDRON.as_bytes(),
-                (OCTAHEDRON_OFF, "", 0),
-            )?;
+            let asked = OFF.by(workers, block);
+            assert_answered(&rt, asked, OCTAHEDRON.as_bytes(), (OCTAHEDRON_OFF, "", 0))?;
         }
     }
     Ok(())

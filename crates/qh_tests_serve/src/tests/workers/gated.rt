@@ -8,6 +8,7 @@ ghost use Rattle.qh_model.specs.declared.limits.TheConstants.{POINT_LIMIT};
 use crate::tests::outcomes::{Asked, Call, OFF, Outcome, refusal, shown};
 use qh_fixtures::Host;
 use qh_fixtures::files::{OCTAHEDRON, OCTAHEDRON_OFF};
+use qh_fixtures::ids::are;
 use qh_fixtures::points::octahedron;
 use qh_model::{Body, Cut, Id, Memory, Point};
 use qh_plane::distinct;
@@ -23,7 +24,7 @@ use std::test::Fail;
 const TURNS: u64 = 1000000000;
 
 /// The extreme ids.
-const EXTREMES: [usize; 6] = [0, 2, 3, 5, 6, 9];
+const EXTREMES: [u32; 6] = [0, 2, 3, 5, 6, 9];
 
 /// The blocks that are held after they are claimed.
 #[derive(Clone, Copy, Debug, Drop)]
@@ -94,11 +95,7 @@ impl Gate for Hold {
     }
 
     fn finish(&self, alloc: Global, pts: &[Point], ids: &[Id]) -> Result<Body, Memory> {
-        let mut numbers = Vec::new(alloc);
-        for id in ids {
-            numbers.push(id.index())?;
-        }
-        if numbers.as_slice() != EXTREMES.as_slice() {
+        if !are(ids, &EXTREMES) {
             return Err(Memory);
         }
         NoGate.finish(alloc, pts, ids)
