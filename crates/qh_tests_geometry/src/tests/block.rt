@@ -5,7 +5,7 @@ ghost use Rattle.qh_model.specs.contract.IdSets.{AreIndices};
 use qh_block::{extremes, hull};
 use qh_fixtures::faces::are_round;
 use qh_fixtures::ids::are;
-use qh_fixtures::points::{point, square};
+use qh_fixtures::points::{point, square, times};
 use qh_fixtures::{Host, points_at};
 use qh_model::{Body, Id, Memory, POINT_LIMIT, Point};
 use qh_plane::distinct;
@@ -114,15 +114,6 @@ fn five_in_line(rt: HostRuntime) -> Result<(), Fail> {
 #[test]
 fn square_with_centre(rt: HostRuntime) -> Result<(), Fail> {
     assert_hull(&rt, &square(), &SQUARE)
-}
-
-/// Returns the point with all coordinates multiplied by a factor, clamped to the limit.
-fn times(p: Point, factor: i32) -> Point {
-    point(
-        p.x().wrapping_mul(factor),
-        p.y().wrapping_mul(factor),
-        p.z().wrapping_mul(factor),
-    )
 }
 
 /// Three places beside the origin.

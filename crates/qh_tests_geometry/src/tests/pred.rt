@@ -1,41 +1,14 @@
 //! Volumes of the unit corner, of the cube at the limit, and of a tetrahedron whose volume does not fit 64 bits; turns
 //! across two axes. The contract of each predicate states its value for all points.
-ghost use Rattle.qh_model.specs.headline.Limits.{IsCoordinate};
-
-use qh_fixtures::points::tetrahedron;
-use qh_fixtures::table;
-use qh_model::{COORDINATE_LIMIT, Point};
+use qh_fixtures::points::{LIMIT, tetrahedron, times};
+use qh_fixtures::{points_at, table};
+use qh_model::Point;
 use qh_pred::{cross, left, vol};
 use std::cmp::Ordering;
 
-const LIMIT: i32 = COORDINATE_LIMIT as i32;
-
-/// Returns the corner of the cube at a limit that has the least coordinates, and its neighbours along x, y and z.
-fn cube_corner(limit: i32) -> [Point; 4]
-    requires { IsCoordinate limit }
-{
-    [
-        Point::new(-limit, -limit, -limit),
-        Point::new(limit, -limit, -limit),
-        Point::new(-limit, limit, -limit),
-        Point::new(-limit, -limit, limit),
-    ]
-}
-
-/// Returns four corners of the cube at a limit, no two of them neighbours. Their volume is a power of two.
-fn wrapping_tetrahedron(limit: i32) -> [Point; 4]
-    requires { IsCoordinate limit }
-{
-    [
-        Point::new(-limit, -limit, -limit),
-        Point::new(limit, limit, -limit),
-        Point::new(limit, -limit, limit),
-        Point::new(-limit, limit, limit),
-    ]
-}
-
-/// Returns the volume of four points.
-fn volume([a, b, c, d]: [Point; 4]) -> i128 {
+/// Returns the volume of four points, whose coordinates are multiplied by a factor.
+fn volume(pts: [Point; 4], factor: i32) -> i128 {
+    let [a, b, c, d] = pts.map(|p| times(p, factor));
     vol(a, b, c, d)
 }
 
@@ -47,14 +20,14 @@ const VOLUMES: [(i32, i128, i128); 2] = table![
 
 #[test]
 fn volumes(rt: HostRuntime) {
-    assert_eq!(rt; volume(tetrahedron()), 1i128);
-    for (limit, cube, wrapping) in VOLUMES {
-        let limit = limit.clamp(0, LIMIT);
-        let found = (
-            volume(cube_corner(limit)),
-            volume(wrapping_tetrahedron(limit)),
-        );
-        assert_eq!(rt; found, (cube, wrapping), "at {limit}");
+    assert_eq!(rt; volume(tetrahedron(), 1), 1i128);
+    // The corner of a cube that has the least coordinates, and its neighbours along x, y and z.
+    let corner = points_at![-1 -1 -1, 1 -1 -1, -1 1 -1, -1 -1 1];
+    // Four corners of the cube, no two of them neighbours. Their volume is a power of two.
+    let wrapping = points_at![-1 -1 -1, 1 1 -1, 1 -1 1, -1 1 1];
+    for (limit, of_corner, of_wrapping) in VOLUMES {
+        let found = (volume(corner, limit), volume(wrapping, limit));
+        assert_eq!(rt; found, (of_corner, of_wrapping), "at {limit}");
     }
 }
 

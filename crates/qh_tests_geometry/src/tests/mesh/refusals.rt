@@ -1,6 +1,6 @@
 //! The steps of the seven points, where one allocation fails. Each call that fails leaves the mesh unchanged, and is
 //! repeated. `scripts/trials/refusals.py` makes each allocation fail in turn.
-use super::{ROWS, Triangle, first_simplex, has_twins, seen_by, seven, triangle};
+use super::{ROWS, first_simplex, has_twins, seen_by, seven, triangles};
 use qh_fixtures::again;
 use qh_mesh::{EdgeNo, FacetNo, Mesh};
 use qh_model::{Id, Memory};
@@ -31,15 +31,6 @@ fn places(mesh: &Mesh) -> (usize, [Place; 8]) {
     (mesh.places(), places)
 }
 
-/// Returns true if the triangles of a list of places are the expected ones, and each has its twins.
-fn are(mesh: &Mesh, list: &[FacetNo], want: &[Triangle]) -> bool {
-    list.len() == want.len()
-        && want
-            .iter()
-            .all(|t| list.iter().any(|f| triangle(mesh, *f) == Some(*t)))
-        && list.iter().all(|f| has_twins(mesh, *f))
-}
-
 /// Returns true if each step, repeated if it fails, gives its row, and each failure leaves the mesh unchanged.
 fn steps(alloc: Global) -> Result<bool, Fail> {
     let pts = seven();
@@ -55,7 +46,9 @@ fn steps(alloc: Global) -> Result<bool, Fail> {
                 mesh.replace(alloc, &pts, visible.as_slice(), Id::new(apex))?
             }
         };
-        right = right && are(&mesh, made.as_slice(), cone) && mesh.places() == count;
+        let found = again!(triangles(alloc, &mesh, &made), AllocError)?;
+        let have_twins = made.iter().all(|f| has_twins(&mesh, *f));
+        right = right && found.as_slice() == cone && have_twins && mesh.places() == count;
     }
     Ok(right)
 }

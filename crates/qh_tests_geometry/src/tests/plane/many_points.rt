@@ -1,6 +1,6 @@
 //! Lists that are long enough for threads, with and without repeated points.
 use qh_fixtures::Host;
-use qh_model::{Id, Memory, POINT_LIMIT, Point};
+use qh_model::{Id, POINT_LIMIT, Point};
 use qh_plane::{distinct, distinct_alone, distinct_in_threads};
 use std::alloc::{AllocError, Global};
 use std::test::Fail;
@@ -38,31 +38,6 @@ fn grid(alloc: Global, count: usize) -> Result<Vec<Point>, AllocError> {
     Ok(pts)
 }
 
-/// Returns the distinct ids with at most `threads` threads, or `None` if there are more than `POINT_LIMIT` points.
-fn ids_in_threads(
-    rt: &impl Host,
-    alloc: Global,
-    pts: &[Point],
-    threads: u32,
-) -> Result<Option<Vec<Id>>, Memory> {
-    if pts.len() > POINT_LIMIT as usize {
-        return Ok(None);
-    }
-    Ok(Some(distinct_in_threads(rt, alloc, pts, threads)?))
-}
-
-/// Returns the distinct ids with all processors and with one; `None` if there are more than `POINT_LIMIT` points.
-fn ids_otherwise(
-    rt: &impl Host,
-    alloc: Global,
-    pts: &[Point],
-) -> Result<Option<[Vec<Id>; 2]>, Memory> {
-    if pts.len() > POINT_LIMIT as usize {
-        return Ok(None);
-    }
-    Ok(Some([distinct(rt, alloc, pts)?, distinct_alone(alloc, pts)?]))
-}
-
 /// Asserts that the ids are those of the first points, one for each of `places` places.
 fn assert_first(rt: &impl Host, ids: &[Id], places: usize) {
     assert_eq!(rt; ids.len(), places);
@@ -71,27 +46,35 @@ fn assert_first(rt: &impl Host, ids: &[Id], places: usize) {
     }
 }
 
+/// Asserts that the distinct ids, with each number of threads, with all processors and with none but the calling thread,
+/// are those of the first points, one for each of `places` places.
+fn assert_distinct(
+    rt: &impl Host,
+    pts: &[Point],
+    numbers: &[u32],
+    places: usize,
+) -> Result<(), Fail> {
+    if pts.len() > POINT_LIMIT as usize {
+        return Err("too many points".into());
+    }
+    let alloc = rt.alloc();
+    for threads in numbers {
+        assert_first(rt, &distinct_in_threads(rt, alloc, pts, *threads)?, places);
+    }
+    assert_first(rt, &distinct(rt, alloc, pts)?, places);
+    assert_first(rt, &distinct_alone(alloc, pts)?, places);
+    Ok(())
+}
+
 #[test]
 fn first_of_each_place(rt: HostRuntime) -> Result<(), Fail> {
     for count in [PLACES, PLACES + 40_000] {
-        let pts = places(rt.alloc(), count)?;
-        for threads in [0, 1, 2, 3, 4] {
-            let ids = ids_in_threads(&rt, rt.alloc(), &pts, threads)?.ok_or("too many points")?;
-            assert_first(&rt, &ids, PLACES);
-        }
-        for ids in &ids_otherwise(&rt, rt.alloc(), &pts)?.ok_or("too many points")? {
-            assert_first(&rt, ids, PLACES);
-        }
+        assert_distinct(&rt, &places(rt.alloc(), count)?, &[0, 1, 2, 3, 4], PLACES)?;
     }
     Ok(())
 }
 
 #[test]
 fn first_of_each_place_of_a_grid(rt: HostRuntime) -> Result<(), Fail> {
-    let pts = grid(rt.alloc(), 140_000)?;
-    for threads in [1, 2, 4] {
-        let ids = ids_in_threads(&rt, rt.alloc(), &pts, threads)?.ok_or("too many points")?;
-        assert_first(&rt, &ids, GRID_PLACES);
-    }
-    Ok(())
+    assert_distinct(&rt, &grid(rt.alloc(), 140_000)?, &[1, 2, 4], GRID_PLACES)
 }

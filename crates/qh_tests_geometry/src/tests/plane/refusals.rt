@@ -4,7 +4,7 @@ use super::large_polygons::{self, grid_with_point_outside, normal_of};
 use super::{assert_ids, polygon_of};
 use qh_fixtures::points::{cube, square};
 use qh_fixtures::{Host, again, points_at};
-use qh_model::{Id, Memory, POINT_LIMIT, Point};
+use qh_model::{Memory, POINT_LIMIT, Point};
 use qh_plane::distinct;
 use qh_pred::{Normal, cross};
 use std::test::Fail;
@@ -14,17 +14,12 @@ fn side() -> [Point; 7] {
     points_at![2 0 0, 1 1 0, 0 2 0, 0 0 2, 1 1 0, 1 0 1, 0 1 1]
 }
 
-/// Returns the distinct ids, or `None` if there are too many points. Repeats the call if an allocation failed.
-fn distinct_again(rt: &impl Host, pts: &[Point]) -> Result<Option<Vec<Id>>, Memory> {
-    if pts.len() > POINT_LIMIT as usize {
-        return Ok(None);
-    }
-    Ok(Some(again!(distinct(rt, rt.alloc(), pts), Memory)?))
-}
-
 /// Asserts which ids are distinct. Repeats the call if an allocation failed.
 fn assert_distinct(rt: &impl Host, pts: &[Point], wanted: &[u32]) -> Result<(), Fail> {
-    let ids = distinct_again(rt, pts)?.ok_or("too many points")?;
+    if pts.len() > POINT_LIMIT as usize {
+        return Err("too many points".into());
+    }
+    let ids = again!(distinct(rt, rt.alloc(), pts), Memory)?;
     assert_ids(rt, &ids, wanted);
     Ok(())
 }
