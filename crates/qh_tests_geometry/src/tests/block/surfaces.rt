@@ -108,26 +108,19 @@ pub fn is_surface(
     )
 }
 
-/// Returns true if the triangles of a mesh are a surface of the points, and the numbers of triangles and of corners.
-fn told(alloc: Global, pts: &[Point], mesh: &Mesh) -> Result<(bool, usize, usize), AllocError> {
-    let triangles = triangles(alloc, mesh)?;
-    let is_sound = is_surface(alloc, pts, &triangles)?;
-    let corners = corner_count(alloc, &triangles)?;
-    Ok((is_sound, triangles.len(), corners))
-}
-
 /// Returns the numbers of triangles and of corners of the surface of a solid set, and asserts that it is a surface.
 fn counts_of(rt: &impl Host, pts: &[Point]) -> Result<(usize, usize), Fail> {
     let mesh = solid_surface(rt, rt.alloc(), pts)?.ok_or("a flat set")?;
-    let (is_sound, triangles, corners) = told(rt.alloc(), pts, &mesh)?;
-    assert!(rt; is_sound, "{triangles} triangles, {corners} corners");
-    Ok((triangles, corners))
+    let triangles = triangles(rt.alloc(), &mesh)?;
+    let counts = (triangles.len(), corner_count(rt.alloc(), &triangles)?);
+    let is_sound = is_surface(rt.alloc(), pts, &triangles)?;
+    assert!(rt; is_sound, "{counts:?} triangles and corners");
+    Ok(counts)
 }
 
 #[test]
 fn corner_tetrahedron(rt: HostRuntime) -> Result<(), Fail> {
-    let counts = counts_of(&rt, &tetrahedron())?;
-    assert_eq!(rt; counts, (4, 4));
+    assert_eq!(rt; counts_of(&rt, &tetrahedron())?, (4, 4));
     Ok(())
 }
 
