@@ -15,31 +15,13 @@ pub struct Buffers<'a> {
     pub corners: &'a mut [u32],
 }
 
-/// Writes numbers at the front of a buffer.
-pub fn put_numbers(buffer: &mut [u32], numbers: &[u32])
-    requires { length numbers.now ≤ length buffer.old }
-    ensures numbers { take (length numbers.now) buffer.new ≡ numbers.now }
-    ensures rest { drop (length numbers.now) buffer.new ≡ drop (length numbers.now) buffer.old }
+/// Writes items at the front of a buffer.
+pub fn put<T: Copy>(buffer: &mut [T], items: &[T])
+    requires { length items.now ≤ length buffer.old }
+    ensures items { take (length items.now) buffer.new ≡ items.now }
+    ensures rest { drop (length items.now) buffer.new ≡ drop (length items.now) buffer.old }
 {
-    buffer[..numbers.len()].copy_from_slice(numbers);
-}
-
-/// Writes offsets at the front of a buffer.
-fn put_offsets(buffer: &mut [usize], offsets: &[usize])
-    requires { length offsets.now ≤ length buffer.old }
-    ensures offsets { take (length offsets.now) buffer.new ≡ offsets.now }
-    ensures rest { drop (length offsets.now) buffer.new ≡ drop (length offsets.now) buffer.old }
-{
-    buffer[..offsets.len()].copy_from_slice(offsets);
-}
-
-/// Writes components of normals at the front of a buffer.
-pub fn put_components(buffer: &mut [i64], components: &[i64])
-    requires { length components.now ≤ length buffer.old }
-    ensures components { take (length components.now) buffer.new ≡ components.now }
-    ensures rest { drop (length components.now) buffer.new ≡ drop (length components.now) buffer.old }
-{
-    buffer[..components.len()].copy_from_slice(components);
+    buffer[..items.len()].copy_from_slice(items);
 }
 
 /// Writes a flat hull to buffers and returns true if each is long enough. Else leaves them unchanged and returns false.
@@ -64,8 +46,8 @@ pub fn fill(flat: &FlatHull, buffers: &mut Buffers) -> bool
     {
         return false;
     }
-    put_numbers(buffers.extremes, &flat.extremes);
-    put_offsets(buffers.offsets, &flat.offsets);
-    put_numbers(buffers.corners, &flat.corners);
+    put(buffers.extremes, &flat.extremes);
+    put(buffers.offsets, &flat.offsets);
+    put(buffers.corners, &flat.corners);
     true
 }

@@ -1,5 +1,6 @@
 //! A check of the faces of a cube, as Geomview's OFF has them, and of five of them.
 use crate::tests::cube;
+use crate::told::of_kind;
 use crate::{DONE, OPEN, OTHERS, RIGHT, Verdict, qconvex_check};
 use std::alloc::Global;
 use std::test::Fail;
@@ -12,20 +13,9 @@ const CORNERS: [u32; 24] = [
     6, 7, 5, 4, 3, 2, 0, 1, 1, 5, 7, 3, 4, 0, 2, 6, 2, 3, 7, 6, 5, 1, 0, 4,
 ];
 
-/// Returns a verdict that no call has written.
-fn untold() -> Verdict {
-    Verdict {
-        kind: 99,
-        point: 99,
-        from: 99,
-        to: 99,
-        face: 99,
-    }
-}
-
 /// Returns the answer for faces of a cube, with the kind of the verdict.
 fn told(alloc: Global, offsets: &[usize], corners: &[u32]) -> (u32, u32) {
-    let mut verdict = untold();
+    let mut verdict = of_kind(99);
     let code = qconvex_check(alloc, &cube(), offsets, corners, &mut verdict);
     (code, verdict.kind)
 }

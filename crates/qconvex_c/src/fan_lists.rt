@@ -5,7 +5,7 @@ ghost use Rattle.qh_model.specs.{contract.Places.IsPlace, declared.limits.TheCon
 ghost use Rattle.qh_model.specs.headline.Hull.{IsHull};
 ghost use Rattle.qconvex_c.specs.contract.Triangles.{AreFans, NeedsFanRoom};
 
-use crate::buffers::{put_components, put_numbers};
+use crate::buffers::put;
 use crate::fans::{body_corners, body_normals};
 use crate::fault::Fault;
 use crate::given::{Given, points_of};
@@ -60,8 +60,8 @@ fn fill_fans(fans: &FanLists, triangles: &mut [u32], normals: &mut [i64]) -> boo
     if triangles.len() < fans.triangles.len() || normals.len() < fans.normals.len() {
         return false;
     }
-    put_numbers(triangles, &fans.triangles);
-    put_components(normals, &fans.normals);
+    put(triangles, &fans.triangles);
+    put(normals, &fans.normals);
     true
 }
 

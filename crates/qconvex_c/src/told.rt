@@ -16,7 +16,7 @@ use qh_model::Memory;
 use std::alloc::Global;
 
 /// Returns a verdict that names neither a face nor a point.
-fn of_kind(kind: u32) -> Verdict
+pub fn of_kind(kind: u32) -> Verdict
     ensures { result ≡ of_kind kind }
 {
     Verdict {
@@ -33,11 +33,9 @@ fn on_face(kind: u32, face: usize, point: u32) -> Verdict
     ensures { result ≡ on_face kind face point }
 {
     Verdict {
-        kind,
         point,
-        from: 0,
-        to: 0,
         face,
+        ..of_kind(kind)
     }
 }
 
@@ -46,11 +44,9 @@ fn on_edge(kind: u32, from: u32, to: u32) -> Verdict
     ensures { result ≡ on_edge kind from to }
 {
     Verdict {
-        kind,
-        point: 0,
         from,
         to,
-        face: 0,
+        ..of_kind(kind)
     }
 }
 
