@@ -23,9 +23,7 @@ fn assert_cut(rt: &impl Host, cut: Result<Cut, CutError>, want: Answer, row: &[u
 
 /// Returns the cut with these bounds.
 fn from(alloc: Global, bounds: &[u32]) -> Result<Cut, CutError> {
-    let Ok(bounds) = Vec::from_slice(alloc, bounds) else {
-        return Err(CutError::Memory);
-    };
+    let bounds = Vec::from_slice(alloc, bounds).map_err(|_| CutError::Memory)?;
     Cut::from_bounds(bounds)
 }
 
@@ -64,13 +62,8 @@ fn given_bounds(rt: HostRuntime) {
 
 /// Returns the cut whose bounds are the first `count` numbers from 0.
 fn unit_blocks(alloc: Global, count: u32) -> Result<Cut, CutError> {
-    let mut bounds = Vec::new(alloc);
-    for number in 0..count {
-        if bounds.push(number).is_err() {
-            return Err(CutError::Memory);
-        }
-    }
-    Cut::from_bounds(bounds)
+    let bounds = (0..count).collect::<Vec<u32>>(alloc);
+    Cut::from_bounds(bounds.map_err(|_| CutError::Memory)?)
 }
 
 #[test]

@@ -1,5 +1,4 @@
 //! A large grid in planes across each axis and in a slanted one: its inner points are dropped before the sort.
-use qh_fixtures::Host;
 use qh_model::{Memory, Point, Polygon};
 use qh_plane::distinct_alone;
 use qh_polygon::{outer_ids, polygon};
@@ -50,19 +49,14 @@ pub fn polygon_of(alloc: Global, grid: &Grid, normal: &Normal) -> Result<Polygon
     polygon(alloc, grid, &ids, normal)
 }
 
-/// Asserts that the interior filter, seen from a side, leaves few ids of a grid.
-fn assert_few_left(rt: &impl Host, grid: &Grid, normal: &Normal) -> Result<(), Fail> {
-    let left = left_of(rt.alloc(), grid, normal)?;
-    assert!(rt; left < 1000, "{left}");
-    Ok(())
-}
-
 #[test]
 fn inner_points_go(rt: HostRuntime) -> Result<(), Fail> {
     for grid in grids() {
         let normal = normal_of(&grid);
-        assert_few_left(&rt, &grid, &normal)?;
-        assert_few_left(&rt, &grid, &normal.opposite())?;
+        for side in [normal.opposite(), normal] {
+            let left = left_of(rt.alloc(), &grid, &side)?;
+            assert!(rt; left < 1000, "{left}");
+        }
     }
     Ok(())
 }
