@@ -3,7 +3,7 @@ use Rattle.std.proofs.Common.{◌≡◌, ◌∙◌, ◌++◌, [], ◌∷◌, ◌
 use Rattle.std.proofs.lemmas.List.{drop_more, append-nil}
 use Rattle.std.specs.Prelude.{ℤ, get_or}
 use Rattle.qh_model.specs.{declared.form.Form.Form, headline.Limits.IsCoordinate, headline.PointFile.coordinates, headline.Vector.Vector}
-use Rattle.qh_read.proofs.{BuildingLemmas.coordinates-push, NumberLaws.three, NumberLaws.coordinates-append}
+use Rattle.qh_read.proofs.NumberLaws.{three, coordinates-append}
 use Rattle.qh_read.specs.contract.{Holding.Held, Holding.held_by, Holding.next_held, Progress.Progress, Progress.wants}
 use Rattle.qh_read.specs.declared.{builder.Trailing.Trailing, cursor.Cursor.Cursor, token.Token.TheVariants.Empty}
 use Rattle.qh_read.specs.steps.Cursors.{ahead, held_from, IsParted, ArePoint, ArePushed}
@@ -31,7 +31,7 @@ points-more line bytes points mid p to many one a b c form trailing left t base 
     let count : 3 * length (points ++ p ∷ []) + left ≡ 3 * length points + suc (suc (suc left)) = omega (arith, length-append points (p ∷ [])) in
     let told = one.held form (wants trailing (suc (suc (suc left))) u) base in
     let all : u ++ p.x ∷ p.y ∷ p.z ∷ [] ≡ t ++ coordinates (points ++ p ∷ []) =
-    append_assoc t (coordinates points) (p.x ∷ p.y ∷ p.z ∷ []) ∙ ap (λ (v : List ℤ). t ++ v) (sym (coordinates-push points p)) in
+    append_assoc t (coordinates points) (p.x ∷ p.y ∷ p.z ∷ []) ∙ ap (λ (v : List ℤ). t ++ v) (sym (coordinates-append points (p ∷ []))) in
     ap (λ (n : ℕ). held_by (quiet form (wants trailing n t) (base + line) Empty) bytes) count
     ∙ many form trailing (suc (suc (suc left))) t base
     ∙ told.3

@@ -10,11 +10,11 @@ use Rattle.qh_model.specs.headline.FileFault.{headed_fault, words_fault}
 use Rattle.qh_model.specs.headline.{Forms.IsFirstFault, Limits.is_coordinate, Numbers.number_of, OffFault.counts_fault, OffFault.off_words_fault}
 use Rattle.qh_model.specs.headline.{OffFile.off_words, Words.Word, Words.data_words}
 use Rattle.qh_read.specs.contract.Progress.{Progress, wants_first, wants_second, wants, wants_keyword, wants_vertex_count, wants_face_count, wants_edge_count}
-use Rattle.qh_read.specs.contract.Progress.{started, fails, counted, headed, after}
+use Rattle.qh_read.specs.contract.Progress.{started, fails, counted, headed, after, after_number}
 use Rattle.qh_read.specs.declared.builder.Trailing.{Trailing, TheVariants.Refused, TheVariants.Ignored}
 use Rattle.qh_read.specs.{contract.Tokens.cap, steps.Building.lack, steps.SmallTokens.capped}
 use Rattle.qh_read.proofs.Lexing.{words_in}
-use Rattle.qh_read.proofs.ProgressLaws.{Asks, dropped, stays, judged, is_off, first-asks, second-asks, vertex_count-asks, face_count-asks, edge_count-asks}
+use Rattle.qh_read.proofs.ProgressLaws.{dropped, stays, judged, is_off, number_in}
 
 fallen : (f : ReadFault) (ws : List Word) → lack (judged (fails f) ws) ≡ Some f
 fallen f ws = ap lack (stays f ws)
@@ -78,14 +78,14 @@ counts trailing ws (pos n) = tested (nat_le 1 (cap n) && nat_le (cap n) POINT_LI
         fallen faults.Count ws ∙ ap told (sym test)
 
 -- a number of the header, and then the fault of the rest
-asked : (p : Progress) (next : ℤ → Progress) (fault : ℤ → List Word → Option ReadFault) → Asks p next
+asked : (p : Progress) (next : ℤ → Progress) (fault : ℤ → List Word → Option ReadFault) → lack p ≡ Some faults.NoHeader
+    → ((keyword : Bool) (o : Option ℤ) (line : ℕ) → after p keyword o line ≡ after_number next o line)
     → ((z : ℤ) (ws : List Word) → lack (judged (next (capped z)) ws) ≡ fault z ws) → (ws : List Word) → lack (judged p ws) ≡ next_number_fault fault ws
-asked p next fault asks rest [] = asks.lacks
-asked p next fault asks rest (w ∷ ws) =
-    elim (number_of w.text) as (λ o. lack (judged (after p (is_off w) (option_map capped o) w.line) ws) ≡ number_fault fault o w.line ws) [
-      | None ↦ ap (λ (q : Progress). lack (judged q ws)) (asks.bad (is_off w) w.line) ∙ fallen (faults.BadNumber w.line) ws
-      | Some z ↦ ap (λ (q : Progress). lack (judged q ws)) (asks.good (is_off w) (capped z) w.line) ∙ rest z ws
-    ]
+asked p next fault none asks rest [] = none
+asked p next fault none asks rest (w ∷ ws) =
+    ap (λ (q : Progress). lack (judged q ws)) (asks (is_off w) (number_in w) w.line)
+    ∙ elim (number_of w.text) as (λ o. lack (judged (after_number next (option_map capped o) w.line) ws) ≡ number_fault fault o w.line ws)
+    [ None ↦ fallen (faults.BadNumber w.line) ws | Some z ↦ rest z ws ]
 
 heads : (a b : ℤ) (ws : List Word) → lack (judged (headed (capped a) (capped b)) ws) ≡ headed_fault a b ws
 heads a b ws =
@@ -95,17 +95,17 @@ heads a b ws =
 
 -- a point file
 lacks : (ws : List Word) → lack (judged wants_first ws) ≡ words_fault ws
-lacks = asked wants_first wants_second (λ first. next_number_fault (headed_fault first)) first-asks
-    (λ first. asked (wants_second (capped first)) (headed (capped first)) (headed_fault first) (second-asks (capped first)) (heads first))
+lacks = asked wants_first wants_second (λ first. next_number_fault (headed_fault first)) refl (λ keyword o line. refl)
+    (λ first. asked (wants_second (capped first)) (headed (capped first)) (headed_fault first) refl (λ keyword o line. refl) (heads first))
 
 -- the counts of an OFF file
 counts_lack : (ws : List Word) → lack (judged wants_vertex_count ws) ≡ counts_fault ws
 counts_lack =
     asked wants_vertex_count wants_face_count (λ vertices. next_number_fault (λ faces. next_number_fault (λ edges. counted_fault (λ rest. None) vertices)))
-    vertex_count-asks (λ vertices. asked (wants_face_count (capped vertices)) (λ faces. wants_edge_count (capped vertices))
-    (λ faces. next_number_fault (λ edges. counted_fault (λ rest. None) vertices)) (face_count-asks (capped vertices))
+    refl (λ keyword o line. refl) (λ vertices. asked (wants_face_count (capped vertices)) (λ faces. wants_edge_count (capped vertices))
+    (λ faces. next_number_fault (λ edges. counted_fault (λ rest. None) vertices)) refl (λ keyword o line. refl)
     (λ faces. asked (wants_edge_count (capped vertices)) (λ edges. counted Ignored (capped vertices)) (λ edges. counted_fault (λ rest. None) vertices)
-    (edge_count-asks (capped vertices)) (λ edges ws. counts Ignored ws vertices)))
+    refl (λ keyword o line. refl) (λ edges ws. counts Ignored ws vertices)))
 
 off_lacks : (ws : List Word) → lack (judged wants_keyword ws) ≡ off_words_fault ws
 off_lacks [] = refl

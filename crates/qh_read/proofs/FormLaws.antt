@@ -1,69 +1,52 @@
 -- A completely read file is the file of its points.
-use Rattle.qh_read.specs.declared.builder.Pending.TheVariants as pendings
-use Rattle.qh_read.proofs.OffProgressLaws as off
-use Rattle.std.proofs.Common.{◌≡◌, ◌∙◌, ◌++◌, [], ◌∷◌, ◌*◌, ◌≤◌, ℕ, List, ap, sym, arith, length, map, subst, length-append}
-use Rattle.std.proofs.lemmas.List.{append-nil}
-use Rattle.std.specs.{List.AllByRecursion, Prelude.ℤ, Prelude.pos, Prelude.Some}
+use Rattle.qh_model.specs.declared.read_fault.ReadFault.TheVariants as faults
+use Rattle.std.proofs.Common.{◌≡◌, ◌∙◌, ◌++◌, [], ◌∷◌, ◌≤◌, ℕ, List, true, false, refl, ap, sym, arith, length, subst, cond}
+use Rattle.std.specs.{Cmp.Lexicographic.same_text, List.AllByRecursion, Prelude.ℤ, Prelude.codes, Prelude.pos, Prelude.Some}
 use Rattle.qh_model.specs.declared.{form.Form.Form, form.Form.TheVariants.Qhull, form.Form.TheVariants.Off, limits.TheConstants.BYTE_LIMIT}
-use Rattle.qh_model.specs.headline.{Forms.ReadsIn, Limits.IsCoordinate, OffFile.off_words, OffFile.ReadsOff}
-use Rattle.qh_model.specs.headline.{PointFile.coordinates, PointFile.IsHeader, PointFile.Reads, Vector.Vector, Words.data_words}
-use Rattle.qh_model.proofs.ReadingLaws.{thrice}
-use Rattle.qh_read.specs.{contract.Progress.wants_first, contract.Progress.wants_keyword, contract.Progress.started, declared.builder.Pending.Pending}
-use Rattle.qh_read.specs.steps.{Building.filled_in, Stages.pending_list}
-use Rattle.qh_read.proofs.{Lexing.words_in, ProgressLaws.judged, ProgressLaws.whole, ProgressLaws.Whole}
+use Rattle.qh_model.specs.headline.{Forms.ReadsIn, Limits.IsCoordinate, Numbers.number_of, OffFile.off_words, OffFile.ReadsOff}
+use Rattle.qh_model.specs.headline.{PointFile.coordinates, Vector.Vector, Words.Word}
+use Rattle.qh_read.specs.contract.Progress.{wants_keyword, wants_vertex_count, wants_face_count, wants_edge_count, started, counted, fails}
+use Rattle.qh_read.specs.{declared.builder.Pending.Pending, declared.builder.Trailing.TheVariants.Ignored, steps.Building.filled_in}
+use Rattle.qh_read.specs.{steps.SmallTokens.capped, steps.Stages.pending_list}
+use Rattle.qh_read.proofs.{Lexing.words_in, ProgressLaws.counts, ProgressLaws.is_off, ProgressLaws.judged, ProgressLaws.none_left, ProgressLaws.numbered}
+use Rattle.qh_read.proofs.ProgressLaws.{reads_points, stays}
 
-none_left : (ps : List Vector) (q : Pending) (k : ℕ) → length (coordinates ps ++ pending_list q) ≡ 3 * k
-    → (coordinates ps ++ pending_list q ≡ coordinates ps) × (length ps ≡ k)
-none_left ps pendings.Zero k h =
-    let none = append-nil (coordinates ps) in
-    (none, omega (arith, thrice ps, length-append (coordinates ps) []))
-none_left ps (pendings.One x) k h = absurd (omega (arith, thrice ps, length-append (coordinates ps) (x.value ∷ [])))
-none_left ps (pendings.Two x y) k h = absurd (omega (arith, thrice ps, length-append (coordinates ps) (x.value ∷ y.value ∷ [])))
-
--- if everything that the header announces was read, the points are those of the point file
-reads_points : (bs : List ℕ) (ps : List Vector) (q : Pending) → length bs ≤ BYTE_LIMIT
-    → filled_in (judged wants_first (data_words bs)) ≡ Some (coordinates ps ++ pending_list q) → Reads bs ps
-reads_points bs ps q small h =
-    let file : Whole (data_words bs) (coordinates ps ++ pending_list q) = whole (data_words bs) (coordinates ps ++ pending_list q) h in
-    let left = none_left ps q file.n file.count in
-    let all : coordinates ps ++ pending_list q ≡ coordinates ps = left.0 in
-    let many : length ps ≡ file.n = left.1 in
-    record {
-      small = small;
-      first = file.first;
-      second = file.second;
-      numbers = file.are ∙ ap (λ (u : List ℤ). map Some (file.first ∷ file.second ∷ u)) all;
-      header = subst (IsHeader file.first file.second) (sym many) file.header;
-      some = omega (arith, file.some, many);
-      few = omega (arith, file.few, many);
-      limit = subst (AllByRecursion IsCoordinate) all file.limit;
-    }
-
--- the same for an OFF file
-reads_off : (bs : List ℕ) (ps : List Vector) (q : Pending) → length bs ≤ BYTE_LIMIT
-    → filled_in (judged wants_keyword (off_words bs)) ≡ Some (coordinates ps ++ pending_list q) → ReadsOff bs ps
-reads_off bs ps q small h =
-    let file : off.Whole (off_words bs) (coordinates ps ++ pending_list q) = off.whole (off_words bs) (coordinates ps ++ pending_list q) h in
-    let left = none_left ps q file.n file.count in
-    let all : coordinates ps ++ pending_list q ≡ coordinates ps = left.0 in
-    let many : length ps ≡ file.n = left.1 in
-    record {
-      small = small;
-      keyword = file.keyword;
-      numbered = file.numbered;
-      rest = file.rest;
-      words = file.words;
-      is_off = file.is_off;
-      faces = file.faces;
-      edges = file.edges;
-      numbers = file.are ∙ ap (λ (u : List ℤ). map Some (pos file.n ∷ file.faces ∷ file.edges ∷ u)) all
-          ∙ ap (λ (n : ℕ). map Some (pos n ∷ file.faces ∷ file.edges ∷ coordinates ps)) (sym many);
-      some = omega (arith, file.some, many);
-      few = omega (arith, file.few, many);
-      limit = subst (AllByRecursion IsCoordinate) all file.limit;
-    }
+-- if everything that the counts announce was read, the points are those of the OFF file
+reads_off : (bs : List ℕ) (ps : List Vector) (q : Pending) → length bs ≤ BYTE_LIMIT → (u : List ℤ) → coordinates ps ++ pending_list q ≡ u
+    → (ws : List Word) → off_words bs ≡ ws → filled_in (judged wants_keyword ws) ≡ Some u → ReadsOff bs ps
+reads_off bs ps q small u is [] all h = cc
+reads_off bs ps q small u is (w ∷ ws) all h =
+    elim (is_off w) as (λ b. is_off w ≡ b → filled_in (judged (cond b wants_vertex_count (fails faults.NotOff)) ws) ≡ Some u → ReadsOff bs ps) [
+      | false ↦ λ e h. cc (ap filled_in (stays faults.NotOff ws))
+      | true ↦ λ e h.
+          let vertices = numbered wants_vertex_count wants_face_count refl (λ keyword o line. refl) ws u h in
+          let faces = numbered (wants_face_count (capped vertices.z)) (λ z. wants_edge_count (capped vertices.z)) refl (λ keyword o line. refl)
+          vertices.rest u vertices.filled in
+          let edges = numbered (wants_edge_count (capped vertices.z)) (λ z. counted Ignored (capped vertices.z)) refl (λ keyword o line. refl)
+          faces.rest u faces.filled in
+          let count = counts Ignored edges.rest u vertices.z edges.filled in
+          let filled : u ≡ count.file.filled.more = count.file.filled.all in
+          let left = none_left ps q count.n (ap length (is ∙ filled) ∙ count.file.filled.count) in
+          let many : length ps ≡ count.n = left.1 in
+          let points : coordinates ps ≡ count.file.filled.more = sym left.0 ∙ is ∙ filled in
+          let first : number_of vertices.w.text ≡ Some (pos count.n) = vertices.number ∙ ap Some count.is in
+          record {
+            small = small;
+            keyword = w;
+            numbered = vertices.w ∷ faces.w ∷ edges.w ∷ count.file.front;
+            rest = count.file.rest;
+            words = cc (all, vertices.are, faces.are, edges.are, count.file.are);
+            is_off = same_text w.text (codes "OFF") (sym e);
+            faces = faces.z;
+            edges = edges.z;
+            numbers = cc (faces.number, edges.number, count.file.filled.are, points, many);
+            some = omega (arith, count.some, many);
+            few = omega (arith, count.few, many);
+            limit = subst (AllByRecursion IsCoordinate) {x = count.file.filled.more} (sym points) count.file.filled.limit;
+          }
+    ] refl h
 
 pub reads : (form : Form) (bs : List ℕ) (ps : List Vector) (q : Pending) → length bs ≤ BYTE_LIMIT
     → filled_in (judged (started form) (words_in form bs)) ≡ Some (coordinates ps ++ pending_list q) → ReadsIn form bs ps
 reads Qhull = reads_points
-reads Off = reads_off
+reads Off = λ bs ps q small. reads_off bs ps q small (coordinates ps ++ pending_list q) refl (off_words bs) refl

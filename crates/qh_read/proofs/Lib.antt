@@ -1,5 +1,4 @@
 pub mod ArrivingLaws
-pub mod BuildingLemmas
 pub mod CursorLaws
 pub mod DigitLaws
 pub mod FaultLaws
@@ -11,7 +10,6 @@ pub mod LexingLaws
 pub mod ListLaws
 pub mod NumberLaws
 pub mod OffLexingLaws
-pub mod OffProgressLaws
 pub mod ProgressLaws
 pub mod SourceLemmas
 pub mod TokenLaws

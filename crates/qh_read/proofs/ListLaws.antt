@@ -1,7 +1,7 @@
 -- The position of the list of faces among the words of a file.
 use Rattle.qh_model.specs.declared.form.Form.TheVariants as forms
-use Rattle.std.proofs.Common.{ℕ, ◌≡◌, ◌∙◌, ◌++◌, ◌+◌, ◌*◌, [], ◌∷◌, List, zero, suc, refl, ap, sym, arith, map, drop, length}
-use Rattle.std.proofs.lemmas.List.{map-append, length-map}
+use Rattle.std.proofs.Common.{ℕ, ◌≡◌, ◌∙◌, ◌++◌, ◌+◌, ◌*◌, [], ◌∷◌, List, suc, refl, ap, sym, arith, map, drop, length}
+use Rattle.std.proofs.{lemmas.List.map-append, lemmas.List.length-map, lemmas.List.drop-drop, Math.Seq.drop-append_seam}
 use Rattle.std.specs.Prelude.{ℤ, pos, Option, Some, None, MatchOption}
 use Rattle.qh_model.specs.declared.read_fault.ReadFault.{ReadFault}
 use Rattle.qh_model.specs.headline.{Forms.ReadsIn, Numbers.number_of, OffFile.off_words, PointFile.coordinates, Vector.Vector, Words.Word}
@@ -9,17 +9,11 @@ use Rattle.qh_model.proofs.ReadingLaws.{thrice}
 use Rattle.qh_read.specs.{contract.Numerals.numeral_of, contract.Numerals.numerals_in, declared.numerals.Numeral.Numeral}
 use Rattle.qh_read.specs.{contract.FaceFaults.number_fault, contract.FaceFaults.value_fault, contract.FaceFiles.IsOffList, steps.Lists.behind}
 
-next-drop : (ws : List Numeral) (k : ℕ) → drop (suc k) ws ≡ drop 1 (drop k ws)
-next-drop [] zero = refl
-next-drop [] (suc k) = refl
-next-drop (w ∷ ws) zero = refl
-next-drop (w ∷ ws) (suc k) = next-drop ws k
-
 -- one more word is skipped
 pub dropped-more : (ws : List Numeral) (k : ℕ) (old new : List Numeral) (r : Option Numeral) → old ≡ drop k ws
-    → MatchOption r ((old ≡ []) × (new ≡ [])) (λ w. old ≡ w ∷ new) → new ≡ drop (suc k) ws
-dropped-more ws k old new None e (o, n) = n ∙ sym (ap (drop 1) o) ∙ ap (drop 1) e ∙ sym (next-drop ws k)
-dropped-more ws k old new (Some w) e o = sym (ap (drop 1) o) ∙ ap (drop 1) e ∙ sym (next-drop ws k)
+    → MatchOption r ((old ≡ []) × (new ≡ [])) (λ w. old ≡ w ∷ new) → new ≡ drop (k + 1) ws
+dropped-more ws k old new None e (o, n) = n ∙ sym (ap (drop 1) o) ∙ ap (drop 1) e ∙ drop-drop 1 k ws
+dropped-more ws k old new (Some w) e o = sym (ap (drop 1) o) ∙ ap (drop 1) e ∙ drop-drop 1 k ws
 
 -- if the first word is not a number, that is the fault whatever is skipped after it
 pub behind-fault : (after : ℕ → ℕ → List Numeral → Option ReadFault) (skipped : ℕ) (ws : List Numeral)
@@ -30,10 +24,6 @@ behind-fault after skipped (w ∷ ws) = at w.number
     at : (o : Option ℕ) → value_fault after o w.line (drop skipped ws) ≡ value_fault (λ n line rest. after n line (drop skipped rest)) o w.line ws
     at None = refl
     at (Some n) = refl
-
-passed : (front back : List Numeral) → drop (length front) (front ++ back) ≡ back
-passed [] back = refl
-passed (w ∷ front) back = passed front back
 
 -- the list of an OFF file comes after the keyword and the number of vertices
 at-words : (bytes : List ℕ) (points : List Vector) (k : ℕ) → ReadsIn forms.Off bytes points → k ≡ 3 * length points + 1
@@ -50,7 +40,7 @@ at-words bytes points k r e keyword (a ∷ b ∷ d ∷ cs) rest w l =
     let three : length own ≡ 3 * length points = length-map cs numeral_of ∙ omega (arith, l) in
     let long : k ≡ suc (length own) = omega (arith, e, three) in
     let past : drop k (numeral_of d ∷ own ++ left) ≡ left =
-    ap (λ (n : ℕ). drop n (numeral_of d ∷ own ++ left)) long ∙ passed (numeral_of d ∷ own) left in record {
+    ap (λ (n : ℕ). drop n (numeral_of d ∷ own ++ left)) long ∙ drop-append_seam (numeral_of d ∷ own) left in record {
       before = r;
       keyword = numeral_of keyword;
       vertex_count = numeral_of a;

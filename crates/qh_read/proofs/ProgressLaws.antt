@@ -1,15 +1,18 @@
 -- The words of a completely read file: the numbers of a header, and the coordinates that it announces.
 use Rattle.qh_model.specs.declared.read_fault.ReadFault.TheVariants as faults
+use Rattle.qh_read.specs.declared.builder.Pending.TheVariants as pendings
 use Rattle.std.proofs.Common.{◌≡◌, ◌≢◌, ◌∙◌, ◌++◌, [], ◌∷◌, ◌*◌, ◌≤◌, ◌&&◌, ℕ, List, Bool, true, false, cond, refl, ap, sym, arith, zero, suc, min, length, map}
-use Rattle.std.proofs.{Common.inl, Common.inr, Common.append_assoc, Common.subst, lemmas.Bool.leb-true, lemmas.Bool.Decides.nat_tests, lemmas.List.append-nil}
+use Rattle.std.proofs.{Common.inl, Common.inr, Common.append_assoc, Common.subst, Common.length-append, lemmas.Bool.leb-true, lemmas.Bool.Decides.nat_tests}
+use Rattle.std.proofs.lemmas.List.{append-nil}
 use Rattle.std.specs.{List.AllByRecursion, Prelude.ℤ, Prelude.codes, Prelude.pos, Prelude.negsuc, Prelude.Option, Prelude.Some, Prelude.None}
 use Rattle.std.specs.{Prelude.option_map, Prelude.nat_le, Str.bytes_eq}
-use Rattle.qh_model.specs.declared.{limits.TheConstants.COORDINATE_LIMIT, limits.TheConstants.POINT_LIMIT, read_fault.ReadFault.ReadFault}
-use Rattle.qh_model.specs.headline.{FileFault.is_three, Limits.IsCoordinate, Limits.is_coordinate, Numbers.number_of, PointFile.IsHeader, Words.Word}
-use Rattle.qh_read.specs.contract.Progress.{Progress, wants_first, wants_second, wants, wants_vertex_count, wants_face_count, wants_edge_count}
-use Rattle.qh_read.specs.contract.Progress.{fails, counted, headed, took, after}
-use Rattle.qh_read.specs.declared.builder.Trailing.{Trailing, TheVariants.Refused, TheVariants.Ignored}
-use Rattle.qh_read.specs.{contract.Tokens.cap, steps.Building.lack, steps.Building.filled_in, steps.SmallTokens.capped}
+use Rattle.qh_model.specs.declared.{limits.TheConstants.BYTE_LIMIT, limits.TheConstants.COORDINATE_LIMIT, limits.TheConstants.POINT_LIMIT}
+use Rattle.qh_model.specs.{declared.read_fault.ReadFault.ReadFault, headline.FileFault.is_three, headline.Limits.IsCoordinate, headline.Limits.is_coordinate}
+use Rattle.qh_model.specs.headline.{Numbers.number_of, PointFile.IsHeader, PointFile.Reads, PointFile.coordinates, Vector.Vector, Words.Word, Words.data_words}
+use Rattle.qh_model.proofs.ReadingLaws.{numbers, thrice}
+use Rattle.qh_read.specs.contract.Progress.{Progress, wants_first, wants_second, wants, fails, counted, headed, took, after, after_number}
+use Rattle.qh_read.specs.declared.builder.{Pending.Pending, Trailing.Trailing, Trailing.TheVariants.Refused, Trailing.TheVariants.Ignored}
+use Rattle.qh_read.specs.{contract.Tokens.cap, steps.Building.filled_in, steps.SmallTokens.capped, steps.Stages.pending_list}
 
 -- the number of a word, capped
 abbrev pub number_in : Word → Option ℤ
@@ -31,9 +34,6 @@ judged-append p (w ∷ ws) vs = judged-append (after p (is_off w) (number_in w) 
 pub stays : (f : ReadFault) (ws : List Word) → judged (fails f) ws ≡ fails f
 stays f [] = refl
 stays f (w ∷ ws) = stays f ws
-
-abbrev pub numbers : List Word → List (Option ℤ)
-numbers ws = map (λ w. number_of w.text) ws
 
 in_limit : (z : ℤ) → is_coordinate (capped z) ≡ true → (capped z ≡ z) × IsCoordinate z
 in_limit (pos n) h =
@@ -144,28 +144,6 @@ counts trailing ws u (pos n) h = in_limits (nat_le 1 (cap n) && nat_le (cap n) P
           file = subst (λ (k : ℕ). FrontFilled trailing ws (3 * k) [] u) same (front_filled trailing ws (3 * cap n) [] u h);
         }
 
--- a number of the header is expected
-pub record Asks (p : Progress) (next : ℤ → Progress) : Type 0 where
-  pub lacks : lack p ≡ Some faults.NoHeader
-  pub none : filled_in p ≡ None
-  pub bad : (keyword : Bool) (line : ℕ) → after p keyword None line ≡ fails (faults.BadNumber line)
-  pub good : (keyword : Bool) (z : ℤ) (line : ℕ) → after p keyword (Some z) line ≡ next z
-
-pub first-asks : Asks wants_first wants_second
-first-asks = record { lacks = refl; none = refl; bad = λ keyword line. refl; good = λ keyword z line. refl }
-
-pub second-asks : (first : ℤ) → Asks (wants_second first) (headed first)
-second-asks first = record { lacks = refl; none = refl; bad = λ keyword line. refl; good = λ keyword z line. refl }
-
-pub vertex_count-asks : Asks wants_vertex_count wants_face_count
-vertex_count-asks = record { lacks = refl; none = refl; bad = λ keyword line. refl; good = λ keyword z line. refl }
-
-pub face_count-asks : (vertices : ℤ) → Asks (wants_face_count vertices) (λ faces. wants_edge_count vertices)
-face_count-asks vertices = record { lacks = refl; none = refl; bad = λ keyword line. refl; good = λ keyword z line. refl }
-
-pub edge_count-asks : (vertices : ℤ) → Asks (wants_edge_count vertices) (λ edges. counted Ignored vertices)
-edge_count-asks vertices = record { lacks = refl; none = refl; bad = λ keyword line. refl; good = λ keyword z line. refl }
-
 -- a number of the header, and the words after it
 pub record Numbered (next : ℤ → Progress) (ws : List Word) (u : List ℤ) : Type 0 where
   pub w : Word
@@ -175,15 +153,25 @@ pub record Numbered (next : ℤ → Progress) (ws : List Word) (u : List ℤ) : 
   pub number : number_of w.text ≡ Some z
   pub filled : filled_in (judged (next (capped z)) rest) ≡ Some u
 
-pub numbered : (p : Progress) (next : ℤ → Progress) → Asks p next → (ws : List Word) (u : List ℤ) → filled_in (judged p ws) ≡ Some u → Numbered next ws u
-numbered p next asks [] u h = cc (asks.none)
-numbered p next asks (w ∷ ws) u h =
-    elim (number_of w.text) as (λ o. number_of w.text ≡ o → filled_in (judged (after p (is_off w) (option_map capped o) w.line) ws) ≡ Some u
+pub numbered : (p : Progress) (next : ℤ → Progress) → filled_in p ≡ None
+    → ((keyword : Bool) (o : Option ℤ) (line : ℕ) → after p keyword o line ≡ after_number next o line)
+    → (ws : List Word) (u : List ℤ) → filled_in (judged p ws) ≡ Some u → Numbered next ws u
+numbered p next none asks [] u h = cc none
+numbered p next none asks (w ∷ ws) u h =
+    elim (number_of w.text) as (λ o. number_of w.text ≡ o → filled_in (judged (after_number next (option_map capped o) w.line) ws) ≡ Some u
     → Numbered next (w ∷ ws) u) [
-      | None ↦ λ e h. cc (ap (λ (q : Progress). filled_in (judged q ws)) (asks.bad (is_off w) w.line) ∙ ap filled_in (stays (faults.BadNumber w.line) ws))
-      | Some z ↦ λ e h. let filled = sym (ap (λ (q : Progress). filled_in (judged q ws)) (asks.good (is_off w) (capped z) w.line)) ∙ h in
-          record { w = w; rest = ws; z = z; are = refl; number = e; filled = filled }
-    ] refl h
+      | None ↦ λ e h. cc (ap filled_in (stays (faults.BadNumber w.line) ws))
+      | Some z ↦ λ e h. record { w = w; rest = ws; z = z; are = refl; number = e; filled = h }
+    ] refl (sym (ap (λ (q : Progress). filled_in (judged q ws)) (asks (is_off w) (number_in w) w.line)) ∙ h)
+
+-- whole points alone have three coordinates each
+pub none_left : (ps : List Vector) (q : Pending) (k : ℕ) → length (coordinates ps ++ pending_list q) ≡ 3 * k
+    → (coordinates ps ++ pending_list q ≡ coordinates ps) × (length ps ≡ k)
+none_left ps pendings.Zero k h =
+    let none = append-nil (coordinates ps) in
+    (none, omega (arith, thrice ps, length-append (coordinates ps) []))
+none_left ps (pendings.One x) k h = absurd (omega (arith, thrice ps, length-append (coordinates ps) (x.value ∷ [])))
+none_left ps (pendings.Two x y) k h = absurd (omega (arith, thrice ps, length-append (coordinates ps) (x.value ∷ y.value ∷ [])))
 
 -- ---- a point file
 three : (z : ℤ) → is_three (capped z) ≡ true → z ≡ pos 3
@@ -192,17 +180,6 @@ three (negsuc n) h = cc
 
 not_three : (z : ℤ) → is_three (capped z) ≡ false → z ≢ pos 3
 not_three z h e = let at : is_three (capped (pos 3)) ≡ false = subst (λ (y : ℤ). is_three (capped y) ≡ false) e h in cc
-
-pub record Whole (ws : List Word) (u : List ℤ) : Type 0 where
-  pub first : ℤ
-  pub second : ℤ
-  pub n : ℕ
-  pub are : numbers ws ≡ map Some (first ∷ second ∷ u)
-  pub header : IsHeader first second n
-  pub some : 1 ≤ n
-  pub few : n ≤ POINT_LIMIT
-  pub count : length u ≡ 3 * n
-  pub limit : AllByRecursion IsCoordinate u
 
 -- which of two numbers is the number of points
 record Header (a b : ℤ) (ws : List Word) (u : List ℤ) : Type 0 where
@@ -220,27 +197,33 @@ header a b ws u h = tested (is_three (capped a)) (is_three (capped b)) refl refl
     tested false false pe qe h = cc (ap filled_in (stays faults.NotThree ws))
 
 -- two numbers of a header, and the coordinates that they announce
-made : (ws : List Word) (u : List ℤ) (first : Numbered wants_second ws u) (second : Numbered (headed (capped first.z)) first.rest u)
-    → Header first.z second.z second.rest u → Whole ws u
-made ws u first second header =
+made : (bs : List ℕ) (ps : List Vector) (q : Pending) → length bs ≤ BYTE_LIMIT → let u = coordinates ps ++ pending_list q in
+    (first : Numbered wants_second (data_words bs) u) (second : Numbered (headed (capped first.z)) first.rest u)
+    → Header first.z second.z second.rest u → Reads bs ps
+made bs ps q small first second header =
     let file = header.counted.file in
-    let all : u ≡ file.filled.more = file.filled.all in
+    let all : coordinates ps ++ pending_list q ≡ file.filled.more = file.filled.all in
+    let left = none_left ps q header.counted.n (ap length all ∙ file.filled.count) in
+    let many : length ps ≡ header.counted.n = left.1 in
+    let points : coordinates ps ≡ file.filled.more = sym left.0 ∙ all in
     let last : second.rest ≡ file.front = file.are ∙ ap (λ (x : List Word). file.front ++ x) (file.last refl) ∙ append-nil file.front in
-    let words : ws ≡ first.w ∷ second.w ∷ file.front = cc (first.are, second.are, last) in
+    let words : data_words bs ≡ first.w ∷ second.w ∷ file.front = cc (first.are, second.are, last) in
     record {
+      small = small;
       first = first.z;
       second = second.z;
-      n = header.counted.n;
-      are = cc (words, first.number, second.number, file.filled.are, all);
-      header = header.header header.counted.n header.counted.is;
-      some = header.counted.some;
-      few = header.counted.few;
-      count = ap length all ∙ file.filled.count;
-      limit = subst (AllByRecursion IsCoordinate) (sym all) file.filled.limit;
+      numbers = cc (words, first.number, second.number, file.filled.are, points);
+      header = subst (IsHeader first.z second.z) (sym many) (header.header header.counted.n header.counted.is);
+      some = omega (arith, header.counted.some, many);
+      few = omega (arith, header.counted.few, many);
+      limit = subst (AllByRecursion IsCoordinate) (sym points) file.filled.limit;
     }
 
-pub whole : (ws : List Word) (u : List ℤ) → filled_in (judged wants_first ws) ≡ Some u → Whole ws u
-whole ws u h =
-    let first = numbered wants_first wants_second first-asks ws u h in
-    let second = numbered (wants_second (capped first.z)) (headed (capped first.z)) (second-asks (capped first.z)) first.rest u first.filled in
-    made ws u first second (header first.z second.z second.rest u second.filled)
+-- if everything that the header announces was read, the points are those of the point file
+pub reads_points : (bs : List ℕ) (ps : List Vector) (q : Pending) → length bs ≤ BYTE_LIMIT
+    → filled_in (judged wants_first (data_words bs)) ≡ Some (coordinates ps ++ pending_list q) → Reads bs ps
+reads_points bs ps q small h =
+    let u = coordinates ps ++ pending_list q in
+    let first = numbered wants_first wants_second refl (λ keyword o line. refl) (data_words bs) u h in
+    let second = numbered (wants_second (capped first.z)) (headed (capped first.z)) refl (λ keyword o line. refl) first.rest u first.filled in
+    made bs ps q small first second (header first.z second.z second.rest u second.filled)

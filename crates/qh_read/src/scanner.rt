@@ -43,6 +43,7 @@ impl Scanner {
     /// A coordinate takes at least two bytes, one of them a blank.
     pub fn reserve(&mut self, bytes: usize) -> Result<(), AllocError>
         ensures held { (t : Token) → held self.new t ≡ held self.old t }
+        ensures line { self.new.line ≡ self.old.line }
         ensures room { OnOk result ((t : Token) → HasRoom self.new t bytes) }
         ensures kept { (t : Token) → HasRoom self.old t 0 → HasRoom self.new t 0 }
     {

@@ -1,9 +1,8 @@
 -- The first fault of words that are not faces. The order of the faults is this project's profile.
 use Rattle.std.specs.Prelude.{ℕ, ◌==◌, List, [], ◌∷◌, Option, Some, None, if◌then◌else◌, zero, suc}
 use Rattle.qh_model.specs.declared.read_fault.ReadFault.{ReadFault, TheVariants.BadNumber, TheVariants.Long, TheVariants.Short}
-use Rattle.qh_read.specs.{contract.FaceWords.after_line, declared.faces.reading.Layout.Layout}
-use Rattle.qh_read.specs.declared.faces.reading.Layout.TheVariants.{Off, Counted, Lines}
-use Rattle.qh_read.specs.declared.numerals.Numeral.{Numeral}
+use Rattle.qh_read.specs.{contract.FaceWords.after_line, declared.numerals.Numeral.Numeral}
+use Rattle.qh_read.specs.declared.faces.reading.Layout.{Layout, TheVariants.Lines}
 
 -- the fault of a word that is not a number, or of the words after a number and its line
 abbrev pub value_fault : (ℕ → ℕ → List Numeral → Option ReadFault) → Option ℕ → ℕ → List Numeral → Option ReadFault
@@ -35,9 +34,8 @@ line_face_fault after ws = number_fault (λ corner line rest. line_fault after l
 
 -- the fault if a face is expected
 abbrev pub face_fault : Layout → (List Numeral → Option ReadFault) → List Numeral → Option ReadFault
-face_fault Off after ws = counted_face_fault after ws
-face_fault Counted after ws = counted_face_fault after ws
 face_fault Lines after ws = line_face_fault after ws
+face_fault layout after ws = counted_face_fault after ws
 
 -- the fault if a number of faces is expected, and no further word
 abbrev pub faces_fault : Layout → ℕ → List Numeral → Option ReadFault

@@ -6,9 +6,8 @@ use Rattle.qh_model.specs.declared.limits.TheConstants.{BYTE_LIMIT}
 use Rattle.qh_model.specs.declared.form.Form.TheVariants as forms
 use Rattle.qh_model.specs.declared.read_fault.ReadFault.{ReadFault, TheVariants.Big, TheVariants.Memory}
 use Rattle.qh_model.specs.headline.{Vector.Vector, Forms.ReadsIn, Forms.IsFirstFault}
-use Rattle.qh_read.specs.{contract.Numerals.numerals_in, contract.FaceFaults.list_fault, contract.FaceWords.IsList, declared.faces.reading.Layout.Layout}
-use Rattle.qh_read.specs.declared.faces.reading.{Reading.Reading, Layout.TheVariants.Off, Layout.TheVariants.Counted, Layout.TheVariants.Lines}
-use Rattle.qh_read.specs.declared.numerals.Numeral.{Numeral}
+use Rattle.qh_read.specs.{contract.Numerals.numerals_in, contract.FaceFaults.list_fault, contract.FaceWords.IsList, declared.numerals.Numeral.Numeral}
+use Rattle.qh_read.specs.declared.faces.reading.{Reading.Reading, Layout.Layout, Layout.TheVariants.Off}
 
 -- the list of faces of an OFF file with these vertices: its number is the third word, and the faces follow the coordinates
 pub record IsOffList (bytes : List ℕ) (vertices : List Vector) (ws : List Numeral) : Type 0 where
@@ -32,8 +31,7 @@ pub record IsWholeList (bytes : List ℕ) (vertices : List Vector) (ws : List Nu
 -- the words are the list of faces of the file, which has these vertices
 abbrev pub IsListOf : Layout → List ℕ → List Vector → List Numeral → Type 0
 IsListOf Off bytes vertices ws = IsOffList bytes vertices ws
-IsListOf Counted bytes vertices ws = IsWholeList bytes vertices ws
-IsListOf Lines bytes vertices ws = IsWholeList bytes vertices ws
+IsListOf layout bytes vertices ws = IsWholeList bytes vertices ws
 
 -- the bytes are a file of these vertices and faces
 abbrev pub ReadsFaces : Reading → List ℕ → List Vector → List (List ℕ) → Type 0
@@ -43,8 +41,7 @@ ReadsFaces reading bytes vertices faces =
 -- the fault in the words before the list of faces
 abbrev pub IsFaultBefore : Layout → List ℕ → ReadFault → Type 0
 IsFaultBefore Off bytes e = IsFirstFault forms.Off bytes e
-IsFaultBefore Counted bytes e = (BYTE_LIMIT < length bytes) × (e ≡ Big)
-IsFaultBefore Lines bytes e = (BYTE_LIMIT < length bytes) × (e ≡ Big)
+IsFaultBefore layout bytes e = (BYTE_LIMIT < length bytes) × (e ≡ Big)
 
 -- the first fault of the file: one before the list of faces, or else one in the list
 abbrev pub IsFileFault : Layout → List ℕ → ReadFault → Type 0

@@ -2,8 +2,8 @@
 -- Source: Geomview OFF (a face is its number of corners, their indices from 0, and an optional colour up to the end of the line); Qhull's options `Fv` (such
 -- faces) and `i` (a face is a line of indices, without their number).
 use Rattle.std.specs.Prelude.{ℕ, ◌≡◌, ◌==◌, List, [], ◌∷◌, ◌++◌, map, reverse, length, Some, if◌then◌else◌}
-use Rattle.qh_read.specs.declared.faces.reading.{Layout.Layout, Turn.Turn, Layout.TheVariants.Off, Layout.TheVariants.Counted, Layout.TheVariants.Lines}
-use Rattle.qh_read.specs.declared.{faces.reading.Turn.TheVariants.Counterclockwise, faces.reading.Turn.TheVariants.Clockwise, numerals.Numeral.Numeral}
+use Rattle.qh_read.specs.declared.faces.reading.{Layout.Layout, Layout.TheVariants.Lines, Turn.Turn, Turn.TheVariants.Clockwise}
+use Rattle.qh_read.specs.declared.numerals.Numeral.{Numeral}
 
 -- the leading words that are on this line
 abbrev pub on_line : ℕ → List Numeral → List Numeral
@@ -43,14 +43,13 @@ pub record IsLineFace (ws : List Numeral) (corners : List ℕ) (rest : List Nume
   pub after : rest ≡ after_line first.line left
 
 abbrev pub IsFace : Layout → List Numeral → List ℕ → List Numeral → Type 0
-IsFace Off ws corners rest = IsCountedFace ws corners rest
-IsFace Counted ws corners rest = IsCountedFace ws corners rest
 IsFace Lines ws corners rest = IsLineFace ws corners rest
+IsFace layout ws corners rest = IsCountedFace ws corners rest
 
 -- corners in counterclockwise order
 abbrev pub turned : Turn → List ℕ → List ℕ
-turned Counterclockwise corners = corners
 turned Clockwise corners = reverse corners
+turned turn corners = corners
 
 -- the words are these faces, one after another, and nothing else
 abbrev pub AreFaces : Layout → Turn → List Numeral → List (List ℕ) → Type 0

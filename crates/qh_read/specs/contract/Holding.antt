@@ -4,8 +4,7 @@ use Rattle.std.specs.Char.{is_ascii_digit}
 use Rattle.qh_model.specs.declared.form.Form.{Form, TheVariants.Qhull, TheVariants.Off}
 use Rattle.qh_model.specs.headline.Words.{is_blank, is_data}
 use Rattle.qh_read.specs.contract.{Tokens.grown, Tokens.value_of, Tokens.is_keyword, Progress.Progress, Progress.started, Progress.after}
-use Rattle.qh_read.specs.declared.token.Token.{Token}
-use Rattle.qh_read.specs.declared.token.Token.TheVariants.{Empty, Sign, Digits, Keyword, Other}
+use Rattle.qh_read.specs.declared.token.Token.{Token, TheVariants.Empty}
 
 -- the form, the progress, the unfinished word, whether a comment is unfinished, and the line
 pub record Held : Type 0 where
@@ -21,10 +20,7 @@ held_at_start form = record { form = form; progress = started form; token = Empt
 -- the unfinished word ends
 abbrev pub word_ended : Progress → Token → ℕ → Progress
 word_ended p Empty line = p
-word_ended p (Sign minus) line = after p (is_keyword (Sign minus)) (value_of (Sign minus)) line
-word_ended p (Digits minus n) line = after p (is_keyword (Digits minus n)) (value_of (Digits minus n)) line
-word_ended p (Keyword letters) line = after p (is_keyword (Keyword letters)) (value_of (Keyword letters)) line
-word_ended p Other line = after p (is_keyword Other) (value_of Other) line
+word_ended p t line = after p (is_keyword t) (value_of t) line
 
 abbrev pub ended_held : Held → Held
 ended_held h = record h { progress = word_ended h.progress h.token h.line; token = Empty }
@@ -32,10 +28,7 @@ ended_held h = record h { progress = word_ended h.progress h.token h.line; token
 -- in a point file, the byte continues a word, or begins a word, or begins a comment
 abbrev pub held_begun : Held → Token → ℕ → Held
 held_begun h Empty c = if is_data (c ∷ []) then record h { token = grown Empty c } else record h { comment = true }
-held_begun h (Sign minus) c = record h { token = grown (Sign minus) c }
-held_begun h (Digits minus n) c = record h { token = grown (Digits minus n) c }
-held_begun h (Keyword letters) c = record h { token = grown (Keyword letters) c }
-held_begun h Other c = record h { token = grown Other c }
+held_begun h t c = record h { token = grown t c }
 
 -- a byte that is neither a digit nor a separator; in an OFF file, `#` ends a word and begins a comment
 abbrev pub held_marked : Form → Held → ℕ → Held

@@ -1,14 +1,13 @@
 -- The words of a text as numbers: those of an OFF file, outside comments.
 -- Source: as for OFF files (Geomview OFF; a comment begins at any byte `#`), whose faces consist of such numbers.
-use Rattle.std.specs.Prelude.{ℕ, ℤ, pos, negsuc, List, [], ◌∷◌, ◌≢◌, map, nat_le, if◌then◌else◌, Option, Some, None}
+use Rattle.std.specs.Prelude.{ℕ, ℤ, pos, List, [], ◌∷◌, ◌≢◌, map, nat_le, if◌then◌else◌, Option, Some, None}
 use Rattle.qh_model.specs.{declared.limits.TheConstants.COORDINATE_LIMIT, headline.Words.Word, headline.Numbers.number_of, headline.OffFile.off_words}
 use Rattle.qh_read.specs.declared.numerals.Numeral.{Numeral}
 
 -- a number from 0 to the limit
 abbrev pub small_number : Option ℤ → Option ℕ
-small_number None = None
 small_number (Some (pos n)) = if nat_le n COORDINATE_LIMIT then Some n else None
-small_number (Some (negsuc n)) = None
+small_number o = None
 
 -- a word as a number from 0 to the limit, if it is one, with its line
 abbrev pub numeral_of : Word → Numeral

@@ -1,5 +1,5 @@
 -- The progress of the words through the file.
-use Rattle.std.specs.Prelude.{ℕ, ℤ, pos, negsuc, Bool, true, false, List, [], ◌∷◌, ◌++◌, ◌*◌, ◌&&◌, if◌then◌else◌, nat_le, zero, suc, Option, Some, None}
+use Rattle.std.specs.Prelude.{ℕ, ℤ, pos, negsuc, Bool, List, [], ◌∷◌, ◌++◌, ◌*◌, ◌&&◌, if◌then◌else◌, nat_le, zero, suc, Option, Some, None}
 use Rattle.qh_model.specs.declared.{form.Form.Form, form.Form.TheVariants.Qhull, form.Form.TheVariants.Off, limits.TheConstants.POINT_LIMIT}
 use Rattle.qh_model.specs.{declared.read_fault.ReadFault.ReadFault, headline.Limits.is_coordinate, headline.FileFault.is_three}
 use Rattle.qh_model.specs.declared.read_fault.ReadFault.TheVariants as faults
@@ -44,21 +44,19 @@ abbrev pub trailed : Trailing → List ℤ → ℕ → Progress
 trailed Refused taken line = fails (faults.Long line)
 trailed Ignored taken line = wants Ignored zero taken
 
+-- the progress after a word that has to be a number
+abbrev pub after_number : (ℤ → Progress) → Option ℤ → ℕ → Progress
+after_number next None line = fails (faults.BadNumber line)
+after_number next (Some z) line = next z
+
 -- the progress after one more word, given whether it is `OFF`, and its number, if it has one
 abbrev pub after : Progress → Bool → Option ℤ → ℕ → Progress
-after wants_first keyword None line = fails (faults.BadNumber line)
-after wants_first keyword (Some z) line = wants_second z
-after (wants_second first) keyword None line = fails (faults.BadNumber line)
-after (wants_second first) keyword (Some second) line = headed first second
+after wants_first keyword value line = after_number wants_second value line
+after (wants_second first) keyword value line = after_number (headed first) value line
 after (wants trailing zero taken) keyword value line = trailed trailing taken line
-after (wants trailing (suc left) taken) keyword None line = fails (faults.BadNumber line)
-after (wants trailing (suc left) taken) keyword (Some z) line = took (wants trailing left) taken line z
-after wants_keyword true value line = wants_vertex_count
-after wants_keyword false value line = fails faults.NotOff
-after wants_vertex_count keyword None line = fails (faults.BadNumber line)
-after wants_vertex_count keyword (Some vertices) line = wants_face_count vertices
-after (wants_face_count vertices) keyword None line = fails (faults.BadNumber line)
-after (wants_face_count vertices) keyword (Some faces) line = wants_edge_count vertices
-after (wants_edge_count vertices) keyword None line = fails (faults.BadNumber line)
-after (wants_edge_count vertices) keyword (Some edges) line = counted Ignored vertices
+after (wants trailing (suc left) taken) keyword value line = after_number (took (wants trailing left) taken line) value line
+after wants_keyword keyword value line = if keyword then wants_vertex_count else fails faults.NotOff
+after wants_vertex_count keyword value line = after_number wants_face_count value line
+after (wants_face_count vertices) keyword value line = after_number (λ faces. wants_edge_count vertices) value line
+after (wants_edge_count vertices) keyword value line = after_number (λ edges. counted Ignored vertices) value line
 after (fails fault) keyword value line = fails fault

@@ -28,16 +28,10 @@ signed minus n = if minus then neg_ℤ (pos n) else pos n
 
 -- the number of a word that ends here
 abbrev pub value_of : Token → Option ℤ
-value_of Empty = None
-value_of (Sign minus) = None
 value_of (Digits minus n) = Some (signed minus n)
-value_of (Keyword letters) = None
-value_of Other = None
+value_of t = None
 
 -- the word that ends here is `OFF`
 abbrev pub is_keyword : Token → Bool
-is_keyword Empty = false
-is_keyword (Sign minus) = false
-is_keyword (Digits minus n) = false
 is_keyword (Keyword letters) = letters == 3
-is_keyword Other = false
+is_keyword t = false

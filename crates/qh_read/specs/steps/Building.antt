@@ -2,9 +2,9 @@
 use Rattle.std.specs.Prelude.{ℕ, ℤ, ◌≡◌, ◌+◌, ◌*◌, List, ◌++◌, zero, suc, Option, None, Some, vec_len}
 use Rattle.qh_model.specs.declared.read_fault.ReadFault.{ReadFault, TheVariants.NoHeader, TheVariants.Short}
 use Rattle.qh_model.specs.headline.{Vector.Vector, PointFile.coordinates}
-use Rattle.qh_read.specs.contract.Progress.{Progress, wants_first, wants_second, wants, wants_keyword, wants_vertex_count, wants_face_count, wants_edge_count}
-use Rattle.qh_read.specs.{contract.Progress.fails, declared.builder.Pending.Pending, declared.builder.Builder.Builder}
-use Rattle.qh_read.specs.steps.Stages.{stage_shown, pending_list, pending_count}
+use Rattle.qh_read.specs.contract.Progress.{Progress, wants, fails}
+use Rattle.qh_read.specs.{declared.builder.Pending.Pending, declared.builder.Builder.Builder, steps.Stages.stage_shown, steps.Stages.pending_list}
+use Rattle.qh_read.specs.steps.Stages.{pending_count}
 
 -- all coordinates so far
 abbrev pub taken : Builder → List ℤ
@@ -19,27 +19,15 @@ shown b = stage_shown b.stage (taken b)
 
 -- the fault of a file that ends here
 abbrev pub lack : Progress → Option ReadFault
-lack wants_first = Some NoHeader
-lack (wants_second first) = Some NoHeader
 lack (wants trailing zero taken) = None
 lack (wants trailing (suc left) taken) = Some Short
-lack wants_keyword = Some NoHeader
-lack wants_vertex_count = Some NoHeader
-lack (wants_face_count vertices) = Some NoHeader
-lack (wants_edge_count vertices) = Some NoHeader
 lack (fails f) = Some f
+lack header = Some NoHeader
 
 -- the coordinates, if all expected ones are present
 abbrev pub filled_in : Progress → Option (List ℤ)
-filled_in wants_first = None
-filled_in (wants_second first) = None
 filled_in (wants trailing zero taken) = Some taken
-filled_in (wants trailing (suc left) taken) = None
-filled_in wants_keyword = None
-filled_in wants_vertex_count = None
-filled_in (wants_face_count vertices) = None
-filled_in (wants_edge_count vertices) = None
-filled_in (fails f) = None
+filled_in p = None
 
 -- the points are all expected ones
 abbrev pub AreAll : Progress → List Vector → Type 0

@@ -1,7 +1,6 @@
 -- The state of a scanner, and its room.
 use Rattle.std.specs.Prelude.{ℕ, ◌≤◌, ◌+◌, ◌*◌, vec_capacity}
-use Rattle.qh_read.specs.{contract.Holding.Held, declared.scanner.Scanner.Scanner, declared.token.Token.Token}
-use Rattle.qh_read.specs.declared.token.Token.TheVariants.{Empty, Sign, Digits, Keyword, Other}
+use Rattle.qh_read.specs.{contract.Holding.Held, declared.scanner.Scanner.Scanner, declared.token.Token.Token, declared.token.Token.TheVariants.Empty}
 use Rattle.qh_read.specs.steps.Building.{shown, taken_count}
 
 -- the state of a scanner, with the unfinished word
@@ -11,10 +10,7 @@ held s t = record { form = s.form; progress = shown s.builder; token = t; commen
 -- the number of unfinished words
 abbrev pub under_way : Token → ℕ
 under_way Empty = 0
-under_way (Sign minus) = 1
-under_way (Digits minus n) = 1
-under_way (Keyword letters) = 1
-under_way Other = 1
+under_way t = 1
 
 -- for any next bytes of this number, after which the text may end, there is room for the points
 abbrev pub HasRoom : Scanner → Token → ℕ → Type 0

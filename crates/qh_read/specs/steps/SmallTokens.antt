@@ -1,8 +1,7 @@
 -- Words whose magnitude is within the cap.
 use Rattle.std.specs.Prelude.{ℤ, pos, negsuc, ◌≤◌, min}
 use Rattle.qh_model.specs.declared.limits.TheConstants.{COORDINATE_LIMIT}
-use Rattle.qh_read.specs.{contract.Tokens.cap, declared.token.TheConstants.MAGNITUDE_CAP, declared.token.Token.Token}
-use Rattle.qh_read.specs.declared.token.Token.TheVariants.{Empty, Sign, Digits, Keyword, Other}
+use Rattle.qh_read.specs.{contract.Tokens.cap, declared.token.TheConstants.MAGNITUDE_CAP, declared.token.Token.Token, declared.token.Token.TheVariants.Digits}
 
 -- a number up to the cap, above which numbers are not distinguished
 abbrev pub capped : ℤ → ℤ
@@ -11,8 +10,5 @@ capped (negsuc n) = negsuc (min n COORDINATE_LIMIT)
 
 -- the magnitude is within the cap
 abbrev pub IsSmall : Token → Type 0
-IsSmall Empty = Unit {0}
-IsSmall (Sign minus) = Unit {0}
 IsSmall (Digits minus n) = n ≤ MAGNITUDE_CAP
-IsSmall (Keyword letters) = Unit {0}
-IsSmall Other = Unit {0}
+IsSmall t = Unit {0}

@@ -21,25 +21,14 @@ stage_shown (stages.Failed fault) t = fails fault
 
 -- the header or a part of it is still expected
 abbrev pub is_header : Stage → Bool
-is_header stages.First = true
-is_header (stages.Second first) = true
 is_header (stages.Coordinates left trailing) = false
-is_header stages.Keyword = true
-is_header stages.VertexCount = true
-is_header (stages.FaceCount vertices) = true
-is_header (stages.EdgeCount vertices) = true
 is_header (stages.Failed fault) = false
+is_header stage = true
 
 -- the fault that was found
 abbrev pub stage_fault : Stage → Option ReadFault
-stage_fault stages.First = None
-stage_fault (stages.Second first) = None
-stage_fault (stages.Coordinates left trailing) = None
-stage_fault stages.Keyword = None
-stage_fault stages.VertexCount = None
-stage_fault (stages.FaceCount vertices) = None
-stage_fault (stages.EdgeCount vertices) = None
 stage_fault (stages.Failed fault) = Some fault
+stage_fault stage = None
 
 -- the fault of a stage is one of the text
 abbrev pub HasTextFault : Stage → Type 0
