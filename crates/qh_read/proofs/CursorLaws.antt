@@ -1,13 +1,11 @@
 -- The bytes that cursors pass, one part after another.
 use Rattle.std.proofs.Common.{◌≡◌, ◌∙◌, ◌++◌, [], ◌∷◌, ◌<◌, ◌≤◌, ◌+◌, ◌-◌, ◌*◌, drop, ℕ, List, ap, arith, suc, refl, length, length-append, append_assoc, sym}
-use Rattle.std.proofs.lemmas.List.{drop_more, append-nil}
-use Rattle.std.specs.Prelude.{ℤ, get_or}
+use Rattle.std.{proofs.lemmas.List.drop_more, proofs.lemmas.List.append-nil, specs.Prelude.ℤ, specs.Prelude.get_or}
 use Rattle.qh_model.specs.{declared.form.Form.Form, headline.Limits.IsCoordinate, headline.PointFile.coordinates, headline.Vector.Vector}
 use Rattle.qh_read.proofs.NumberLaws.{three, coordinates-append}
 use Rattle.qh_read.specs.contract.{Holding.Held, Holding.held_by, Holding.next_held, Progress.Progress, Progress.wants}
 use Rattle.qh_read.specs.declared.{builder.Trailing.Trailing, cursor.Cursor.Cursor, token.Token.TheVariants.Empty}
-use Rattle.qh_read.specs.steps.Cursors.{ahead, held_from, IsParted, ArePoint, ArePushed}
-use Rattle.qh_read.specs.steps.Numbers.{quiet, ArePoints}
+use Rattle.qh_read.specs.steps.{Cursors.ahead, Cursors.held_from, Cursors.IsParted, Cursors.ArePoint, Cursors.ArePushed, Numbers.quiet, Numbers.ArePoints}
 
 -- one more byte
 pub step : (h k : Held) (bytes : List ℕ) (i j : ℕ) → i < length bytes → j ≡ i + 1 → next_held h (get_or bytes i 0) ≡ k

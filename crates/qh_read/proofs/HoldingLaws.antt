@@ -5,9 +5,8 @@ use Rattle.std.specs.{Char.is_ascii_digit, Prelude.ℤ, Prelude.Option, Prelude.
 use Rattle.qh_model.specs.declared.form.Form.{Form, TheVariants.Qhull, TheVariants.Off}
 use Rattle.qh_model.specs.headline.Words.{Word, is_blank, is_data}
 use Rattle.qh_read.proofs.Lexing.{Lexed, start, ended, closed, begun, marked, next, lexed, words_in}
-use Rattle.qh_read.proofs.LexingLaws.{in_cond, push_cond, data_words-lexed}
-use Rattle.qh_read.proofs.{OffLexingLaws.off_words-lexed, ProgressLaws.judged, ProgressLaws.judged-append}
-use Rattle.qh_read.proofs.TokenLaws.{grown_by, value-number, keyword-off}
+use Rattle.qh_read.proofs.{LexingLaws.in_cond, LexingLaws.push_cond, LexingLaws.data_words-lexed, OffLexingLaws.off_words-lexed, ProgressLaws.judged}
+use Rattle.qh_read.proofs.{ProgressLaws.judged-append, TokenLaws.grown_by, TokenLaws.value-number, TokenLaws.keyword-off}
 use Rattle.qh_read.specs.contract.Holding.{Held, held_at_start, word_ended, held_begun, held_marked, ended_held, next_held, held_by}
 use Rattle.qh_read.specs.contract.{Progress.Progress, Progress.started, Progress.after, Tokens.cap, Tokens.grown, Tokens.value_of, Tokens.is_keyword}
 use Rattle.qh_read.specs.declared.token.Token.{Token, TheVariants.Empty, TheVariants.Sign, TheVariants.Digits, TheVariants.Keyword, TheVariants.Other}

@@ -1,13 +1,12 @@
 -- The position of the list of faces among the words of a file.
 use Rattle.qh_model.specs.declared.form.Form.TheVariants as forms
 use Rattle.std.proofs.Common.{ℕ, ◌≡◌, ◌∙◌, ◌++◌, ◌+◌, ◌*◌, [], ◌∷◌, List, suc, refl, ap, sym, arith, map, drop, length}
-use Rattle.std.proofs.{lemmas.List.map-append, lemmas.List.length-map, lemmas.List.drop-drop, Math.Seq.drop-append_seam}
+use Rattle.std.proofs.{Math.Seq.drop-append_seam, lemmas.List.map-append, lemmas.List.length-map, lemmas.List.drop-drop}
 use Rattle.std.specs.Prelude.{ℤ, pos, Option, Some, None, MatchOption}
-use Rattle.qh_model.specs.declared.read_fault.ReadFault.{ReadFault}
+use Rattle.qh_model.{proofs.ReadingLaws.thrice, specs.declared.read_fault.ReadFault.ReadFault}
 use Rattle.qh_model.specs.headline.{Forms.ReadsIn, Numbers.number_of, OffFile.off_words, PointFile.coordinates, Vector.Vector, Words.Word}
-use Rattle.qh_model.proofs.ReadingLaws.{thrice}
-use Rattle.qh_read.specs.{contract.Numerals.numeral_of, contract.Numerals.numerals_in, declared.numerals.Numeral.Numeral}
-use Rattle.qh_read.specs.{contract.FaceFaults.number_fault, contract.FaceFaults.value_fault, contract.FaceFiles.IsOffList, steps.Lists.behind}
+use Rattle.qh_read.specs.contract.{FaceFaults.number_fault, FaceFaults.value_fault, FaceFiles.IsOffList, Numerals.numeral_of, Numerals.numerals_in}
+use Rattle.qh_read.specs.{declared.numerals.Numeral.Numeral, steps.Lists.behind}
 
 -- one more word is skipped
 pub dropped-more : (ws : List Numeral) (k : ℕ) (old new : List Numeral) (r : Option Numeral) → old ≡ drop k ws

@@ -1,8 +1,7 @@
 -- The token of a word determines its number, up to the cap.
 use Rattle.std.proofs.Common.{◌≡◌, ◌∙◌, [], ◌∷◌, ◌+◌, ◌-◌, ◌*◌, ◌≤◌, ◌==◌, ◌&&◌, ℕ, List, Bool, true, false, cond, refl, ap, sym, arith, zero, suc, min}
-use Rattle.std.proofs.lemmas.Bool.Decides.{nat_tests}
-use Rattle.std.specs.{Char.is_ascii_digit, Prelude.codes, Prelude.pos, Prelude.neg_ℤ, Prelude.Option, Prelude.Some, Prelude.None, Prelude.option_map}
-use Rattle.std.specs.Str.{bytes_eq}
+use Rattle.std.{proofs.lemmas.Bool.Decides.nat_tests, specs.Char.is_ascii_digit}
+use Rattle.std.specs.{Prelude.codes, Prelude.pos, Prelude.neg_ℤ, Prelude.Option, Prelude.Some, Prelude.None, Prelude.option_map, Str.bytes_eq}
 use Rattle.qh_model.specs.declared.limits.TheConstants.{COORDINATE_LIMIT}
 use Rattle.qh_model.specs.headline.Numbers.{read_digits, are_digits, magnitude_of, number_of}
 use Rattle.qh_read.specs.contract.Tokens.{cap, grown, signed, value_of, is_keyword}

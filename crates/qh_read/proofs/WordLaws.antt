@@ -3,10 +3,9 @@ use Rattle.std.proofs.Common.{ℕ, ◌≡◌, ◌≢◌, ◌∙◌, ◌++◌, �
 use Rattle.std.proofs.{Common.append_assoc, lemmas.Bool.Decides.nat_tests, lemmas.List.append-nil, lemmas.List.map-append}
 use Rattle.std.specs.Prelude.{Option, Some}
 use Rattle.qh_model.specs.declared.read_fault.ReadFault.{ReadFault}
-use Rattle.qh_read.specs.{contract.Numerals.IsElsewhere, declared.numerals.Numeral.Numeral}
 use Rattle.qh_read.specs.contract.FaceFaults.{corners_fault, face_fault, faces_fault, number_fault}
 use Rattle.qh_read.specs.contract.FaceWords.{AreNumbers, IsLineFace, after_line, last_line, on_line}
-use Rattle.qh_read.specs.{declared.faces.reading.Layout.Layout, steps.Corners.AreTaken}
+use Rattle.qh_read.specs.{contract.Numerals.IsElsewhere, declared.faces.reading.Layout.Layout, declared.numerals.Numeral.Numeral, steps.Corners.AreTaken}
 
 last_line-append : (own : List Numeral) (line : ℕ) (w : Numeral) → last_line line (own ++ w ∷ []) ≡ w.line
 last_line-append [] line w = refl

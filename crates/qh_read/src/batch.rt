@@ -24,12 +24,11 @@ pub struct Batch {
 }
 
 impl Batch {
-    ghost use Rattle.std.specs.Prelude.{◌≡◌, ◌+◌, ◌-◌, ◌^◌, ◌++◌, ◌<◌, ℕ, List, true, false, length, IfErr, OnOk, Ok};
-    ghost use Rattle.std.specs.{Prelude.Err, Io.KnownBytes.Consumes, Io.KnownBytes.IsAtEnd};
+    ghost use Rattle.std.specs.Io.KnownBytes.{Consumes, IsAtEnd};
+    ghost use Rattle.std.specs.Prelude.{◌≡◌, ◌+◌, ◌-◌, ◌^◌, ◌++◌, ◌<◌, ℕ, List, true, false, length, IfErr, OnOk, Ok, Err};
     ghost use Rattle.qh_model.specs.declared.form.Form.{Form};
-    ghost use Rattle.qh_read.specs.{contract.Holding.Fed, steps.Segments.batch_text, steps.Segments.IsParsed, steps.Segments.IsSegment};
-    ghost use Rattle.qh_read.specs.steps.Segments.{segment_text};
-    ghost use Rattle.qh_read.specs.steps.Sources.{Stops};
+    ghost use Rattle.qh_read.specs.contract.Holding.{Fed};
+    ghost use Rattle.qh_read.specs.steps.{Segments.batch_text, Segments.IsParsed, Segments.IsSegment, Segments.segment_text, Sources.Stops};
 
     /// Creates an empty batch. It allocates nothing yet.
     pub fn new(alloc: Global) -> Batch

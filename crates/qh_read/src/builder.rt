@@ -97,12 +97,10 @@ fn after_keyword(token: Token) -> Stage
 }
 
 impl Builder {
-    ghost use Rattle.std.specs.Prelude.{◌≡◌, ◌≤◌, ◌<◌, ◌+◌, ◌*◌, ◌++◌, [], ◌∷◌, ℕ, Some, OnOk, IfOk, IfErr, IfSome};
-    ghost use Rattle.std.specs.Prelude.{length, vec_len, vec_capacity};
+    ghost use Rattle.std.specs.Prelude.{◌≡◌, ◌≤◌, ◌<◌, ◌+◌, ◌*◌, ◌++◌, [], ◌∷◌, ℕ, Some, OnOk, IfOk, IfErr, IfSome, length, vec_len, vec_capacity};
     ghost use Rattle.qh_read.specs.contract.{ReadFaults.IsTextFault, Tokens.is_keyword, Tokens.value_of};
-    ghost use Rattle.qh_read.specs.steps.SmallTokens.{IsSmall};
     ghost use Rattle.qh_read.specs.steps.Building.{shown, taken, taken_count, lack, AreAll};
-    ghost use Rattle.qh_read.specs.steps.{Numbers.AwaitsPoints, Cursors.IsOn, Cursors.held_from};
+    ghost use Rattle.qh_read.specs.steps.{Cursors.IsOn, Cursors.held_from, Numbers.AwaitsPoints, SmallTokens.IsSmall};
     ghost use Rattle.qh_model.specs.{declared.form.Form.Form, headline.PointFile.coordinates};
 
     /// Creates a builder that has read nothing yet.

@@ -1,8 +1,7 @@
 //! The parts of a number that is parsed as a whole: a sign, digits, and the byte that ends it.
-ghost use Rattle.std.specs.Prelude.{◌≡◌, ◌≤◌, ◌<◌, ◌+◌, ◌-◌, ◌^◌, true, drop, length, IfSome};
 ghost use Rattle.std.specs.Char.{is_ascii_digit};
-ghost use Rattle.qh_read.specs.{contract.Tokens.signed, steps.Signs.is_minus};
-ghost use Rattle.qh_read.specs.steps.Numbers.{IsBegun, IsContinued, IsEnd};
+ghost use Rattle.std.specs.Prelude.{◌≡◌, ◌≤◌, ◌<◌, ◌+◌, ◌-◌, ◌^◌, true, drop, length, IfSome};
+ghost use Rattle.qh_read.specs.{contract.Tokens.signed, steps.Numbers.IsBegun, steps.Numbers.IsContinued, steps.Numbers.IsEnd, steps.Signs.is_minus};
 
 use crate::coordinate::Coordinate;
 use crate::token::blank;

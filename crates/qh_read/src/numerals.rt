@@ -4,8 +4,7 @@
 ghost use Rattle.std.specs.Prelude.{◌≡◌, ◌≤◌, ◌<◌, ◌+◌, [], ◌∷◌, ℕ, List, true, false, None, Some, length, MatchOption};
 ghost use Rattle.qh_model.specs.declared.limits.TheConstants.{BYTE_LIMIT};
 ghost use Rattle.qh_read.specs.contract.{Numerals.IsElsewhere, Numerals.numerals_in, Tokens.grown};
-ghost use Rattle.qh_read.specs.steps.Arriving.{BeginsWord, arriving, ends_word, told};
-ghost use Rattle.qh_read.specs.steps.SmallTokens.{IsSmall};
+ghost use Rattle.qh_read.specs.steps.{Arriving.BeginsWord, Arriving.arriving, Arriving.ends_word, Arriving.told, SmallTokens.IsSmall};
 
 use crate::token::{Token, blank};
 use qh_model::{BYTE_LIMIT, COORDINATE_LIMIT};

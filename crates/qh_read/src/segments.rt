@@ -1,8 +1,7 @@
 //! The segments of one text: parsed in parallel, fed in order.
 ghost use Rattle.std.specs.Prelude.{◌≡◌, ◌≤◌, ◌<◌, ◌+◌, ◌++◌, ℕ, List, length, IfOk, OnOk, Err};
 ghost use Rattle.qh_model.specs.declared.form.Form.{Form};
-ghost use Rattle.qh_read.specs.contract.Holding.{Fed};
-ghost use Rattle.qh_read.specs.steps.Segments.{AreSegments, segment_text};
+ghost use Rattle.qh_read.specs.{contract.Holding.Fed, steps.Segments.AreSegments, steps.Segments.segment_text};
 
 use crate::fault::FeedFault;
 use crate::reader::Reader;

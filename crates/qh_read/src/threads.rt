@@ -2,12 +2,11 @@
 //!
 //! A file is read in batches, and a batch is cut into segments, which threads claim and parse. Before it claims, one of
 //! the threads feeds the previous batch to the reader, and the calling thread reads the next batch.
-ghost use Rattle.std.specs.Prelude.{◌≡◌, ◌≤◌, ◌<◌, ◌+◌, ◌-◌, ◌^◌, ◌++◌, ◌≢◌, ℕ, List, true, false, length, Err, IfErr, OnOk, Ok};
 ghost use Rattle.std.specs.Io.KnownBytes.{Consumes, IsAtEnd};
+ghost use Rattle.std.specs.Prelude.{◌≡◌, ◌≤◌, ◌<◌, ◌+◌, ◌-◌, ◌^◌, ◌++◌, ◌≢◌, ℕ, List, true, false, length, Err, IfErr, OnOk, Ok};
 ghost use Rattle.qh_model.specs.declared.form.Form.{Form};
 ghost use Rattle.qh_read.specs.contract.{Answers.AnswersSource, Holding.Fed};
-ghost use Rattle.qh_read.specs.steps.Segments.{batch_text, IsParsed, FedAndFilled};
-ghost use Rattle.qh_read.specs.steps.Sources.{FedOn, Stops};
+ghost use Rattle.qh_read.specs.steps.{Segments.batch_text, Segments.IsParsed, Segments.FedAndFilled, Sources.FedOn, Sources.Stops};
 
 use crate::batch::Batch;
 use crate::fault::FeedFault;

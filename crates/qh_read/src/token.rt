@@ -1,8 +1,7 @@
 //! The token of an unfinished word, which keeps only its value so far.
-ghost use Rattle.std.specs.Prelude.{◌≡◌, ◌≤◌, ◌<◌, ◌+◌, ◌*◌, ◌↔◌, [], ◌∷◌, true, false, IsTrue};
 ghost use Rattle.std.specs.Char.{is_ascii_digit};
-ghost use Rattle.qh_read.specs.contract.Tokens.{cap, grown, value_of, is_keyword};
-ghost use Rattle.qh_read.specs.steps.SmallTokens.{IsSmall};
+ghost use Rattle.std.specs.Prelude.{◌≡◌, ◌≤◌, ◌<◌, ◌+◌, ◌*◌, ◌↔◌, [], ◌∷◌, true, false, IsTrue};
+ghost use Rattle.qh_read.specs.{contract.Tokens.cap, contract.Tokens.grown, contract.Tokens.value_of, contract.Tokens.is_keyword, steps.SmallTokens.IsSmall};
 ghost use Rattle.qh_model.specs.headline.Words.{is_blank, is_data};
 
 use qh_model::COORDINATE_LIMIT;

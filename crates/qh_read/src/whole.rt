@@ -2,8 +2,7 @@
 ghost use Rattle.std.specs.Prelude.{◌≡◌, ◌≤◌, ◌<◌, ◌-◌, ◌^◌, true, false, vec_len, IfOk, IfErr, OnOk, Ok};
 ghost use Rattle.std.specs.Io.KnownBytes.{IsAtEnd};
 ghost use Rattle.qh_model.specs.declared.form.Form.TheVariants as forms;
-ghost use Rattle.qh_read.specs.contract.Answers.{AnswersBytes, AnswersSource};
-ghost use Rattle.qh_read.specs.steps.Sources.{FedOn, Stops};
+ghost use Rattle.qh_read.specs.{contract.Answers.AnswersBytes, contract.Answers.AnswersSource, steps.Sources.FedOn, steps.Sources.Stops};
 
 use crate::reader::Reader;
 use crate::source::Source;

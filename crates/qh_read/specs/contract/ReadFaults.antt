@@ -1,8 +1,7 @@
 -- The faults that a call may return.
 use Rattle.std.specs.Prelude.{ℕ, ◌≡◌, ◌≢◌, ◌⊎◌, List}
-use Rattle.qh_model.specs.declared.{form.Form.Form, read_fault.ReadFault.ReadFault}
-use Rattle.qh_model.specs.declared.read_fault.ReadFault.TheVariants.{Memory, Device, Big}
-use Rattle.qh_model.specs.headline.Forms.{IsFirstFault}
+use Rattle.qh_model.specs.declared.{form.Form.Form, read_fault.ReadFault.ReadFault, read_fault.ReadFault.TheVariants.Memory}
+use Rattle.qh_model.specs.{declared.read_fault.ReadFault.TheVariants.Device, declared.read_fault.ReadFault.TheVariants.Big, headline.Forms.IsFirstFault}
 use Rattle.qh_read.specs.declared.fault.FeedFault.{FeedFault}
 use Rattle.qh_read.specs.declared.fault.FeedFault.TheVariants as refusals
 

@@ -1,10 +1,9 @@
 -- The state of a builder for the file so far.
 use Rattle.std.specs.Prelude.{ℕ, ℤ, ◌≡◌, ◌+◌, ◌*◌, List, ◌++◌, zero, suc, Option, None, Some, vec_len}
 use Rattle.qh_model.specs.declared.read_fault.ReadFault.{ReadFault, TheVariants.NoHeader, TheVariants.Short}
-use Rattle.qh_model.specs.headline.{Vector.Vector, PointFile.coordinates}
-use Rattle.qh_read.specs.contract.Progress.{Progress, wants, fails}
-use Rattle.qh_read.specs.{declared.builder.Pending.Pending, declared.builder.Builder.Builder, steps.Stages.stage_shown, steps.Stages.pending_list}
-use Rattle.qh_read.specs.steps.Stages.{pending_count}
+use Rattle.qh_model.specs.headline.{PointFile.coordinates, Vector.Vector}
+use Rattle.qh_read.specs.{contract.Progress.Progress, contract.Progress.wants, contract.Progress.fails, declared.builder.Builder.Builder}
+use Rattle.qh_read.specs.{declared.builder.Pending.Pending, steps.Stages.stage_shown, steps.Stages.pending_list, steps.Stages.pending_count}
 
 -- all coordinates so far
 abbrev pub taken : Builder → List ℤ

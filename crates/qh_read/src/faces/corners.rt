@@ -1,9 +1,8 @@
 //! Parses corners of faces from the words of a text.
 ghost use Rattle.std.specs.Prelude.{◌≡◌, ◌∷◌, ℕ, List, Option, Some, IfOk, IfErr, length};
 ghost use Rattle.qh_model.specs.declared.read_fault.ReadFault.{ReadFault};
-ghost use Rattle.qh_read.specs.contract.FaceFaults.{corners_fault, line_face_fault, number_fault};
-ghost use Rattle.qh_read.specs.contract.FaceWords.{IsLineFace, after_line};
-ghost use Rattle.qh_read.specs.{declared.numerals.Numeral.Numeral, steps.Corners.AreTaken, steps.Corners.IsFaultFor};
+ghost use Rattle.qh_read.specs.contract.{FaceFaults.corners_fault, FaceFaults.line_face_fault, FaceFaults.number_fault, FaceWords.IsLineFace};
+ghost use Rattle.qh_read.specs.{contract.FaceWords.after_line, declared.numerals.Numeral.Numeral, steps.Corners.AreTaken, steps.Corners.IsFaultFor};
 
 use crate::{Numeral, Numerals};
 use qh_model::{Id, ReadFault};

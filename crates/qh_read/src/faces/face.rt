@@ -1,8 +1,7 @@
 //! Parses a face from the words of a text.
 ghost use Rattle.std.specs.Prelude.{◌≡◌, List, Option, IfOk, IfErr};
 ghost use Rattle.qh_model.specs.declared.read_fault.ReadFault.{ReadFault};
-ghost use Rattle.qh_read.specs.contract.FaceFaults.{counted_face_fault, face_fault};
-ghost use Rattle.qh_read.specs.contract.FaceWords.{IsCountedFace, IsFace, turned};
+ghost use Rattle.qh_read.specs.contract.{FaceFaults.counted_face_fault, FaceFaults.face_fault, FaceWords.IsCountedFace, FaceWords.IsFace, FaceWords.turned};
 ghost use Rattle.qh_read.specs.{declared.numerals.Numeral.Numeral, steps.Corners.IsFaultFor, steps.Corners.IsTakenFace};
 
 use crate::Numerals;

@@ -1,8 +1,7 @@
 //! Parses all faces of a text.
 ghost use Rattle.std.specs.Prelude.{◌≡◌, ◌⊎◌, [], IfOk, IfErr, Some, drop, length};
 ghost use Rattle.qh_model.specs.declared.read_fault.ReadFault.TheVariants as faults;
-ghost use Rattle.qh_read.specs.contract.FaceFaults.{faces_fault, list_fault};
-ghost use Rattle.qh_read.specs.contract.FaceWords.{AreFaces, IsList};
+ghost use Rattle.qh_read.specs.contract.{FaceFaults.faces_fault, FaceFaults.list_fault, FaceWords.AreFaces, FaceWords.IsList};
 ghost use Rattle.qh_read.specs.{declared.faces.reading.Layout.Layout, steps.Lists.behind};
 
 use crate::Numerals;

@@ -1,6 +1,5 @@
 use Rattle.std.proofs.Common.{◌≡◌, ◌+◌, ◌++◌, ◌∙◌, ℕ, List, refl, arith, ap, sym, subst, length, length-append, length-take, length-drop, take, drop}
-use Rattle.std.proofs.Math.Seq.{take-add}
-use Rattle.std.specs.Io.KnownBytes.{Consumes}
+use Rattle.std.{proofs.Math.Seq.take-add, specs.Io.KnownBytes.Consumes}
 use Rattle.qh_read.proofs.SourceLemmas.{Consumes-append}
 use Rattle.qh_read.proofs.filling.fill.Goals as goal
 

@@ -1,10 +1,8 @@
 use Rattle.qh_read.proofs.numbers.first_digit.Goals as goal
 use Rattle.std.proofs.Common.{arith, ◌≡◌, ◌<◌, ◌+◌, ◌-◌, ◌∙◌, ℕ, Bool, List, true, false, cond, drop, length, ap, subst, refl}
-use Rattle.std.proofs.lemmas.Grind.{common_steps}
-use Rattle.std.specs.{Char.is_ascii_digit, Prelude.get_or}
+use Rattle.std.{proofs.lemmas.Grind.common_steps, specs.Char.is_ascii_digit, specs.Prelude.get_or}
 use Rattle.qh_model.specs.declared.form.Form.{Form, TheVariants.Qhull, TheVariants.Off}
-use Rattle.qh_read.specs.contract.Holding.{next_held}
-use Rattle.qh_read.specs.{contract.Progress.Progress, steps.Numbers.quiet, steps.Numbers.IsBegun, steps.Signs.is_minus}
+use Rattle.qh_read.specs.{contract.Holding.next_held, contract.Progress.Progress, steps.Numbers.quiet, steps.Numbers.IsBegun, steps.Signs.is_minus}
 use Rattle.qh_read.specs.declared.token.Token.TheVariants.{Empty, Sign, Digits}
 use Rattle.qh_read.proofs.{CursorLaws.step, numbers.first_digit.Goals.then-bytes-at-eq43, numbers.first_digit.Goals.else-bytes-at-eq43}
 

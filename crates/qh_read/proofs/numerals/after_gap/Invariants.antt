@@ -1,6 +1,5 @@
 -- The bytes so far are a gap, and a line ends at one of them for each further line.
-use Rattle.std.proofs.Common.{◌≡◌, ◌≤◌, ◌+◌, false, drop}
-use Rattle.std.specs.Prelude.{None}
+use Rattle.std.{proofs.Common.◌≡◌, proofs.Common.◌≤◌, proofs.Common.◌+◌, proofs.Common.false, proofs.Common.drop, specs.Prelude.None}
 use Rattle.qh_read.specs.steps.Arriving.{arriving}
 use Rattle.qh_read.proofs.numerals.after_gap.Given as goal
 

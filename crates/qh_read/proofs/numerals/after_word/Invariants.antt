@@ -1,7 +1,6 @@
 -- The bytes so far belong to the word.
 use Rattle.qh_read.proofs.numerals.after_word.Given as goal
-use Rattle.std.proofs.Common.{ℕ, ◌≡◌, false, drop}
-use Rattle.std.specs.Prelude.{Some}
+use Rattle.std.{proofs.Common.ℕ, proofs.Common.◌≡◌, proofs.Common.false, proofs.Common.drop, specs.Prelude.Some}
 use Rattle.qh_read.specs.steps.{Arriving.arriving, SmallTokens.IsSmall}
 
 abbrev pub invariant-loop-i : goal.invariant-loop-i

@@ -1,9 +1,8 @@
 use Rattle.qh_read.proofs.threads.feed_batches.Goals as goal
 use Rattle.std.proofs.Common.{arith, ◌≡◌, ◌∙◌, ◌+◌, ◌++◌, ℕ, List, length, length-append, ap, ap₂, sym, subst, append_assoc, Ok}
-use Rattle.std.proofs.lemmas.Result.{err_from_is_err_and}
-use Rattle.std.specs.Io.KnownBytes.{Consumes}
-use Rattle.qh_read.specs.{contract.Holding.Fed, steps.Segments.batch_text, steps.Segments.IsParsed}
+use Rattle.std.{proofs.lemmas.Result.err_from_is_err_and, specs.Io.KnownBytes.Consumes}
 use Rattle.qh_read.proofs.SourceLemmas.{Consumes-append, Stops-equal, Stops-after}
+use Rattle.qh_read.specs.{contract.Holding.Fed, steps.Segments.batch_text, steps.Segments.IsParsed}
 
 -- reading stopped after the two batches
 pub returns-in_err-at_end-2-clause-stops : goal.returns-in_err-at_end-2-clause-stops

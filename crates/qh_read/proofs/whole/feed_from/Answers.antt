@@ -4,9 +4,8 @@ use Rattle.qh_read.proofs.whole.feed_from.Goals as goal
 use Rattle.std.proofs.Common.{◌≡◌, ◌≤◌, ◌<◌, ◌+◌, ◌++◌, ◌∙◌, ℕ, List, arith, ap, length, length-append, length-take, take, drop, refl, sym, subst, append_assoc}
 use Rattle.std.proofs.{Common.Ok, Common.Err, Common.inl, Common.inr, Math.Seq.take-append_seam, lemmas.Bool.cases_lt, lemmas.Result.err_from_is_err_and}
 use Rattle.qh_model.specs.declared.limits.TheConstants.{BYTE_LIMIT}
-use Rattle.qh_read.specs.contract.{Holding.Fed, ReadFaults.read_fault, ReadFaults.IsTextFault}
-use Rattle.qh_read.specs.{declared.fault.FeedFault.FeedFault, declared.whole.TheConstants.PIECE_LENGTH, steps.Sources.Stops}
-use Rattle.qh_read.proofs.SourceLemmas.{Consumes-append, Stops-equal}
+use Rattle.qh_read.{proofs.SourceLemmas.Consumes-append, proofs.SourceLemmas.Stops-equal, specs.contract.Holding.Fed, specs.contract.ReadFaults.read_fault}
+use Rattle.qh_read.specs.{contract.ReadFaults.IsTextFault, declared.fault.FeedFault.FeedFault, declared.whole.TheConstants.PIECE_LENGTH, steps.Sources.Stops}
 
 -- each fault has one refusal
 same_refusal : (f h : FeedFault) → read_fault f ≡ read_fault h → f ≡ h

@@ -1,9 +1,8 @@
 use Rattle.qh_read.proofs.cursor.Cursor.next_number.Goals as goal
 use Rattle.std.proofs.Common.{arith, refl, ap, sym, ◌∙◌, ◌+◌, ◌<◌, ℕ, List, length, drop, Bool, false}
 use Rattle.std.specs.Prelude.{ℤ, Some}
-use Rattle.qh_read.specs.{contract.Holding.held_by, contract.Progress.after, steps.Numbers.quiet, steps.Signs.is_minus}
-use Rattle.qh_read.specs.declared.token.Token.TheVariants.{Empty, Digits}
-use Rattle.qh_read.proofs.CursorLaws.{step}
+use Rattle.qh_read.specs.{contract.Holding.held_by, contract.Progress.after, steps.Numbers.quiet, steps.Signs.is_minus, declared.token.Token.TheVariants.Empty}
+use Rattle.qh_read.{specs.declared.token.Token.TheVariants.Digits, proofs.CursorLaws.step}
 
 -- a sign and a digit, further digits, and the byte after them, in turn
 pub returns : goal.returns

@@ -1,5 +1,4 @@
-use Rattle.std.proofs.Common.{arith, ◌∙◌, false}
-use Rattle.std.specs.Prelude.{Some}
+use Rattle.std.{proofs.Common.arith, proofs.Common.◌∙◌, proofs.Common.false, specs.Prelude.Some}
 use Rattle.qh_read.specs.contract.Progress.{Progress, after}
 use Rattle.qh_read.proofs.cursor.Cursor.next_point.Goals as goal
 

@@ -1,11 +1,9 @@
 -- One more corner was taken, and the fault of the remaining words is that of the rest.
 use Rattle.qh_read.proofs.faces.corners.take_corners.Goals as goal
 use Rattle.std.proofs.Common.{ℕ, ◌≡◌, ◌∙◌, ◌++◌, ◌+◌, ◌-◌, [], ◌∷◌, List, arith, ap, inr, rules, subst, sym}
-use Rattle.std.proofs.lemmas.Grind.{common_steps}
-use Rattle.std.specs.Prelude.{Some}
-use Rattle.qh_read.specs.declared.numerals.Numeral.{Numeral}
-use Rattle.qh_read.specs.{contract.FaceFaults.corners_fault, contract.FaceFaults.number_fault, steps.Corners.AreTaken, steps.Corners.IsFaultFor}
-use Rattle.qh_read.proofs.WordLaws.{corners-next, taken-more}
+use Rattle.std.{proofs.lemmas.Grind.common_steps, specs.Prelude.Some}
+use Rattle.qh_read.{proofs.WordLaws.corners-next, proofs.WordLaws.taken-more, specs.contract.FaceFaults.corners_fault}
+use Rattle.qh_read.specs.{contract.FaceFaults.number_fault, declared.numerals.Numeral.Numeral, steps.Corners.AreTaken, steps.Corners.IsFaultFor}
 
 pub returns-in_err-number-clause-fault : goal.returns-in_err-number-clause-fault
 returns-in_err-number-clause-fault c =

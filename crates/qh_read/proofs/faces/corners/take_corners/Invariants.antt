@@ -1,7 +1,6 @@
 -- The corners so far were taken, and the others of the count are expected.
 use Rattle.qh_read.proofs.faces.corners.take_corners.Given as goal
-use Rattle.std.proofs.Common.{ℕ, ◌≡◌, ◌-◌, List, length}
-use Rattle.std.specs.Prelude.{Option}
+use Rattle.std.{proofs.Common.ℕ, proofs.Common.◌≡◌, proofs.Common.◌-◌, proofs.Common.List, proofs.Common.length, specs.Prelude.Option}
 use Rattle.qh_model.specs.declared.read_fault.ReadFault.{ReadFault}
 use Rattle.qh_read.specs.{contract.FaceFaults.corners_fault, declared.numerals.Numeral.Numeral, steps.Corners.AreTaken}
 

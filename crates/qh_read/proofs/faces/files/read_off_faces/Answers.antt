@@ -3,9 +3,8 @@ use Rattle.qh_read.specs.declared.faces.reading.Layout.TheVariants as layouts
 use Rattle.qh_read.proofs.faces.files.read_off_faces.Goals as goal
 use Rattle.std.proofs.Common.{ℕ, ◌≡◌, ◌∙◌, ◌+◌, ◌*◌, List, arith, ap, inl, inr, rules, subst, sym, drop}
 use Rattle.std.specs.Prelude.{Some}
-use Rattle.qh_read.specs.{contract.FaceFaults.list_fault, contract.FaceFiles.IsFaultOfFaces, contract.FaceFiles.IsOffList, declared.faces.reading.Layout.Layout}
-use Rattle.qh_read.specs.{declared.numerals.Numeral.Numeral, steps.Lists.behind}
-use Rattle.qh_read.proofs.ListLaws.{off-list}
+use Rattle.qh_read.specs.contract.{FaceFaults.list_fault, FaceFiles.IsFaultOfFaces, FaceFiles.IsOffList}
+use Rattle.qh_read.{specs.declared.faces.reading.Layout.Layout, specs.declared.numerals.Numeral.Numeral, specs.steps.Lists.behind, proofs.ListLaws.off-list}
 
 pub returns-in_err-polygons-clause-fault : goal.returns-in_err-polygons-clause-fault
 returns-in_err-polygons-clause-fault c =

@@ -2,10 +2,8 @@
 use Rattle.qh_model.specs.declared.read_fault.ReadFault.TheVariants as faults
 use Rattle.qh_read.proofs.faces.list.take_faces.Goals as goal
 use Rattle.std.proofs.Common.{ℕ, ◌≡◌, ◌⊎◌, ◌∙◌, ◌++◌, ◌+◌, ◌-◌, [], ◌∷◌, List, arith, ap, inl, inr, rules, subst, sym, append_assoc}
-use Rattle.std.proofs.lemmas.{Grind.common_steps, List.append-nil}
-use Rattle.std.specs.Prelude.{Some}
-use Rattle.qh_read.specs.contract.{FaceFaults.faces_fault, FaceWords.AreFaces}
-use Rattle.qh_read.proofs.WordLaws.{faces-next}
+use Rattle.std.{proofs.lemmas.Grind.common_steps, proofs.lemmas.List.append-nil, specs.Prelude.Some}
+use Rattle.qh_read.{proofs.WordLaws.faces-next, specs.contract.FaceFaults.faces_fault, specs.contract.FaceWords.AreFaces}
 
 pub returns-in_err-face-clause-fault : goal.returns-in_err-face-clause-fault
 returns-in_err-face-clause-fault c =

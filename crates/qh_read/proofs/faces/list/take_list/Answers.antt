@@ -1,8 +1,6 @@
 use Rattle.qh_read.proofs.faces.list.take_list.Goals as goal
-use Rattle.std.proofs.Common.{◌≡◌, ◌∙◌, drop, rules}
-use Rattle.std.specs.Prelude.{Some}
-use Rattle.qh_read.specs.{contract.FaceFaults.faces_fault, contract.FaceFaults.list_fault, steps.Lists.behind}
-use Rattle.qh_read.proofs.ListLaws.{behind-fault}
+use Rattle.std.{proofs.Common.◌≡◌, proofs.Common.◌∙◌, proofs.Common.drop, proofs.Common.rules, specs.Prelude.Some}
+use Rattle.qh_read.{proofs.ListLaws.behind-fault, specs.contract.FaceFaults.faces_fault, specs.contract.FaceFaults.list_fault, specs.steps.Lists.behind}
 
 pub returns-in_err-count-clause-fault : goal.returns-in_err-count-clause-fault
 returns-in_err-count-clause-fault c =

@@ -1,8 +1,7 @@
 use Rattle.qh_read.proofs.scanner.Scanner.points.Goals as goal
 use Rattle.std.proofs.{Common.arith, Common.◌≡◌, Common.◌∙◌, Common.ℕ, Common.Bool, Common.List, Common.false, Common.ap, Common.sym, lemmas.Grind.common_steps}
-use Rattle.qh_read.specs.contract.{Holding.held_by, Progress.Progress}
-use Rattle.qh_read.specs.declared.{cursor.Cursor.Cursor, token.Token.Token, token.Token.TheVariants.Empty}
-use Rattle.qh_read.specs.steps.{Building.shown, Cursors.ahead, Numbers.quiet}
+use Rattle.qh_read.specs.{contract.Holding.held_by, contract.Progress.Progress, declared.cursor.Cursor.Cursor, declared.token.Token.Token}
+use Rattle.qh_read.specs.{declared.token.Token.TheVariants.Empty, steps.Building.shown, steps.Cursors.ahead, steps.Numbers.quiet}
 
 -- the builder's points, if there is no unfinished comment or word
 pub returns-clause-held : goal.returns-clause-held
