@@ -1,16 +1,14 @@
 -- The ids of points that are equal to an earlier one, for each of the two keys: the number of the place, and a hash of it.
 use Rattle.std.proofs.Common.{◌≡◌, ℕ, ◌+◌, ◌-◌, ◌%◌, ◌/◌, ◌<◌, ◌≤◌, ◌⊎◌, inl, inr, List, length, get_or, arith, ap, sym, subst, ◌∙◌, IsPermutation}
-use Rattle.std.proofs.lemmas.Bool.{cases_lt}
-use Rattle.std.specs.List.{All, Sorted.IsNonDecreasing}
+use Rattle.std.{proofs.lemmas.Bool.cases_lt, specs.List.All, specs.List.Sorted.IsNonDecreasing}
 use Rattle.qh_model.proofs.Members.{All-In, In-get_or}
 use Rattle.qh_model.specs.{declared.limits.TheConstants.POINT_LIMIT, headline.Predicates.place, headline.Sets.In, headline.Vector.Vector}
 use Rattle.qh_plane.proofs.DistinctLists.{AreSortedKeys, StandsAt, all_in, in_all, rises_each, all_within, index_in, up, position, stands_before, all_repeats}
-use Rattle.qh_polygon.proofs.PlaceOrder.{place_code-same}
-use Rattle.qh_polygon.specs.contract.{PlaceNumbers.place_code, PlaceNumbers.place_key, PlaceKeys.HasKey}
-use Rattle.qh_polygon.specs.declared.place_keys.TheConstants.{ROOM}
 use Rattle.qh_plane.specs.declared.hashed_keys.TheConstants.{ID_ROOM}
 use Rattle.qh_plane.specs.steps.HashedKeys.{place_hash, hash_at, Hashes, WithHashes, AreKeysBelow, AreHashedKeys, IsRepeat, RepeatsTold}
 use Rattle.qh_plane.specs.steps.{PlaceKeys.ArePlaceKeys, PlaceKeys.ArePlaceRepeats, Repeats.IsRepeatedId, Repeats.AreRepeats, Repeats.AreAllRepeats}
+use Rattle.qh_polygon.{proofs.PlaceOrder.place_code-same, specs.contract.PlaceKeys.HasKey}
+use Rattle.qh_polygon.specs.{contract.PlaceNumbers.place_code, contract.PlaceNumbers.place_key, declared.place_keys.TheConstants.ROOM}
 
 -- ---- by the number of the place
 module _ (pts : List Vector) (keys : List ℕ) (k : ArePlaceKeys pts keys) (rising : IsNonDecreasing keys) where
@@ -100,7 +98,7 @@ module _ (pts : List Vector) (some : Hashes) (keys : List ℕ) (few : length pts
         third : (t : ℕ) → p.0 ≤ t → t + 2 < length keys → key p.0 / ID_ROOM ≡ key (t + 2) / ID_ROOM → In (key (t + 2) % ID_ROOM) ids
         third t g w s =
             subst (λ n. In (key n % ID_ROOM) ids) next
-            (told.has (t + 1) (omega (arith, w)) (omega (arith, w)) (subst (λ n. IsRepeat pts (key (t + 1)) (key n)) (sym next) (told.tells t w w
+            (told.listed.has (t + 1) (omega (arith, w)) (omega (arith, w)) (subst (λ n. IsRepeat pts (key (t + 1)) (key n)) (sym next) (told.tells t w w
             (pinch (key p.0) (key t) (key (t + 2)) (rising p.0 t 0 g (omega (arith, w))) (rising t (t + 2) 0 (omega arith) w) s))))
           where
             next : t + 1 + 1 ≡ t + 2
@@ -110,7 +108,7 @@ module _ (pts : List Vector) (some : Hashes) (keys : List ℕ) (few : length pts
             pinch x y z a b c = omega (arith, a, b, c)
 
         by_cases : (p.0 + 1 < q.0) ⊎ (q.0 ≤ p.0 + 1) → In (key q.0 % ID_ROOM) ids
-        by_cases (inr g) = subst (λ n. In (key n % ID_ROOM) ids) one (told.has p.0 within within (adjacent p.0 one))
+        by_cases (inr g) = subst (λ n. In (key n % ID_ROOM) ids) one (told.listed.has p.0 within within (adjacent p.0 one))
           where
             one : p.0 + 1 ≡ q.0
             one = omega (arith, before, g)
@@ -133,7 +131,7 @@ module _ (pts : List Vector) (some : Hashes) (keys : List ℕ) (few : length pts
     repeated i m = subst (IsRepeatedId pts) (sym r.3) (lt, key r.0 % ID_ROOM, lower (key r.0) (key (r.0 + 1)) rises r.2.0, r.2.1)
       where
         r : (j : ℕ) × (j + 1 < length keys) × IsRepeat pts (key j) (key (j + 1)) × (i ≡ key (j + 1) % ID_ROOM)
-        r = told.only i m
+        r = told.listed.only i m
 
         lt : key (r.0 + 1) % ID_ROOM < length pts
         lt = index_in pts ID_ROOM hash keys hashed (key (r.0 + 1)) (In-get_or keys (r.0 + 1) 0 r.1)

@@ -6,16 +6,16 @@ use native.Mathlib.Decide.{ℕ_discrete}
 use Rattle.qh_model.proofs.lists.Joined.{in_append, of_append}
 use Rattle.qh_model.specs.headline.{DistinctIds.IsDistinctId, DistinctIds.AreDistinctIds, Predicates.place, Sets.In, Vector.Vector}
 use Rattle.qh_plane.proofs.DistinctLists.{all_distinct, marked_distinct}
-use Rattle.qh_plane.specs.declared.hashed_keys.TheConstants.{ID_ROOM, NO_HASH}
-use Rattle.qh_plane.specs.steps.HashedKeys.{place_hash, hash_at, PartHashes, WithHashes, IsRepeat, RepeatsTold}
-use Rattle.qh_plane.specs.steps.PlaceKeys.{AllIds}
-use Rattle.qh_plane.specs.steps.Repeats.{Ids, PartsBelow, IsRepeatedId, AreRepeats, AreAllRepeats, MarksWithout}
+use Rattle.qh_plane.proofs.RepeatedPlaces.{none_related, one_related, none_more, all_related}
+use Rattle.qh_plane.specs.{declared.hashed_keys.TheConstants.ID_ROOM, declared.hashed_keys.TheConstants.NO_HASH, steps.HashedKeys.place_hash}
+use Rattle.qh_plane.specs.steps.{HashedKeys.hash_at, HashedKeys.PartHashes, HashedKeys.WithHashes, HashedKeys.IsRepeat, HashedKeys.RepeatsTold, Repeats.Ids}
+use Rattle.qh_plane.specs.steps.{Repeats.PartsBelow, Repeats.IsRepeatedId, Repeats.AreRepeats, Repeats.AreAllRepeats, Repeats.MarksWithout, PlaceKeys.AllIds}
 use Rattle.qh_polygon.specs.contract.Marks.{marked_ids}
 
 -- ---- key by key
 -- the first key is not a repeat
 pub none_told : (pts : List Vector) (keys : List ℕ) → RepeatsTold pts keys 1 []
-none_told pts keys = record { tells = λ j l. absurd (omega (arith, l)); has = λ j l. absurd (omega (arith, l)); only = λ i m. absurd m }
+none_told pts keys = record { tells = λ j l. absurd (omega (arith, l)); listed = none_related (IsRepeat pts) ID_ROOM keys }
 
 module _ (pts : List Vector) (keys : List ℕ) (j : ℕ) (ids : List ℕ) (some : 1 ≤ j) (told : RepeatsTold pts keys j ids) where
   abbrev key : ℕ → ℕ
@@ -25,8 +25,7 @@ module _ (pts : List Vector) (keys : List ℕ) (j : ℕ) (ids : List ℕ) (some 
   pub repeat_told : j < length keys → IsRepeat pts (key (j - 1)) (key j) → RepeatsTold pts keys (j + 1) (ids ++ key j % ID_ROOM ∷ [])
   repeat_told within here = record {
     tells = λ i l w e. tells i l w e (ℕ_discrete (i + 2) j);
-    has = λ i l w r. in_append ids (key j % ID_ROOM ∷ []) (key (i + 1) % ID_ROOM) (has i l w r (ℕ_discrete (i + 1) j));
-    only = λ i m. only i (of_append ids (key j % ID_ROOM ∷ []) i m);
+    listed = one_related (IsRepeat pts) ID_ROOM keys j ids some told.listed within here;
   }
     where
       tells : (i : ℕ) → i + 2 < j + 1 → i + 2 < length keys → key i / ID_ROOM ≡ key (i + 2) / ID_ROOM → Dec (i + 2 ≡ j)
@@ -36,26 +35,12 @@ module _ (pts : List Vector) (keys : List ℕ) (j : ℕ) (ids : List ℕ) (some 
           subst (λ m. IsRepeat pts (key (i + 1)) (key m)) (sym q) (subst (λ m. IsRepeat pts (key m) (key j)) before here)
       tells i l w e (no ne) = told.tells i (omega (arith, l, ne)) w e
 
-      has : (i : ℕ) → i + 1 < j + 1 → i + 1 < length keys → IsRepeat pts (key i) (key (i + 1)) → Dec (i + 1 ≡ j)
-          → In (key (i + 1) % ID_ROOM) ids ⊎ In (key (i + 1) % ID_ROOM) (key j % ID_ROOM ∷ [])
-      has i l w r (yes q) = inr (inl (ap (λ m. key m % ID_ROOM) q))
-      has i l w r (no ne) = inl (told.has i (omega (arith, l, ne)) w r)
-
-      only : (i : ℕ) → In i ids ⊎ In i (key j % ID_ROOM ∷ [])
-          → (k : ℕ) × (k + 1 < length keys) × IsRepeat pts (key k) (key (k + 1)) × (i ≡ key (k + 1) % ID_ROOM)
-      only i (inl m) = told.only i m
-      only i (inr (inl e)) =
-          let next : j ≡ j - 1 + 1 = omega (arith, some) in (
-            j - 1,
-            subst (λ m. m < length keys) next within,
-            subst (λ m. IsRepeat pts (key (j - 1)) (key m)) next here,
-            e ∙ ap (λ m. key m % ID_ROOM) next,
-          )
-      only i (inr (inr a)) = absurd a
-
   -- a key that does not is not listed, if it is not the third of its hash
   pub new_told : (IsRepeat pts (key (j - 1)) (key j) → ⊥) → (2 ≤ j → key (j - 2) / ID_ROOM ≢ key j / ID_ROOM) → RepeatsTold pts keys (j + 1) ids
-  new_told new apart = record { tells = λ i l w e. tells i l w e (ℕ_discrete (i + 2) j); has = λ i l w r. has i l w r (ℕ_discrete (i + 1) j); only = told.only }
+  new_told new apart = record {
+    tells = λ i l w e. tells i l w e (ℕ_discrete (i + 2) j);
+    listed = none_more (IsRepeat pts) ID_ROOM keys j ids some told.listed new;
+  }
     where
       tells : (i : ℕ) → i + 2 < j + 1 → i + 2 < length keys → key i / ID_ROOM ≡ key (i + 2) / ID_ROOM → Dec (i + 2 ≡ j)
           → IsRepeat pts (key (i + 1)) (key (i + 2))
@@ -64,19 +49,12 @@ module _ (pts : List Vector) (keys : List ℕ) (j : ℕ) (ids : List ℕ) (some 
           absurd (apart (omega (arith, q)) (ap (λ m. key m / ID_ROOM) third ∙ e ∙ ap (λ m. key m / ID_ROOM) q))
       tells i l w e (no ne) = told.tells i (omega (arith, l, ne)) w e
 
-      has : (i : ℕ) → i + 1 < j + 1 → i + 1 < length keys → IsRepeat pts (key i) (key (i + 1)) → Dec (i + 1 ≡ j) → In (key (i + 1) % ID_ROOM) ids
-      has i l w r (yes q) =
-          let before : i ≡ j - 1 = omega (arith, q) in
-          absurd (new (subst (λ m. IsRepeat pts (key (j - 1)) (key m)) q (subst (λ m. IsRepeat pts (key m) (key (i + 1))) before r)))
-      has i l w r (no ne) = told.has i (omega (arith, l, ne)) w r
-
 -- in the end all keys are decided
 pub told_all : (pts : List Vector) (keys : List ℕ) (n : ℕ) (ids : List ℕ) → length keys ≤ n → RepeatsTold pts keys n ids
     → RepeatsTold pts keys (length keys) ids
 told_all pts keys n ids h told = record {
   tells = λ j l w. told.tells j (omega (arith, h, w)) w;
-  has = λ j l w. told.has j (omega (arith, h, w)) w;
-  only = told.only;
+  listed = all_related (IsRepeat pts) ID_ROOM keys n ids h told.listed;
 }
 
 -- ---- part by part

@@ -1,7 +1,8 @@
 -- Numbers that rise from each to the next, or fall, do not repeat.
-use Rattle.std.proofs.Common.{◌≡◌, ℕ, zero, suc, ◌+◌, ◌<◌, ◌≤◌, ◌⊎◌, inl, inr, List, length, arith, ap, subst, add-one}
+use Rattle.std.proofs.Common.{◌≡◌, ℕ, zero, suc, ◌+◌, ◌-◌, ◌<◌, ◌≤◌, ◌⊎◌, inl, inr, List, length, arith, ap, subst, add-one, slice_index_or}
 use Rattle.std.proofs.lemmas.Bool.{cases_lt}
 use Rattle.qh_model.specs.headline.{Predicates.place, Vector.Vector}
+use Rattle.qh_plane.proofs.SeenPlaces.{point_read}
 use Rattle.qh_plane.specs.steps.{HashedKeys.place_number, SortedPoints.NumbersRise, SortedPoints.NumbersFall, SortedPoints.AllDiffer}
 
 -- a transitive relation of neighbours holds between each element and any later one
@@ -20,6 +21,18 @@ along R f n t h i (suc j) l m = in_order (λ e. along R f n t h i j e (omega (ar
 module _ (pts : List Vector) where
   abbrev number : ℕ → ℕ
   number j = place_number (place pts j)
+
+  -- the numbers of two points that were read are related, as those before them
+  pub one_more : (R : ℕ → ℕ → Type 0) (j : ℕ) (p q : Vector) → 1 ≤ j → j < length pts → p ≡ slice_index_or pts (j - 1) p → q ≡ slice_index_or pts j q
+      → R (place_number p) (place_number q) → ((k : ℕ) → k + 1 < j → k + 1 < length pts → R (number k) (number (k + 1)))
+      → (k : ℕ) → k + 1 < j + 1 → k + 1 < length pts → R (number k) (number (k + 1))
+  one_more R j p q one within before here last told k a b = by_cases (cases_lt (k + 1) j)
+    where
+      by_cases : (k + 1 < j) ⊎ (j ≤ k + 1) → R (number k) (number (k + 1))
+      by_cases (inl l) = told k l b
+      by_cases (inr l) = let s : k ≡ j - 1 = omega (arith, a, l, one) in let t : k + 1 ≡ j = omega (arith, a, l) in
+          rw (t, s) (subst (λ v. R (place_number v) (number j)) (point_read pts (j - 1) p (omega (arith, one, within)) before)
+          (subst (λ v. R (place_number p) (place_number v)) (point_read pts j q within here) last))
 
   -- so points with such numbers are all different
   pub rising_differ : NumbersRise pts → AllDiffer pts

@@ -1,6 +1,5 @@
 //! Finders of the points that are equal to an earlier one: the calling thread alone, or several threads.
-ghost use Rattle.std.specs.Prelude.{◌≤◌, IfOk, IfSome, length};
-ghost use Rattle.std.specs.Thread.{IsSync};
+ghost use Rattle.std.specs.{Prelude.◌≤◌, Prelude.IfOk, Prelude.IfSome, Prelude.length, Thread.IsSync};
 ghost use Rattle.qh_model.specs.headline.DistinctIds.{AreDistinctIds};
 ghost use Rattle.qh_plane.specs.steps.Repeats.{AreAllRepeats};
 

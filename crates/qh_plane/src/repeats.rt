@@ -1,6 +1,5 @@
 //! Finds points that are equal to an earlier one by sorted keys of 64 bits.
-ghost use Rattle.std.specs.Prelude.{◌≤◌, ◌<◌, ◌%◌, IfOk, IfSome, length};
-ghost use Rattle.std.specs.List.{All};
+ghost use Rattle.std.specs.{List.All, Prelude.◌≤◌, Prelude.◌<◌, Prelude.◌%◌, Prelude.IfOk, Prelude.IfSome, Prelude.length};
 ghost use Rattle.qh_plane.specs.steps.{HashedKeys.RepeatsTold, Repeats.AreAllRepeats};
 
 use crate::found_ids::FoundIds;

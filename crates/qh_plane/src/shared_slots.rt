@@ -3,8 +3,7 @@
 //! A hash determines the slot of a point, so equal points fall into one slot. If a table has several slots for each
 //! point, most points are alone in their slots. Only the keys of the others have to be sorted.
 ghost use Rattle.std.specs.Prelude.{◌≡◌, ◌≤◌, ◌<◌, ◌*◌, ◌↔◌, IfOk, IsTrue, length};
-ghost use Rattle.qh_plane.specs.steps.HashedKeys.{AreKeysBelow};
-ghost use Rattle.qh_plane.specs.steps.SharedSlots.{slot_in, IsTable, MarkedHashes, AreShared};
+ghost use Rattle.qh_plane.specs.steps.{HashedKeys.AreKeysBelow, SharedSlots.slot_in, SharedSlots.IsTable, SharedSlots.MarkedHashes, SharedSlots.AreShared};
 
 use crate::hashed_keys::{ID_ROOM, NO_HASH, key_of, place_hash};
 use qh_model::{POINT_LIMIT, Point};

@@ -1,8 +1,7 @@
 use Rattle.qh_plane.proofs.distinct_points.distinct_by.Goals as goal
 use Rattle.std.proofs.Common.{◌≡◌, ◌∙◌, ℕ, List, [], arith, sym, eqb, true, length}
 use Rattle.std.proofs.lemmas.{Bool.Decides.nat_tests, List.nil_from_length}
-use Rattle.qh_plane.proofs.{DistinctLists.all_distinct, RepeatedIds.none_repeated}
-use Rattle.qh_plane.specs.steps.Repeats.{AreAllRepeats}
+use Rattle.qh_plane.{proofs.DistinctLists.all_distinct, proofs.RepeatedIds.none_repeated, specs.steps.Repeats.AreAllRepeats}
 
 pub returns-then-are_in_order : goal.returns-then-are_in_order
 returns-then-are_in_order g c = all_distinct c.args.pts.now c.in_ok-ids.ids.items c.in_ok-ids.ensures (c.are_in_order.ensures c.if-are_in_order.true)

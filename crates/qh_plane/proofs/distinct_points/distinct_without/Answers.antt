@@ -1,7 +1,6 @@
 use Rattle.qh_plane.proofs.distinct_points.distinct_without.Goals as goal
 use Rattle.std.proofs.{Common.ap, Common.sym, Common.◌∙◌, Common.subst, Common.length, Common.◌≤◌, Common.◌<◌, lemmas.Result.IfOk-weaker}
-use Rattle.qh_model.proofs.Members.{All-of}
-use Rattle.qh_model.specs.{declared.limits.TheConstants.POINT_LIMIT, headline.DistinctIds.AreDistinctIds}
+use Rattle.qh_model.{proofs.Members.All-of, specs.declared.limits.TheConstants.POINT_LIMIT, specs.headline.DistinctIds.AreDistinctIds}
 use Rattle.qh_plane.proofs.RepeatedIds.{distinct_left}
 use Rattle.qh_polygon.specs.contract.Marks.{marked_ids}
 

@@ -1,8 +1,7 @@
 -- The results for a piece are its first points.
 use Rattle.std.proofs.Common.{◌≡◌, ◌∙◌, ◌+◌, ◌/◌, ◌%◌, length, get_or, min, arith, ap, sym, subst}
 use Rattle.std.proofs.lemmas.{Option.IfSome_then, Result.IfOk-weaker}
-use Rattle.qh_plane.specs.steps.FirstIds.{ArePieces}
-use Rattle.qh_plane.proofs.FirstIds.{chunk_firsts, chunks_reach}
+use Rattle.qh_plane.{proofs.FirstIds.chunk_firsts, proofs.FirstIds.chunks_reach, specs.steps.FirstIds.ArePieces}
 use Rattle.qh_plane.proofs.first_ids.distinct_in_pieces.Goals as goal
 
 pub distinct_of_pieces-requires-clause-all : goal.distinct_of_pieces-requires-clause-all

@@ -1,8 +1,7 @@
 -- One more piece.
 use Rattle.std.proofs.Common.{◌≡◌, ◌≤◌, ◌+◌, ◌*◌, length, arith, sym, subst, IfSome, Vec, ℕ, Global}
 use Rattle.std.specs.Option.{option_copied}
-use Rattle.qh_plane.specs.steps.{FirstIds.AreFirstIds, Pieces.end_of}
-use Rattle.qh_plane.proofs.{FirstIds.next_end, SeenPlaces.all_seen}
+use Rattle.qh_plane.{proofs.FirstIds.next_end, proofs.SeenPlaces.all_seen, specs.steps.FirstIds.AreFirstIds, specs.steps.Pieces.end_of}
 use Rattle.qh_plane.proofs.first_ids.distinct_of_pieces.Goals as goal
 
 pub look_at_piece-requires-clause-order : goal.look_at_piece-requires-clause-order

@@ -1,7 +1,6 @@
 use Rattle.qh_plane.proofs.hashed_keys.hashed_keys.Goals as goal
 use Rattle.std.proofs.Common.{◌≡◌, ◌∙◌, arith, ◌+◌, ◌*◌, ◌∷◌, ◌++◌, [], ap, sym, subst}
-use Rattle.qh_plane.proofs.{KeysBelow.no_keys, KeysBelow.key_added, SeenPlaces.point_read}
-use Rattle.qh_plane.specs.declared.hashed_keys.TheConstants.{ID_ROOM}
+use Rattle.qh_plane.{proofs.KeysBelow.no_keys, proofs.KeysBelow.key_added, proofs.SeenPlaces.point_read, specs.declared.hashed_keys.TheConstants.ID_ROOM}
 use Rattle.qh_plane.specs.steps.HashedKeys.{place_hash, hashed_key_at, AllHashes, AreKeysBelow}
 
 pub loop-number-init : goal.loop-number-init

@@ -1,8 +1,7 @@
 use Rattle.std.proofs.Common.{◌≡◌, ◌∙◌, ℕ, ◌+◌, ◌++◌, ◌∷◌, [], true, false, arith, ap, sym, subst, Vec, Global}
 use Rattle.qh_plane.proofs.RepeatedIds.{none_told, repeat_told, new_told, told_all}
-use Rattle.qh_plane.specs.steps.HashedKeys.{RepeatsTold}
-use Rattle.qh_plane.proofs.repeats.repeats_told.Goals.{then-is_repeat+in_ok-push, else-is_repeat+else-j-ge2}
-use Rattle.qh_plane.proofs.repeats.repeats_told.Goals.{else-j-ge2-via-then-j-ge2+else-hash_in, else-j-ge2-via-else-j-ge2}
+use Rattle.qh_plane.proofs.repeats.repeats_told.Goals.{then-is_repeat+in_ok-push, else-is_repeat+else-j-ge2, else-j-ge2-via-then-j-ge2+else-hash_in}
+use Rattle.qh_plane.{proofs.repeats.repeats_told.Goals.else-j-ge2-via-else-j-ge2, specs.steps.HashedKeys.RepeatsTold}
 use Rattle.qh_plane.proofs.repeats.repeats_told.Goals as goal
 
 pub loop-j-init : goal.loop-j-init

@@ -1,8 +1,7 @@
 use Rattle.qh_plane.proofs.shared_slots.keys_in_slots.Goals as goal
 use Rattle.std.proofs.Common.{◌≡◌, ◌∙◌, arith, ℕ, ◌+◌, ◌*◌, ◌∷◌, ◌++◌, [], true, false, ap, sym, subst, Vec, Global}
-use Rattle.qh_plane.proofs.{KeysBelow.key_added, KeysBelow.key_left_out, SeenPlaces.point_read}
-use Rattle.qh_plane.proofs.shared_slots.keys_in_slots.Goals.{then-is_marked+in_ok-push, else-is_marked}
-use Rattle.qh_plane.specs.declared.hashed_keys.TheConstants.{ID_ROOM}
+use Rattle.qh_plane.proofs.{KeysBelow.key_added, KeysBelow.key_left_out, SeenPlaces.point_read, shared_slots.keys_in_slots.Goals.then-is_marked+in_ok-push}
+use Rattle.qh_plane.{proofs.shared_slots.keys_in_slots.Goals.else-is_marked, specs.declared.hashed_keys.TheConstants.ID_ROOM}
 use Rattle.qh_plane.specs.steps.{HashedKeys.Hashes, HashedKeys.place_hash, HashedKeys.hash_at, HashedKeys.AreKeysBelow, SharedSlots.MarkedHashes}
 
 clash : true ≡ false → ⊥

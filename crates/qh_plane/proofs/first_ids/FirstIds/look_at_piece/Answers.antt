@@ -1,8 +1,6 @@
 -- One more first point, and the repeats after it.
-use Rattle.std.proofs.Common.{◌≡◌, ◌∙◌, ◌+◌, ◌-◌, slice_index_or, sym, subst}
-use Rattle.std.proofs.lemmas.List.{get_or_read}
-use Rattle.qh_plane.specs.steps.FirstIds.{AreSeen}
-use Rattle.qh_plane.proofs.FirstIds.{first_begun, first_passed, piece_seen}
+use Rattle.std.proofs.{Common.◌≡◌, Common.◌∙◌, Common.◌+◌, Common.◌-◌, Common.slice_index_or, Common.sym, Common.subst, lemmas.List.get_or_read}
+use Rattle.qh_plane.{proofs.FirstIds.first_begun, proofs.FirstIds.first_passed, proofs.FirstIds.piece_seen, specs.steps.FirstIds.AreSeen}
 use Rattle.qh_plane.proofs.first_ids.FirstIds.look_at_piece.Goals as goal
 
 pub loop-first-init : goal.loop-first-init
