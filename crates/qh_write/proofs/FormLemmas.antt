@@ -2,8 +2,7 @@
 use Rattle.std.proofs.{Common.◌≡◌, Common.ℕ, Common.List, Common.[], Common.◌++◌, Common.refl, lemmas.Grind.flat_map-append}
 use Rattle.qh_model.specs.{contract.Bodies.IsBodyInOrder, headline.Fan.fan}
 use Rattle.qh_write.specs.declared.texts.forms.Form.{Form, TheVariants.Whole, TheVariants.Fans}
-use Rattle.qh_write.specs.steps.Forms.{shown}
-use Rattle.qh_write.proofs.FanLemmas.{fans_in_order}
+use Rattle.qh_write.{specs.steps.Forms.shown, proofs.FanLemmas.fans_in_order}
 
 -- the faces of two parts, one after the other
 pub shown_append : (form : Form) (ps qs : List (List ℕ)) → shown form (ps ++ qs) ≡ shown form ps ++ shown form qs

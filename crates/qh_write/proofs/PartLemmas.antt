@@ -1,8 +1,7 @@
 -- A text of a list, made part by part.
-use Rattle.std.proofs.Common.{◌≡◌, ◌∙◌, ℕ, suc, ◌+◌, ◌*◌, ◌<◌, ◌≤◌, List, [], ◌∷◌, ◌++◌, length, arith, ap, ap₂, sym, subst, take, drop, get_or, Ok}
-use Rattle.std.proofs.Common.{Result, Vec, Global, take-append-drop, length-drop}
-use Rattle.std.proofs.{Math.ListN.get_or-map, Math.ListN.length-map, lemmas.List.drop-drop}
-use Rattle.std.specs.{Prelude.IfOk, declared.alloc.AllocError.AllocError}
+use Rattle.std.proofs.Common.{◌≡◌, ◌∙◌, ℕ, suc, ◌+◌, ◌*◌, ◌<◌, ◌≤◌, List, [], ◌∷◌, ◌++◌, length, arith, ap, ap₂, sym, subst, take, drop, get_or, Ok, Result}
+use Rattle.std.proofs.{Common.Vec, Common.Global, Common.take-append-drop, Common.length-drop, Math.ListN.get_or-map, Math.ListN.length-map}
+use Rattle.std.{proofs.lemmas.List.drop-drop, specs.Prelude.IfOk, specs.declared.alloc.AllocError.AllocError}
 use Rattle.qh_write.specs.{contract.Pieces.bytes_of, steps.Parts.AreParts}
 
 module _ {A : Type 0} (F : List A → List ℕ) (none : F [] ≡ []) (joined : (xs ys : List A) → F (xs ++ ys) ≡ F xs ++ F ys) (size : ℕ) where

@@ -1,17 +1,10 @@
 -- The bytes received by a sink after some of the bytes were sent.
 use Rattle.std.proofs.Common.{◌≡◌, ◌∙◌, ℕ, suc, ◌+◌, ◌-◌, ◌<◌, ◌≤◌, List, ◌∷◌, ◌++◌, length, take, drop, get_or, Vec, Global, ap, arith, sym, append_assoc}
 use Rattle.std.proofs.Common.{length-append, subst, take_all}
-use Rattle.std.proofs.{KnownBytes.Appends-trans, Math.Seq.drop-cons, Math.Seq.take-append-add, lemmas.Grind.flat_map-append}
-use Rattle.std.proofs.lemmas.List.{take-append-drop, take-append-le, take_rest, length-drop, length-take-le}
+use Rattle.std.proofs.{KnownBytes.Appends-trans, Math.Seq.drop-cons, Math.Seq.take-append-add, Math.Seq.take-add, lemmas.Grind.flat_map-append}
+use Rattle.std.proofs.lemmas.List.{take-append-drop, take-append-le, take_rest, length-drop}
 use Rattle.std.specs.{Io.KnownBytes.Appends, Io.KnownBytes.Keeps, Prelude.Option, Prelude.Some, Prelude.None}
 use Rattle.qh_write.specs.{contract.Pieces.bytes_of, headline.Sinks.AppendsBeginning}
-
--- a prefix is a shorter one and the elements after that
-take-add : (i n : ℕ) (xs : List ℕ) → i ≤ length xs → take (i + n) xs ≡ take i xs ++ take n (drop i xs)
-take-add i n xs h =
-    ap (λ (t : List ℕ). take (i + n) t) (sym (take-append-drop i xs))
-    ∙ subst (λ (k : ℕ). take (k + n) (take i xs ++ drop i xs) ≡ take i xs ++ take n (drop i xs)) (length-take-le i xs h)
-    (take-append-add (take i xs) (drop i xs) n)
 
 -- a prefix of the bytes, and the bytes added to it, make a longer prefix
 pub Appends-more : (old mid new : Option (List ℕ)) (bs : List ℕ) (sent n : ℕ) → sent ≤ length bs
@@ -23,7 +16,7 @@ Appends-more (Some xs) (Some ys) None bs sent n fits h k = absurd k
 Appends-more (Some xs) (Some ys) (Some zs) bs sent n fits h k =
     k ∙ ap (λ (t : List ℕ). ys ++ take n t) (take_rest bs sent) ∙ ap (λ (t : List ℕ). t ++ take n (drop sent bs)) h
     ∙ append_assoc xs (take sent bs) (take n (drop sent bs))
-    ∙ ap (λ (t : List ℕ). xs ++ t) (sym (take-add sent n bs fits))
+    ∙ ap (λ (t : List ℕ). xs ++ t) (sym (take-add sent n bs))
 
 -- a number of bytes of the rest is at most the number of remaining bytes
 pub fits_rest : (bs : List ℕ) (sent n : ℕ) → n ≤ length (take (length bs - sent) (drop sent bs)) → n ≤ length bs - sent

@@ -1,6 +1,5 @@
 -- Texts in pieces.
-use Rattle.std.specs.Prelude.{ℕ, List, ◌++◌, Vec}
-use Rattle.std.specs.{List.flat_map, declared.alloc.Global.Global}
+use Rattle.std.specs.{List.flat_map, Prelude.ℕ, Prelude.List, Prelude.◌++◌, Prelude.Vec, declared.alloc.Global.Global}
 use Rattle.qh_write.specs.declared.pieces.Pieces.{Pieces}
 
 -- the concatenated bytes of pieces

@@ -1,6 +1,5 @@
 //! Fans of triangles in place of the faces.
-ghost use Rattle.std.specs.Prelude.{◌≡◌, ◌++◌, ◌<◌, OnOk, IfOk, All, length, decimal};
-ghost use Rattle.std.specs.List.{flat_map};
+ghost use Rattle.std.specs.{List.flat_map, Prelude.◌≡◌, Prelude.◌++◌, Prelude.◌<◌, Prelude.OnOk, Prelude.IfOk, Prelude.All, Prelude.length, Prelude.decimal};
 ghost use Rattle.qh_model.specs.headline.{Fan.fan, Fan.fans, Fan.edge_count, Text.line, Text.spaced};
 ghost use Rattle.qh_write.specs.steps.Numberings.{AreNumbered, face_by_numbers};
 
@@ -41,6 +40,7 @@ pub fn push_fans(
 }
 
 /// Returns the number of faces in the fan of a face.
+#[tactic(auto, using(crate::proofs::FanLemmas::fan_length))]
 pub fn fan_size(face: &[Id]) -> usize
     ensures { result ≡ length (fan face.now) }
 {

@@ -1,9 +1,7 @@
 //! The forms in which faces are written: as a whole, or as a fan of triangles.
-ghost use Rattle.std.specs.Prelude.{◌≡◌, ◌++◌, OnOk, All, length, decimal};
-ghost use Rattle.std.specs.List.{flat_map};
+ghost use Rattle.std.specs.{List.flat_map, Prelude.◌≡◌, Prelude.◌++◌, Prelude.OnOk, Prelude.All, Prelude.length, Prelude.decimal};
 ghost use Rattle.qh_model.specs.headline.Text.{line, spaced};
-ghost use Rattle.qh_write.specs.steps.Forms.{shown, edges_shown};
-ghost use Rattle.qh_write.specs.steps.Numberings.{AreNumbered, face_by_numbers};
+ghost use Rattle.qh_write.specs.steps.{Forms.shown, Forms.edges_shown, Numberings.AreNumbered, Numberings.face_by_numbers};
 
 use super::fans::{push_fan_counts, push_fans};
 use super::numbering::VertexNumbers;

@@ -1,6 +1,5 @@
 //! Appending bytes and numbers to a text.
-ghost use Rattle.std.specs.Prelude.{◌≡◌, ◌++◌, [], ◌∷◌, OnOk, decimal};
-ghost use Rattle.std.specs.Fmt.{signed_decimal};
+ghost use Rattle.std.specs.{Fmt.signed_decimal, Prelude.◌≡◌, Prelude.◌++◌, Prelude.[], Prelude.◌∷◌, Prelude.OnOk, Prelude.decimal};
 ghost use Rattle.qh_model.specs.headline.Text.{spaced};
 
 use itoa::Buffer;

@@ -1,6 +1,5 @@
 //! The numbers of vertices.
-ghost use Rattle.std.specs.Prelude.{◌≡◌, ◌<◌, IfOk, All, replicate};
-ghost use Rattle.std.specs.List.Sorted.{IsStrictlyIncreasing};
+ghost use Rattle.std.specs.{List.Sorted.IsStrictlyIncreasing, Prelude.◌≡◌, Prelude.◌<◌, Prelude.IfOk, Prelude.All, Prelude.replicate};
 ghost use Rattle.qh_model.specs.headline.{Sets.In, Text.vertex_number};
 ghost use Rattle.qh_write.specs.steps.Numberings.{numbered, number_in, HasNumber, NumberExtremes};
 

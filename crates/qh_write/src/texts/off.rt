@@ -1,11 +1,8 @@
 //! The texts of `Fx` and of OFF files.
-ghost use Rattle.std.specs.Prelude.{◌≡◌, ◌++◌, ◌<◌, OnOk, All, length, decimal, codes};
-ghost use Rattle.std.specs.List.{flat_map};
-ghost use Rattle.qh_model.specs.contract.{Bodies.IsBodyInOrder, IdSets.AreIndices};
+ghost use Rattle.std.specs.{List.flat_map, Prelude.◌≡◌, Prelude.◌++◌, Prelude.◌<◌, Prelude.OnOk, Prelude.All, Prelude.length, Prelude.decimal, Prelude.codes};
+ghost use Rattle.qh_model.specs.{contract.Bodies.IsBodyInOrder, contract.IdSets.AreIndices, headline.Predicates.place};
 ghost use Rattle.qh_model.specs.headline.Text.{line, spaced, extremes_text, vertex_text, face_text, off_text};
-ghost use Rattle.qh_model.specs.headline.Predicates.{place};
-ghost use Rattle.qh_write.specs.contract.Pieces.{bytes_in};
-ghost use Rattle.qh_write.specs.steps.Forms.{shown, edges_shown, body_shown};
+ghost use Rattle.qh_write.specs.{contract.Pieces.bytes_in, steps.Forms.shown, steps.Forms.edges_shown, steps.Forms.body_shown};
 ghost use Rattle.qh_write.specs.steps.Numberings.{AreNumbered, face_by_numbers, number_in};
 
 use super::forms::Form;

@@ -2,8 +2,7 @@
 ghost use Rattle.std.specs.Prelude.{◌≡◌, ◌++◌, ◌*◌, ◌<◌, IfOk, OnOk, All, length, take, drop};
 ghost use Rattle.std.specs.{List.flat_map, Thread.IsSync};
 ghost use Rattle.qh_model.specs.headline.{Predicates.place, Text.vertex_text};
-ghost use Rattle.qh_write.specs.{contract.Pieces.bytes_in, steps.Forms.shown};
-ghost use Rattle.qh_write.specs.steps.Numberings.{AreNumbered, face_by_numbers};
+ghost use Rattle.qh_write.specs.{contract.Pieces.bytes_in, steps.Forms.shown, steps.Numberings.AreNumbered, steps.Numberings.face_by_numbers};
 
 use super::forms::Form;
 use super::numbering::VertexNumbers;

@@ -1,6 +1,5 @@
 -- The remaining parts, followed by the pieces from the last one back, are all parts.
-use Rattle.std.proofs.Common.{◌≡◌, ◌++◌, Ok, map, vec_len}
-use Rattle.std.specs.Prelude.{reverse}
+use Rattle.std.{proofs.Common.◌≡◌, proofs.Common.◌++◌, proofs.Common.Ok, proofs.Common.map, proofs.Common.vec_len, specs.Prelude.reverse}
 use Rattle.qh_write.proofs.pieces.all_pieces.Given as goal
 
 abbrev pub invariant-loop-part : goal.invariant-loop-part

@@ -1,5 +1,4 @@
-use Rattle.std.proofs.Common.{length, ◌-◌, ◌≡◌, ◌≤◌, take}
-use Rattle.std.specs.Io.KnownBytes.{Appends}
+use Rattle.std.{proofs.Common.length, proofs.Common.◌-◌, proofs.Common.◌≡◌, proofs.Common.◌≤◌, proofs.Common.take, specs.Io.KnownBytes.Appends}
 use Rattle.qh_write.proofs.sending.send_all.Given as goal
 
 abbrev pub invariant-loop-sent : goal.invariant-loop-sent

@@ -1,9 +1,7 @@
 use Rattle.qh_write.proofs.texts.edges.fan_edges.Goals as goal
-use Rattle.std.proofs.{Common.subst, Common.ap, Common.◌∙◌, Common.length, lemmas.List.Filters.dedup_is}
-use Rattle.std.specs.Prelude.{eqb}
+use Rattle.std.{proofs.Common.subst, proofs.Common.ap, proofs.Common.◌∙◌, proofs.Common.length, proofs.lemmas.List.Filters.dedup_is, specs.Prelude.eqb}
 use Rattle.qh_model.specs.headline.Fan.{fans}
-use Rattle.qh_write.specs.steps.EdgeKeys.{AddsPairs, pairs_of}
-use Rattle.qh_write.proofs.EdgeKeyLemmas.{edges_by_keys}
+use Rattle.qh_write.{proofs.EdgeKeyLemmas.edges_by_keys, specs.steps.EdgeKeys.AddsPairs, specs.steps.EdgeKeys.pairs_of}
 
 pub returns : goal.returns
 returns c =

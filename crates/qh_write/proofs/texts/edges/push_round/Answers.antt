@@ -1,7 +1,6 @@
 -- At first all sides remain.
 use Rattle.std.proofs.Common.{◌∙◌, ap, subst}
-use Rattle.qh_write.specs.steps.EdgeKeys.{AddsPairs}
-use Rattle.qh_write.proofs.EdgeKeyLemmas.{pairs_along_sides, pairs_of_sides}
+use Rattle.qh_write.{proofs.EdgeKeyLemmas.pairs_along_sides, proofs.EdgeKeyLemmas.pairs_of_sides, specs.steps.EdgeKeys.AddsPairs}
 use Rattle.qh_write.proofs.texts.edges.push_round.Goals as goal
 
 pub loop-from-init : goal.loop-from-init

@@ -1,6 +1,5 @@
 use Rattle.qh_write.proofs.texts.numbering.number_table.Goals as goal
-use Rattle.std.proofs.Common.{◌≡◌, ◌≤◌, arith, get_or}
-use Rattle.std.proofs.lemmas.List.{get_or_read}
+use Rattle.std.proofs.{Common.◌≡◌, Common.◌≤◌, Common.arith, Common.get_or, lemmas.List.get_or_read}
 use Rattle.qh_model.proofs.DistinctIds.{rising_least}
 
 pub overflow_cast-number : goal.overflow_cast-number
