@@ -9,10 +9,9 @@ use Rattle.atomic_table.specs.Table.{State, Me, step, takes, Allows}
 use Rattle.qh_model.specs.contract.BoardMachine.{Place, untouched, held, Event, claim_got, claim_over, Can, after, settled, put}
 use Rattle.qh_model.proofs.board.{Reached.reach_good, Reached.reach_claims, Updates.put_here, Updates.put_else, Updates.at_put}
 use Rattle.qh_board.specs.contract.Records.{with_block, told_over}
-use Rattle.qh_board.specs.{declared.view.Record.Record, declared.view.Setup.Setup, declared.view.View.View, steps.Rule.one_if}
-use Rattle.qh_board.specs.steps.{Rule.times, Rule.SlotOf, Rule.Kept, Rule.Ruled, Shown.mark_of, Views.view_of, Views.HasRecord, Views.IsClaim}
+use Rattle.qh_board.specs.declared.view.{Event.TheVariants.ClaimGot, Event.TheVariants.ClaimOver, Record.Record, Setup.Setup, View.View}
+use Rattle.qh_board.specs.steps.{Rule.one_if, Rule.times, Rule.SlotOf, Rule.Kept, Rule.Ruled, Shown.mark_of, Views.view_of, Views.HasRecord, Views.IsClaim}
 use Rattle.qh_board.proofs.Steps.{Homes, KeptAfter, SlotsOf, Shows, steps, others_keep, allowed_at, seat_record, seated, nothing, slots_put, settled_put}
-use Rattle.qh_board.specs.declared.view.Event.TheVariants.{ClaimGot, ClaimOver}
 use Rattle.qh_board.proofs.{Steps.made_more, Steps.word_else, Steps.times_snoc, SlotsHome.all_home, SlotsHome.laid, Totals.one_of}
 
 module _ {S X : Type 0} (right : S → (ℕ → Type 0) → X → Type 0) (key : Setup S) where

@@ -1,9 +1,8 @@
 -- A pass ends: it leaves without a node, or gives up with one.
 use Rattle.qh_model.specs.contract.BoardMachine as machine
 use Rattle.qh_board.specs.declared.view.Mark as ended
-use Rattle.std.proofs.Common.{◌≡◌, ℕ, ◌+◌, ◌%◌, ◌^◌, ◌≤◌, Bool, List, [], ◌∷◌, ◌++◌, set, sym, refl, ap, ◌∙◌, arith, Option, Some, None}
-use Rattle.std.proofs.Common.{length-set, get_or-set_same}
-use Rattle.std.specs.Prelude.{slice_index, ◌==◌}
+use Rattle.std.proofs.Common.{◌≡◌, ℕ, ◌+◌, ◌%◌, ◌^◌, ◌≤◌, Bool, List, [], ◌∷◌, ◌++◌, set, sym, refl, ap, ◌∙◌, arith, Option, Some, None, length-set}
+use Rattle.std.{proofs.Common.get_or-set_same, specs.Prelude.slice_index, specs.Prelude.◌==◌}
 use mathlib.Core.{Logic.dite, Option.some, Option.none}
 use native.Mathlib.Decide.{ℕ_discrete}
 use lib.ListN.{get_elem?}
@@ -12,9 +11,8 @@ use Rattle.qh_model.specs.contract.BoardMachine.{Machine, Event, Acts, Can, afte
 use Rattle.qh_model.proofs.board.Updates.{put_here, put_else}
 use Rattle.qh_board.specs.contract.Records.{ending_of, ended_as}
 use Rattle.qh_board.specs.declared.view.{Mark.TheVariants.Left, Mark.TheVariants.GaveUp, Record.Record, Setup.Setup, View.View}
-use Rattle.qh_board.specs.steps.Rule.{one_if, times, Agrees, Kept, Ruled}
-use Rattle.qh_board.specs.steps.Shown.{event_by, made, maker, mark_of, mark_word}
-use Rattle.qh_board.specs.steps.Views.{view_of, kids, blocks_of, blocks_in, HasRecord, marked}
+use Rattle.qh_board.specs.steps.{Rule.one_if, Rule.times, Rule.Agrees, Rule.Kept, Rule.Ruled, Shown.event_by, Shown.made, Shown.maker, Shown.mark_of}
+use Rattle.qh_board.specs.steps.{Shown.mark_word, Views.view_of, Views.kids, Views.blocks_of, Views.blocks_in, Views.HasRecord, Views.marked}
 use Rattle.qh_board.proofs.SlotsHome.{all_home, laid, length_laid, load, slots_laid}
 use Rattle.qh_board.proofs.Steps.{KeptAfter, SlotsOf, made_more, steps, allowed_at, seat_record, seated, others_keep, nothing, word_else}
 

@@ -10,10 +10,9 @@ use native.Mathlib.Decide.{ℕ_discrete}
 use lib.ListN.{get_elem?}
 use Rattle.atomic_table.specs.{Seated.TableId, Table.Final, Table.Seen}
 use Rattle.qh_model.specs.contract.BoardMachine.{InSpan}
-use Rattle.qh_board.specs.contract.{Closings.mark_of_word, Closings.claims_made, Closings.tokens_of, Tokens.Token}
-use Rattle.qh_board.specs.declared.view.{Record.Record, Setup.Setup, View.View}
-use Rattle.qh_board.specs.steps.{Rule.one_if, Rule.weigh, Rule.named, Rule.claims_of, Rule.Each, Rule.Ruled, Seats.token_of}
-use Rattle.qh_board.specs.steps.{Views.record_of, Views.head_or, Views.HasEnded}
+use Rattle.qh_board.specs.contract.Closings.{mark_of_word, claims_made, tokens_of}
+use Rattle.qh_board.specs.{contract.Tokens.Token, declared.view.Record.Record, declared.view.Setup.Setup, declared.view.View.View, steps.Rule.one_if}
+use Rattle.qh_board.specs.steps.{Rule.weigh, Rule.named, Rule.claims_of, Rule.Each, Rule.Ruled, Seats.token_of, Views.record_of, Views.head_or, Views.HasEnded}
 use Rattle.qh_board.proofs.LastStates.{Last, closes}
 
 -- ---- the records of tokens

@@ -10,11 +10,10 @@ use Rattle.qh_model.specs.contract.BoardMachine.{Place}
 use Rattle.qh_model.specs.contract.BoardMachine.{untouched, held, parked, published, Event, arrive_first, publish, Can, after, settled, put, parent, InSpan}
 use Rattle.qh_model.proofs.board.{Grown.ranged, Reached.reach_good, Siblings.near, Updates.put_here, Updates.put_else, Updates.at_put}
 use Rattle.qh_board.specs.declared.view.Event as own
-use Rattle.qh_board.specs.declared.view.Event.TheVariants.{ArriveFirst, Publish}
-use Rattle.qh_board.specs.{contract.Records.come_first, contract.Records.without_node, contract.Records.node_or, declared.view.Record.Record}
-use Rattle.qh_board.specs.{declared.view.Setup.Setup, declared.view.View.View, steps.Rule.one_if, steps.Rule.times, steps.Rule.Agrees}
-use Rattle.qh_board.specs.steps.Shown.{event_by, made, maker}
-use Rattle.qh_board.specs.steps.{Rule.SlotOf, Rule.Kept, Rule.Ruled, Shown.mark_of, Views.view_of, Views.kids, Views.blocks_of, Views.HasRecord, Views.put_out}
+use Rattle.qh_board.specs.contract.Records.{come_first, without_node, node_or}
+use Rattle.qh_board.specs.declared.view.{Event.TheVariants.ArriveFirst, Event.TheVariants.Publish, Record.Record, Setup.Setup, View.View}
+use Rattle.qh_board.specs.steps.{Rule.one_if, Rule.times, Rule.Agrees, Rule.SlotOf, Rule.Kept, Rule.Ruled, Shown.event_by, Shown.made, Shown.maker}
+use Rattle.qh_board.specs.steps.{Shown.mark_of, Views.view_of, Views.kids, Views.blocks_of, Views.HasRecord, Views.put_out}
 use Rattle.qh_board.proofs.ParentWords.{arrivals_up, sibling_is}
 use Rattle.qh_board.proofs.SlotsHome.{all_home, laid, length_laid, load, slots_home, filled}
 use Rattle.qh_board.proofs.Steps.{KeptAfter, SlotsOf, Turns, made_more, steps, allowed_at, seat_record, others_keep, word_else}

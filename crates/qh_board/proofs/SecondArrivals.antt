@@ -8,13 +8,12 @@ use native.Mathlib.Decide.{ℕ_discrete}
 use lib.ListN.{get_elem?}
 use Rattle.atomic_table.specs.Table.{State}
 use Rattle.qh_model.specs.contract.BoardMachine.{Place, untouched, held, parked, used, Event, arrive_second, Can, after, settled, put, sibling, parent}
-use Rattle.qh_model.proofs.board.{Grown.ranged, Joined.same, Joined.spent, Joined.got, Joined.joined, Joined.cases, Joined.fresh, Joined.at_i}
-use Rattle.qh_model.proofs.board.{Joined.at_p, Reached.reach_good, Siblings.ArePair, Siblings.near, Updates.put_else}
+use Rattle.qh_model.proofs.board.Joined.{same, spent, got, joined, cases, fresh, at_i, at_p}
+use Rattle.qh_model.proofs.board.{Siblings.ArePair, Siblings.near, Grown.ranged, Reached.reach_good, Updates.put_else}
 use Rattle.qh_board.specs.contract.Records.{come_second, node_or}
-use Rattle.qh_board.specs.declared.view.{Record.Record, Setup.Setup, View.View}
+use Rattle.qh_board.specs.declared.view.{Event.TheVariants.ArriveSecond, Record.Record, Setup.Setup, View.View}
 use Rattle.qh_board.specs.steps.{Rule.one_if, Rule.Kept, Shown.made, Shown.mark_of, Views.view_of}
 use Rattle.qh_board.proofs.{ParentWords.arrivals_up, ParentWords.sibling_is, SlotsHome.laid, SlotsHome.length_laid, SlotsHome.load, SlotsHome.slots_laid}
-use Rattle.qh_board.specs.declared.view.Event.TheVariants.{ArriveSecond}
 use Rattle.qh_board.proofs.Steps.{Homes, KeptAfter, SlotsOf, made_more, steps, others_keep, slots_put, settled_put, word_else, times_snoc}
 
 module _ {S X : Type 0} (right : S → (ℕ → Type 0) → X → Type 0) (key : Setup S) where

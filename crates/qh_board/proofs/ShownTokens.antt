@@ -1,8 +1,7 @@
 -- The contract view of a token of a board and its seat.
 use Rattle.std.proofs.Common.{◌≡◌, ℕ, Bool, false, ap, sym, ◌∙◌, subst, Option, Some}
 use Rattle.atomic_table.specs.Seated.{TableId}
-use Rattle.qh_board.specs.contract.Records.{node_or}
-use Rattle.qh_board.specs.contract.Tokens.{BoardValue, Token, IsOf, IsRightAt, task_node}
+use Rattle.qh_board.specs.contract.{Records.node_or, Tokens.BoardValue, Tokens.Token, Tokens.IsOf, Tokens.IsRightAt, Tokens.task_node}
 use Rattle.qh_board.specs.declared.view.{Mark.Mark, Setup.Setup, View.View}
 use Rattle.qh_board.specs.steps.{Seats.token_of, Views.HasRecord, Views.record_of}
 use Rattle.qh_model.specs.contract.BoardMachine.{InSpan}
