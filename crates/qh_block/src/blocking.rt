@@ -34,7 +34,7 @@ pub fn are_few(extremes: usize, among: usize) -> bool
 /// How many of the ids of some blocks of a tree may be extreme for the tree to pay.
 ///
 /// A node hulls the lists of both its children. If the share of extreme ids falls by a quarter with each level, all
-/// levels above the blocks hull at most twice as many ids as there are.
+/// levels above the blocks together hull at most twice the number of ids.
 #[derive(Clone, Copy, Debug)]
 pub struct Allowance {
     /// The number of ids of the blocks.
