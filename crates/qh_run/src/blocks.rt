@@ -76,7 +76,7 @@ impl<'a> Blocks<'a> {
         Ok(Extremes { ids, allowance })
     }
 
-    /// Returns the extreme ids of a block. Gives up if more than half of its ids are extreme.
+    /// Returns the extreme ids of a block. Gives up if its allowance does not admit them.
     fn reduced(&self, alloc: Global, block: u32) -> Result<Extremes, GivesUp>
         requires { block < block_count self.now.cut.now }
         ensures { IfOk result (λ found. RightValue self.now.pts.now self.now.ids.now self.now.cut.now
