@@ -77,8 +77,7 @@ def surface_of(arrays: Optional[Arrays]) -> Optional[Surface]:
 def sides_of(starts: Any, offsets: Any, count: int) -> Optional[Sides]:
     """The sides, if each lies along just one other that runs the other way."""
     faces = np.repeat(np.arange(len(offsets) - 1), np.diff(offsets))
-    places = np.arange(len(starts))
-    before, behind = places - 1, places + 1
+    before, behind = np.arange(-1, len(starts) - 1), np.arange(1, len(starts) + 1)
     before[offsets[:-1]], behind[offsets[1:] - 1] = offsets[1:] - 1, offsets[:-1]
     ends = starts[behind]
     one, other = (starts < ends).nonzero()[0], (starts > ends).nonzero()[0]
@@ -106,14 +105,14 @@ def faces_around(starts: Any, sides: Sides, count: int) -> Optional[Tuple[Any, A
         return None
     firsts = np.empty(count, np.int64)
     firsts[starts[::-1]] = np.arange(len(starts))[::-1]
-    ends = np.append(0, degrees.cumsum())
-    found, now, following = np.empty(ends[-1], np.int64), firsts.copy(), sides.twins[sides.before]
-    left = np.arange(count)
-    for turn in range(int(degrees.max())):
-        left = left[degrees[left] > turn]
-        found[ends[left] + turn] = sides.faces[now[left]]
-        now[left] = following[now[left]]
-    return None if (now != firsts).any() else (found, ends)
+    order = np.argsort(-degrees, kind="stable")
+    ends, found, following = np.append(0, degrees.cumsum()), np.empty(len(starts), np.int64), sides.twins.take(sides.before)
+    now, places = firsts.take(order), ends.take(order)
+    for count in np.cumsum(np.bincount(degrees)[:0:-1])[::-1].tolist():  # the points that have more faces than were found
+        found[places[:count]] = now[:count]
+        places[:count] += 1
+        now[:count] = following.take(now[:count])
+    return None if (now != firsts.take(order)).any() else (sides.faces.take(found), ends)
 
 
 def cross(u: Any, v: Any) -> Any:

@@ -43,7 +43,7 @@ def numbers_of(data: bytes) -> Optional[Tuple[Any, Any]]:
     text, start, found = FRONT + data, DIGITS, []
     while start < len(text):
         end = text.find(b"\n", start + BLOCK) + 1 or len(text)
-        part = numbers_of_lines(text[start - DIGITS : end])
+        part = numbers_of_lines(text, start, end)
         if part is None:
             return None
         found.append(part)
@@ -51,10 +51,10 @@ def numbers_of(data: bytes) -> Optional[Tuple[Any, Any]]:
     return (np.concatenate([part[0] for part in found]), np.concatenate([part[1] for part in found])) if found else None
 
 
-def numbers_of_lines(text: bytes) -> Optional[Tuple[Any, Any]]:
-    """The same of some lines, behind a word of memory."""
-    words = np.frombuffer(text.ljust((len(text) // DIGITS + 2) * DIGITS, b"\0"), np.uint64)
-    letters = words.view(np.uint8)[DIGITS : len(text)]
+def numbers_of_lines(text: bytes, start: int, end: int) -> Optional[Tuple[Any, Any]]:
+    """The same of the lines from an offset to before another, with a word of memory before them."""
+    letters = np.frombuffer(text, np.uint8, end - start, start)
+    words = np.ndarray((end - start + 1,), np.uint64, text, start - DIGITS, (1,))  # those that end before each letter
     digit, line, minus = letters - np.uint8(ord("0")) < 10, letters == NEWLINE, letters == MINUS
     gap = line | (letters == BLANK)
     signs = minus.nonzero()[0]
@@ -67,23 +67,24 @@ def numbers_of_lines(text: bytes) -> Optional[Tuple[Any, Any]]:
     if not lengths.all():  # two blanks
         lines = np.cumsum(lengths > 0)[lines] - 1
         ends, lengths = ends[lengths > 0], lengths[lengths > 0]
-    negative = minus[ends - lengths]
-    lengths -= negative
+    negative = minus[ends - lengths].nonzero()[0]
+    lengths[negative] -= 1
     if not len(lengths) or lengths.max() > 2 * DIGITS:
         return None
-    numbers = digits_at(words, ends, np.minimum(lengths, DIGITS))
+    numbers = digits_of(words[ends], np.minimum(lengths, DIGITS))
     long = (lengths > DIGITS).nonzero()[0]
-    numbers[long] += 10**DIGITS * digits_at(words, ends[long] - DIGITS, lengths[long] - DIGITS)
+    numbers[long] += 10**DIGITS * digits_of(words[ends[long] - DIGITS], lengths[long] - DIGITS)
     numbers[negative] *= -1
     return numbers, np.diff(lines, prepend=-1)
 
 
-def digits_at(words: Any, ends: Any, counts: Any) -> Any:
-    """The numbers that have some digits, eight at most, before some letters; a word of memory stands before the first letter."""
-    places, shifts = ends >> 3, ((ends & 7) << 3).astype(np.uint64)
-    found = words.take(places) >> shifts | words.take(places + 1) << np.uint64(63) - shifts << np.uint64(1)
-    left = ((DIGITS - counts) << 3).astype(np.uint64)
-    found = (found >> left << left) & np.uint64(0x0F0F0F0F0F0F0F0F)
-    for size, mask in (1, 0x00FF00FF00FF00FF), (2, 0x0000FFFF0000FFFF), (4, 0xFFFFFFFF):
-        found = (found * np.uint64(10**size) + (found >> np.uint64(8 * size))) & np.uint64(mask)
-    return found.astype(np.int64)
+def digits_of(words: Any, counts: Any) -> Any:
+    """The numbers that the last letters of words of memory are, eight at most: first pairs of digits are joined, then pairs of these."""
+    left = ((DIGITS - counts) << 3).view(np.uint64)
+    words >>= left
+    words <<= left
+    for mask, factor, size in (0x0F0F0F0F0F0F0F0F, 10, 8), (0x00FF00FF00FF00FF, 100, 16), (0x0000FFFF0000FFFF, 10000, 32):
+        words &= np.uint64(mask)
+        words *= np.uint64((factor << size) + 1)
+        words >>= np.uint64(size)
+    return words.view(np.int64)
