@@ -1,7 +1,8 @@
 """Records of many whole numbers as text, by numpy.
 
-Some records at a time become rows of columns of letters, each as wide as the longest text there. The letters that are no text are
-0, and are left out at the end. Numbers that are many and small, such as indices, are looked up with the text between them.
+The text of some records at a time is a row of pieces for each: words of memory with up to seven letters, and how many there are in
+the last byte. Each piece is written over the last byte of the one before. Numbers that are many and small, such as indices, are
+looked up with the text between them.
 """
 from __future__ import annotations
 
@@ -17,7 +18,9 @@ except ImportError:
 RECORDS, MOST_NUMBERS = 1 << 12, 1 << 16
 GROUP = 4  # digits that are looked up together
 GROUPS = 10**GROUP
-LETTERS = 8  # of a text that is looked up
+LETTERS = 7  # of a piece
+SIZE_BITS = 56  # below the number of its letters
+TEXT = (1 << SIZE_BITS) - 1
 HALF = 16  # digits of the lower part of a wide number
 LOW_BITS = 31
 LOW = (1 << LOW_BITS) - 1
@@ -31,11 +34,18 @@ class Wide(NamedTuple):
     negative: Any
 
 
+class Lines(NamedTuple):
+    """Lines of a text by their pieces, and which of them each record has."""
+
+    pieces: Any  # (pieces of the longest one, lines)
+    chosen: Any  # (records, lines of each)
+
+
 class Field(NamedTuple):
     """Numbers of each record, in one list; those of record j stand from ends[j] to before ends[j + 1], and are one at least."""
 
     before: str  # the text before the first number of a record
-    between: str  # the text before each other one, shorter than what is looked up
+    between: str  # the text before each other one, of two letters at most
     numbers: Union[Wide, Any]  # of int64
     ends: Any
 
@@ -68,25 +78,76 @@ def wide_of(high: Any, low: Any) -> Union[Wide, Any]:
     return Wide(((parts[0] << LOW_BITS) + parts[1] << LOW_BITS) + parts[2], rests[1] * 10**8 + rests[0], negative)
 
 
-def blocks_of(fields: Sequence[Field], after: str = "") -> Iterator[bytes]:
+def blocks_of(fields: Sequence[Union[Field, Lines]], after: str = "") -> Iterator[bytes]:
     """The text of all records, one after the other: of each the fields in their order, and a text behind them."""
-    tables = [table_of(field) for field in fields]
+    tables = [table_of(field) if isinstance(field, Field) else None for field in fields]
     for start, end in cuts_of(fields):
         columns = [column for field, table in zip(fields, tables) for column in columns_of(field, start, end, table)]
-        columns += [np.array(after, "S")] if after else []
-        made = np.empty(end - start, [(str(place), column.dtype) for place, column in enumerate(columns)])
-        for place, column in enumerate(columns):
-            made[str(place)] = column
-        yield made.tobytes().translate(None, b"\0")
+        yield text_of([*columns, *pieces_of(after)], end - start)
 
 
-def cuts_of(fields: Sequence[Field]) -> Iterator[Tuple[int, int]]:
+def text_of(columns: List[Any], count: int) -> bytes:
+    """The text of some records by the columns of their pieces; what is written over the start of the next one is put right at the end."""
+    sizes = [column >> np.uint64(SIZE_BITS) for column in columns]
+    lengths = sum(sizes, np.zeros(count, np.uint64)).view(np.int64)
+    starts = np.append(0, lengths.cumsum())
+    text, heads = np.empty(int(starts[-1]) + 16, np.uint8), np.empty((count, 24), np.uint8)
+    starts = starts[:-1]
+    put(heads.ravel(), np.arange(count) * 24, columns, sizes, 8)
+    put(text, starts, columns, sizes, 1 << 62)
+    words_at(text)[starts] = heads[:, :8].copy().view(np.uint64).ravel()
+    return text[:-16].tobytes()  # type: ignore[no-any-return]
+
+
+def put(text: Any, starts: Any, columns: List[Any], sizes: List[Any], least: int) -> None:
+    """Writes the records to their starts, or no more of them than so many letters and some."""
+    words, places = words_at(text), starts.copy()
+    for column, size in zip(columns, sizes):
+        words[places] = column
+        places += size.view(np.int64)
+        if least == 8:
+            places = np.minimum(places, starts + 16)
+            if (places - starts).min() >= 8:
+                return
+
+
+def words_at(text: Any) -> Any:
+    """The words of memory that begin at each letter."""
+    return np.ndarray((len(text) - 7,), np.uint64, text, strides=(1,))
+
+
+def pieces_of(text: str) -> Any:
+    """The pieces of a text."""
+    parts = [text[start : start + LETTERS].encode("ascii") for start in range(0, len(text), LETTERS)]
+    return np.array([int.from_bytes(part, "little") | len(part) << SIZE_BITS for part in parts], np.uint64)
+
+
+def pieces_of_lines(text: bytes) -> Any:
+    """The pieces of the lines of a text, each with its end: a column for each line."""
+    letters = np.frombuffer(text.ljust(len(text) + 8), np.uint8)
+    ends = np.flatnonzero(letters == ord("\n")) + 1
+    starts = np.append(0, ends[:-1])
+    places = np.arange(0, int((ends - starts).max(initial=0)), LETTERS)[:, np.newaxis]
+    sizes = np.clip(ends - starts - places, 0, LETTERS)
+    words = words_at(letters)[np.minimum(starts + places, len(text))]
+    bits = (sizes << 3).view(np.uint64)
+    return words & (np.uint64(1) << bits) - np.uint64(1) | sizes.view(np.uint64) << np.uint64(SIZE_BITS)
+
+
+def joined(first: Any, second: Any) -> Any:
+    """Pieces of two pieces each, which have no more letters together than one."""
+    text, size = second & np.uint64(TEXT), second & ~np.uint64(TEXT)
+    return first + size | text << (first >> np.uint64(SIZE_BITS) << np.uint64(3))
+
+
+def cuts_of(fields: Sequence[Union[Field, Lines]]) -> Iterator[Tuple[int, int]]:
     """Ranges of records that are made at once: each has few records, and no field of it much room, or it has one record."""
-    count = len(fields[0].ends) - 1
+    ends = [field.ends for field in fields if isinstance(field, Field)]
+    count = len(ends[0]) - 1
     left = [(start, min(start + RECORDS, count)) for start in range(0, count, RECORDS)][::-1]
     while left:
         start, end = left.pop()
-        most = max(int(np.diff(field.ends[start : end + 1]).max()) for field in fields)
+        most = max(int(np.diff(part[start : end + 1]).max()) for part in ends)
         if end - start > 1 and most * (end - start) > MOST_NUMBERS:
             middle = (start + end) // 2
             left += [(middle, end), (start, middle)]
@@ -96,68 +157,85 @@ def cuts_of(fields: Sequence[Field]) -> Iterator[Tuple[int, int]]:
 
 @lru_cache(maxsize=None)
 def groups_of_digits() -> Any:
-    """The letters of the numbers of a group, all of them, and without zeros to the left."""
+    """The pieces of the numbers of a group, all of them, and without zeros to the left."""
     texts = [b"%04d" % number for number in range(GROUPS)]
-    return np.array(texts + [text.lstrip(b"0") for text in texts], f"S{GROUP}").view(np.uint32)
+    texts += [text.lstrip(b"0") for text in texts]
+    sizes = np.fromiter(map(len, texts), np.uint64)
+    return np.array(texts, f"S{GROUP}").view(np.uint32) | sizes << np.uint64(SIZE_BITS)
+
+
+@lru_cache(maxsize=None)
+def small_numbers(count: int) -> Any:
+    """The pieces of the numbers from 0 to before another."""
+    full, bare = groups_of_digits()[:GROUPS], groups_of_digits()[GROUPS:]
+    pieces = joined(bare[: -(-count // GROUPS), np.newaxis], full).ravel()[:count]
+    pieces[:GROUPS] = bare[:count]
+    pieces[:1] = pieces_of("0")
+    return pieces
 
 
 def table_of(field: Field) -> Any:
-    """The texts of all numbers up to the greatest one, if they are few, behind the text between, and nothing; else None."""
+    """The pieces of all numbers up to the greatest one, if they are few, behind the text between; else None."""
     numbers = field.numbers
     if isinstance(numbers, Wide) or not 0 <= numbers.min() <= numbers.max() <= len(numbers):
         return None
     count = int(numbers.max()) + 1
     if len(field.between) + len(str(count)) > LETTERS:
         return None
-    high, low = np.divmod(np.arange(count), GROUPS)
-    lows = groups_of_digits().take(low + GROUPS * (high == 0)).astype(np.uint64)
-    lows[0] = ord("0")
-    shifts = sum((high >= 10**digit).astype(np.uint64) for digit in range(GROUP)) << np.uint64(3)
-    texts = groups_of_digits().take(high + GROUPS) | lows << shifts
-    between = np.uint64(int.from_bytes(field.between.encode("ascii"), "little"))
-    return np.append(between | texts << np.uint64(8 * len(field.between)), np.uint64(0))
+    return joined(pieces_of(field.between), small_numbers(count)) if field.between else small_numbers(count)
 
 
-def columns_of(field: Field, start: int, end: int, table: Any) -> Iterator[Any]:
-    """The columns of a field in the records from one to before another: each is an array, or one text for all."""
-    ends, before = field.ends[start : end + 1], field.before
-    counts = np.diff(ends)
+def columns_of(field: Union[Field, Lines], start: int, end: int, table: Any) -> Iterator[Any]:
+    """The columns of pieces of a field in the records from one to before another: each is an array, or one piece for all."""
+    if isinstance(field, Lines):
+        yield from (pieces.take(places) for places in field.chosen[start:end].T for pieces in field.pieces)
+        return
+    chosen, before = slice(int(field.ends[start]), int(field.ends[end])), field.before
+    numbers = Wide(*(part[chosen] for part in field.numbers)) if isinstance(field.numbers, Wide) else field.numbers[chosen]
+    found = [table.take(numbers)] if table is not None else digits_of(numbers, field.between)
+    if before.endswith(field.between):
+        before = before[: len(before) - len(field.between)]
+    else:
+        firsts = field.ends[start:end] - chosen.start
+        found[0][firsts] = without(len(field.between), found[0][firsts])
+    yield from pieces_of(before)
+    counts = np.diff(field.ends[start : end + 1])
     most = int(counts.max())
-    is_even, is_like = bool((counts == most).all()), table is not None and before.endswith(field.between)
-    before = before[: len(before) - len(field.between)] if is_like else before
-    if before:
-        yield np.array(before, "S")
-    for place in range(most):
-        there = counts > place
-        chosen: Any = slice(ends[0] + place, ends[-1], most) if is_even else np.where(there, ends[:-1] + place, ends[0])
-        if table is None:
-            is_wide = isinstance(field.numbers, Wide)
-            part = Wide(*(part[chosen] for part in field.numbers)) if is_wide else field.numbers[chosen]
-            for column in digits_of(part, field.between if place else ""):
-                yield column if is_even else np.where(there, column, np.zeros((), column.dtype))
-        else:
-            column = table.take(field.numbers[chosen] if is_even else np.where(there, field.numbers[chosen], len(table) - 1))
-            yield column if is_like or place else column >> np.uint64(8 * len(field.between))
+    there = None if len(numbers.low if isinstance(numbers, Wide) else numbers) == most * len(counts) else np.arange(most) < counts[:, np.newaxis]
+    rows = [pieces.reshape(-1, most) if there is None else spread(pieces, there) for pieces in found]
+    yield from (row[:, place] for place in range(most) for row in rows)
 
 
-def digits_of(numbers: Any, between: str) -> Iterator[Any]:
-    """The columns of numbers behind a text and a sign where they are below 0."""
+def spread(pieces: Any, there: Any) -> Any:
+    """Pieces in rows, where they are there."""
+    rows = np.zeros(there.shape, np.uint64)
+    rows[there] = pieces
+    return rows
+
+
+def without(count: int, pieces: Any) -> Any:
+    """Pieces without their first letters."""
+    left = pieces - np.uint64(count << SIZE_BITS)
+    return (left & np.uint64(TEXT)) >> np.uint64(8 * count) | left & ~np.uint64(TEXT)
+
+
+def digits_of(numbers: Any, between: str) -> List[Any]:
+    """The pieces of numbers behind a text and a sign where they are below 0, the first ones first."""
     is_wide = isinstance(numbers, Wide)
     negative = numbers.negative if is_wide else numbers < 0
-    if negative.any():
-        yield np.array([between, between + "-"], "S").take(negative.astype(np.intp))
-    elif between:
-        yield np.array(between, "S")
     if not is_wide or not numbers.high.any():
-        yield from groups_of(np.abs(numbers.low if is_wide else numbers))
-        return
-    has_high = numbers.high > 0
-    yield from (np.where(has_high, column, np.uint32(0)) for column in groups_of(numbers.high))
-    yield from groups_of(numbers.low, has_high)
+        groups = groups_of(np.abs(numbers.low if is_wide else numbers))
+    else:
+        has_high = numbers.high > 0
+        groups = [np.where(has_high, group, np.uint64(0)) for group in groups_of(numbers.high)] + groups_of(numbers.low, has_high)
+    if between or negative.any():
+        signs = np.concatenate([pieces_of(between) if between else np.zeros(1, np.uint64), pieces_of(between + "-")])
+        groups[0] = joined(signs.take(negative.astype(np.intp)), groups[0])
+    return groups
 
 
-def groups_of(sizes: Any, has_more: Any = None) -> Iterator[Any]:
-    """The digits of numbers from 0 on, in columns, the first one first: with zeros to the left where a number has more digits."""
+def groups_of(sizes: Any, has_more: Any = None) -> List[Any]:
+    """The digits of numbers from 0 on, in pieces, the first one first: with zeros to the left where a number has more digits."""
     most = int(sizes.max())
     count, found = -(-(len(str(most)) if has_more is None else HALF) // GROUP), []
     left = sizes.astype(np.uint32) if most < 1 << 32 else sizes.astype(np.uint64)
@@ -167,5 +245,5 @@ def groups_of(sizes: Any, has_more: Any = None) -> Iterator[Any]:
         places += GROUPS * ((above == 0) if has_more is None else (above == 0) & ~has_more)
         found.append(groups_of_digits().take(places))
         left = above
-    found[0][found[0] == 0] = ord("0")
-    return reversed(found)
+    found[0][found[0] == 0] = pieces_of("0")[0]
+    return found[::-1]
