@@ -34,13 +34,6 @@ class Wide(NamedTuple):
     negative: Any
 
 
-class Lines(NamedTuple):
-    """Lines of a text by their pieces, and which of them each record has."""
-
-    pieces: Any  # (pieces of the longest one, lines)
-    chosen: Any  # (records, lines of each)
-
-
 class Field(NamedTuple):
     """Numbers of each record, in one list; those of record j stand from ends[j] to before ends[j + 1], and are one at least."""
 
@@ -78,9 +71,9 @@ def wide_of(high: Any, low: Any) -> Union[Wide, Any]:
     return Wide(((parts[0] << LOW_BITS) + parts[1] << LOW_BITS) + parts[2], rests[1] * 10**8 + rests[0], negative)
 
 
-def blocks_of(fields: Sequence[Union[Field, Lines]], after: str = "") -> Iterator[bytes]:
+def blocks_of(fields: Sequence[Field], after: str = "") -> Iterator[bytes]:
     """The text of all records, one after the other: of each the fields in their order, and a text behind them."""
-    tables = [table_of(field) if isinstance(field, Field) else None for field in fields]
+    tables = [table_of(field) for field in fields]
     for start, end in cuts_of(fields):
         columns = [column for field, table in zip(fields, tables) for column in columns_of(field, start, end, table)]
         yield text_of([*columns, *pieces_of(after)], end - start)
@@ -122,32 +115,19 @@ def pieces_of(text: str) -> Any:
     return np.array([int.from_bytes(part, "little") | len(part) << SIZE_BITS for part in parts], np.uint64)
 
 
-def pieces_of_lines(text: bytes) -> Any:
-    """The pieces of the lines of a text, each with its end: a column for each line."""
-    letters = np.frombuffer(text.ljust(len(text) + 8), np.uint8)
-    ends = np.flatnonzero(letters == ord("\n")) + 1
-    starts = np.append(0, ends[:-1])
-    places = np.arange(0, int((ends - starts).max(initial=0)), LETTERS)[:, np.newaxis]
-    sizes = np.clip(ends - starts - places, 0, LETTERS)
-    words = words_at(letters)[np.minimum(starts + places, len(text))]
-    bits = (sizes << 3).view(np.uint64)
-    return words & (np.uint64(1) << bits) - np.uint64(1) | sizes.view(np.uint64) << np.uint64(SIZE_BITS)
-
-
 def joined(first: Any, second: Any) -> Any:
     """Pieces of two pieces each, which have no more letters together than one."""
     text, size = second & np.uint64(TEXT), second & ~np.uint64(TEXT)
     return first + size | text << (first >> np.uint64(SIZE_BITS) << np.uint64(3))
 
 
-def cuts_of(fields: Sequence[Union[Field, Lines]]) -> Iterator[Tuple[int, int]]:
+def cuts_of(fields: Sequence[Field]) -> Iterator[Tuple[int, int]]:
     """Ranges of records that are made at once: each has few records, and no field of it much room, or it has one record."""
-    ends = [field.ends for field in fields if isinstance(field, Field)]
-    count = len(ends[0]) - 1
+    count = len(fields[0].ends) - 1
     left = [(start, min(start + RECORDS, count)) for start in range(0, count, RECORDS)][::-1]
     while left:
         start, end = left.pop()
-        most = max(int(np.diff(part[start : end + 1]).max()) for part in ends)
+        most = max(int(np.diff(field.ends[start : end + 1]).max()) for field in fields)
         if end - start > 1 and most * (end - start) > MOST_NUMBERS:
             middle = (start + end) // 2
             left += [(middle, end), (start, middle)]
@@ -185,11 +165,8 @@ def table_of(field: Field) -> Any:
     return joined(pieces_of(field.between), small_numbers(count)) if field.between else small_numbers(count)
 
 
-def columns_of(field: Union[Field, Lines], start: int, end: int, table: Any) -> Iterator[Any]:
+def columns_of(field: Field, start: int, end: int, table: Any) -> Iterator[Any]:
     """The columns of pieces of a field in the records from one to before another: each is an array, or one piece for all."""
-    if isinstance(field, Lines):
-        yield from (pieces.take(places) for places in field.chosen[start:end].T for pieces in field.pieces)
-        return
     chosen, before = slice(int(field.ends[start]), int(field.ends[end])), field.before
     numbers = Wide(*(part[chosen] for part in field.numbers)) if isinstance(field.numbers, Wide) else field.numbers[chosen]
     found = [table.take(numbers)] if table is not None else digits_of(numbers, field.between)
