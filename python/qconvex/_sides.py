@@ -18,9 +18,9 @@ if TYPE_CHECKING:
 INSIDE, SURFACE, OUTSIDE = 1, 0, -1
 
 _STRIDE = 1 << 14  # points that are looked at together
-_STARTS = 256  # triangles of which a walk begins at the nearest
 _STEPS = 1000  # of a walk in floats
 _DOUBT = 2.0**-44  # of the greatest value of a determinant: far more than its rounding
+_CLOSE = 2.0**60  # far more than the rounding of determinants of whole numbers, whose values below it are what they are modulo 2^64
 
 
 class Places:
@@ -50,16 +50,42 @@ class Places:
 
 
 def cross(one: NDArray[Any], other: NDArray[Any]) -> NDArray[Any]:
-    """The cross product along the last axis, of floats or of objects."""
-    ahead, behind = [1, 2, 0], [2, 0, 1]
-    product: NDArray[Any] = one[..., ahead] * other[..., behind] - one[..., behind] * other[..., ahead]
+    """The cross product along the first axis, of floats, whole numbers or objects."""
+    product: NDArray[Any] = np.stack([one[axis - 2] * other[axis - 1] - one[axis - 1] * other[axis - 2] for axis in range(3)])
     return product
 
 
-def normals_of_cones(corners: NDArray[Any]) -> NDArray[Any]:
-    """Of triangles (m, 3, 3) seen from the eye the inner normals of the sides opposite to the corners, and their own: (m, 4, 3)."""
+def values_of(corners: NDArray[Any], seen: NDArray[Any], scale: Any = 1) -> tuple[NDArray[Any], NDArray[Any]]:
+    """How far places are within the three sides of their cones, opposite to each corner, and above their triangles: determinants.
+
+    The corners (3, 3, k) stand by axes, then by corners, and the places (3, k), a number of times as large, by axes, all seen from
+    the eye. Those of int64 are modulo 2^64.
+    """
     a, b, c = corners[:, 0], corners[:, 1], corners[:, 2]
-    return np.stack([cross(b, c), cross(c, a), cross(a, b), cross(b - a, c - a)], axis=1)
+    normals = cross(b, c), cross(c, a), cross(a, b)
+    values = np.stack([(normal * seen).sum(axis=0) for normal in normals])
+    return values, values.sum(axis=0) - (normals[0] * a).sum(axis=0) * scale
+
+
+def cells_of(ways: NDArray[np.float64], size: int) -> tuple[Any, Any, Any]:
+    """The cells of a cube round the eye in which some directions (3, k) are: the face, and the row and the column of the face."""
+    place, axis = np.arange(ways.shape[1]), np.abs(ways).argmax(axis=0)
+    main = ways[axis, place]
+    across = [np.minimum((ways[axis - turn, place] / np.abs(main) + 1) * (size / 2), size - 1).astype(np.intp) for turn in (1, 2)]
+    return 2 * axis + (main < 0), across[0], across[1]
+
+
+def starts_of(middles: NDArray[np.float64]) -> NDArray[np.intp]:
+    """A triangle in or near each cell, with about as many cells as there are triangles."""
+    size = 1 << max(0, (middles.shape[1] // 6).bit_length() // 2)
+    tables = [np.full((6, size, size), -1)]
+    tables[0][cells_of(middles, size)] = np.arange(middles.shape[1])
+    while tables[-1].shape[1] > 1:
+        tables.append(tables[-1].reshape(6, tables[-1].shape[1] // 2, 2, -1, 2).max(axis=(2, 4)))
+    found = np.maximum(tables.pop(), 0)
+    for table in tables[::-1]:
+        found = np.where(table < 0, found.repeat(2, 1).repeat(2, 2), table)
+    return found
 
 
 def lowest_below(triangle: NDArray[np.int64], points: NDArray[np.int64]) -> NDArray[np.int64]:
@@ -81,52 +107,62 @@ class Cones:
         self.triangles, self.neighbors = triangles, neighbors
         first = points[triangles[0]].astype(np.int64)
         self.eye = first.sum(axis=0) + lowest_below(first, points[np.unique(triangles)].astype(np.int64))
-        self.seen = 4 * points.astype(np.int64) - self.eye
-        corners = self.seen[triangles].astype(np.float64)
-        self.normals = normals_of_cones(corners)
-        self.offsets = np.einsum("ij,ij->i", self.normals[:, 3], corners[:, 0])
-        lengths = np.sqrt(np.einsum("ijk,ijk->ij", corners, corners)).max(axis=1)
-        self.doubts = _DOUBT * lengths**2 * lengths.max()
-        self.starts = np.linspace(0, len(triangles) - 1, min(_STARTS, len(triangles))).astype(np.intp)
-        middles = corners[self.starts].sum(axis=1)
-        self.directions = (middles / np.linalg.norm(middles, axis=1)[:, np.newaxis]).T
+        self.seen = (4 * points.astype(np.int64) - self.eye).T.copy()  # by axes
+        self.rounded = self.seen.astype(np.float64)
+        self.lengths = np.sqrt(np.einsum("ij,ij->j", self.rounded, self.rounded))
+        self.doubt = _DOUBT * float(self.lengths[triangles].max())
+        self.starts = starts_of(sum(self.rounded.take(corners, 1) for corners in triangles.T))
 
     def sides(self, places: Places, chosen: NDArray[np.intp]) -> NDArray[np.int8]:
         """The sides of some places within the box of the points."""
-        seen = 4 * places.rounded[chosen] - self.eye
-        cones = self.starts[(seen @ self.directions).argmax(axis=1)]
+        seen = (4 * places.rounded[chosen] - self.eye).T.copy()
+        cones = self.starts[cells_of(seen, self.starts.shape[1])]
         self._walk(cones, seen)
-        normals, doubts = self.normals[cones], self.doubts[cones]
-        heights = np.einsum("ij,ij->i", normals[:, 3], seen) - self.offsets[cones]
-        inner = np.einsum("ijk,ik->ij", normals[:, :3], seen).min(axis=1)
+        values, heights = values_of(self._corners(self.rounded, cones), seen)
+        doubts = self._doubts(cones)
         sides: NDArray[np.int8] = np.where(heights > 0, OUTSIDE, INSIDE).astype(np.int8)
-        doubtful = np.flatnonzero((heights < doubts) & ((heights > -doubts) | (inner < doubts)))
-        sides[doubtful] = self._exact_sides(cones[doubtful], *places.exact(chosen[doubtful]))
+        doubtful = (heights < doubts) & ((heights > -doubts) | (values.min(axis=0) < doubts))
+        whole = np.flatnonzero(doubtful & places.are_whole[chosen])
+        sides[whole] = self._exact_sides(cones[whole], seen[:, whole].astype(np.int64))
+        others = np.flatnonzero(doubtful & ~places.are_whole[chosen])
+        numbers, divisors = places.exact(chosen[others])
+        sides[others] = self._exact_sides(cones[others], 4 * numbers.T - self.eye[:, np.newaxis].astype(object) * divisors, divisors)
         return sides
+
+    def _corners(self, seen: NDArray[Any], cones: NDArray[np.intp]) -> NDArray[Any]:
+        """The corners of triangles, by axes and corners."""
+        return seen.take(self.triangles.take(cones, 0).T, 1)
+
+    def _doubts(self, cones: NDArray[np.intp]) -> NDArray[np.float64]:
+        """Below what a determinant with the corners of triangles may have another sign."""
+        doubts: NDArray[np.float64] = self.doubt * self.lengths.take(self.triangles.take(cones, 0)).max(axis=1) ** 2
+        return doubts
 
     def _walk(self, cones: NDArray[np.intp], seen: NDArray[np.float64]) -> None:
         """Moves each place to its cone, except for steps that floats leave in doubt."""
         moving = np.arange(len(cones))
         for _ in range(_STEPS):
-            values = np.einsum("ijk,ik->ij", self.normals[cones[moving], :3], seen[moving])
-            worst = values.argmin(axis=1)
-            beyond = values[np.arange(len(worst)), worst] < -self.doubts[cones[moving]]
+            here = cones[moving]
+            values, _ = values_of(self._corners(self.rounded, here), seen.take(moving, 1))
+            worst = values.argmin(axis=0)
+            beyond = values[worst, np.arange(len(worst))] < -self._doubts(here)
             moving = moving[beyond]
             if not len(moving):
                 return
-            cones[moving] = self.neighbors[cones[moving], worst[beyond]]
+            cones[moving] = self.neighbors[here[beyond], worst[beyond]]
 
-    def _exact_sides(self, cones: NDArray[np.intp], numbers: NDArray[Any], divisors: NDArray[Any]) -> NDArray[np.int8]:
-        """The sides of places of which floats left a doubt, which walk on from their cones in whole numbers."""
-        seen = 4 * numbers - self.eye.astype(object) * divisors[:, np.newaxis]
+    def _exact_sides(self, cones: NDArray[np.intp], seen: NDArray[Any], divisors: NDArray[np.object_] | None = None) -> NDArray[np.int8]:
+        """The sides of places of which floats left a doubt, which walk on from their cones: of whole numbers, or of objects."""
         sides, moving = np.empty(len(cones), np.int8), np.arange(len(cones))
         while len(moving):
-            corners = self.seen[self.triangles[cones[moving]]].astype(object)
-            normals = normals_of_cones(corners)
-            values = (normals[:, :3] * seen[moving, np.newaxis]).sum(axis=2)
-            worst = values.argmin(axis=1)
-            beyond = (values[np.arange(len(worst)), worst] < 0).astype(bool)
-            heights = (normals[:, 3] * (seen[moving] - corners[:, 0] * divisors[moving, np.newaxis])).sum(axis=1)
+            corners, here = self._corners(self.seen, cones[moving]), seen[:, moving]
+            if divisors is None:
+                pairs = zip(values_of(corners.astype(float), here.astype(float)), values_of(corners, here))
+                values, heights = [np.where(np.abs(rounded) > _CLOSE, rounded, exact) for rounded, exact in pairs]
+            else:
+                values, heights = values_of(corners.astype(object), here, divisors[moving])
+            worst = values.argmin(axis=0)
+            beyond = (values[worst, np.arange(len(worst))] < 0).astype(bool)
             sides[moving] = (heights < 0).astype(np.int8) - (heights > 0).astype(np.int8)
             moving, worst = moving[beyond], worst[beyond]
             cones[moving] = self.neighbors[cones[moving], worst]
