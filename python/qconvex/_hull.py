@@ -193,9 +193,13 @@ class ConvexHull(Surface):
 
     def _repr_html_(self) -> str:
         """Returns a picture that can be turned, for notebooks."""
-        from ._view import frame, page
+        from ._view import frame, page, page_of
+        from .commands.surface_forms import data_of
 
-        return frame(page(self.vertices.tolist(), self._drawn().places.tolist(), self._numbered_faces(), repr(self)))
+        ids, (places, corners, offsets) = self.vertices.tolist(), self._drawn()
+        if places.dtype.kind == "i":
+            return frame(page_of(data_of(ids, places.astype(np.int64), corners, offsets), repr(self)))
+        return frame(page(ids, places.tolist(), self._numbered_faces(), repr(self)))
 
     def _meshed(self) -> tuple[NDArray[np.float64], NDArray[np.intp]]:
         """Returns the vertices as float64, and the triangles with each corner as its position in `vertices`."""

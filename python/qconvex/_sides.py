@@ -71,7 +71,8 @@ def cells_of(ways: NDArray[np.float64], size: int) -> tuple[Any, Any, Any]:
     """The cells of a cube round the eye in which some directions (3, k) are: the face, and the row and the column of the face."""
     place, axis = np.arange(ways.shape[1]), np.abs(ways).argmax(axis=0)
     main = ways[axis, place]
-    across = [np.minimum((ways[axis - turn, place] / np.abs(main) + 1) * (size / 2), size - 1).astype(np.intp) for turn in (1, 2)]
+    scale = np.where(main == 0, 1.0, np.abs(main))  # the eye itself is in the middle of a face
+    across = [np.minimum((ways[axis - turn, place] / scale + 1) * (size / 2), size - 1).astype(np.intp) for turn in (1, 2)]
     return 2 * axis + (main < 0), across[0], across[1]
 
 

@@ -85,7 +85,7 @@ def _units(normals: NDArray[np.float64]) -> Iterator[Any]:
         yield from [*(pieces_of(" ") if axis else []), *pieces[:, axis]]
 
 
-def _pieces_of_lines(text: bytes) -> NDArray[np.uint64]:
+def _pieces_of_lines(text: bytes) -> Any:
     """The pieces of the lines of a text, each with its end: a column for each line."""
     letters = np.frombuffer(text.ljust(len(text) + 8), np.uint8)
     ends = np.flatnonzero(letters == ord("\n")) + 1

@@ -93,6 +93,15 @@ def test_texts_are_read_back(form):
     assert "property int x" in whole.to_ply() and "4 0 1 3 2\n" in whole.to_ply() and whole.to_stl().count("facet normal -1.0 0.0 0.0") == 2
 
 
+@pytest.mark.parametrize("scales", [(1, 1, 1), (1, 1, 10**6), (1, 10**3, 10**9)])
+def test_normals_of_stl_are_the_nearest_float32(scales):
+    points = np.random.default_rng(7).normal(size=(300, 3))
+    points = np.rint(points / np.linalg.norm(points, axis=1)[:, np.newaxis] * scales).astype(np.int64)
+    hull = ConvexHull(np.concatenate([points, np.diag(scales), -np.diag(scales)]))
+    rows = [line.split()[2:] for line in hull.to_stl().splitlines() if line.startswith("facet normal ")]
+    assert np.array_equal(np.array(rows, np.float32), hull.equations[:, :3].astype(np.float32))
+
+
 def test_a_picture_has_one_scale():
     matplotlib = pytest.importorskip("matplotlib")
     matplotlib.use("Agg")

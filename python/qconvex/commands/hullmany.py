@@ -244,22 +244,6 @@ def arguments() -> argparse.Namespace:
         parser.error("--engine is dask://ADDRESS, and wants --file")
     if options.bits is not None and not options.file:
         parser.error("--bits wants --file")
-    if options.bits is not None and not options.file:
-        parser.error("--bits wants --file")
-    if options.bits is not None and not options.file:
-        parser.error("--bits wants --file")
-    if options.bits is not None and not options.file:
-        parser.error("--bits wants --file")
-    if options.bits is not None and not options.file:
-        parser.error("--bits wants --file")
-    if options.bits is not None and not options.file:
-        parser.error("--bits wants --file")
-    if options.bits is not None and not options.file:
-        parser.error("--bits wants --file")
-    if options.bits is not None and not options.file:
-        parser.error("--bits wants --file")
-    if options.bits is not None and not options.file:
-        parser.error("--bits wants --file")
     return options
 
 

@@ -13,12 +13,10 @@ import signal
 import sys
 
 from .._view import page, page_of
-from .closed_surfaces import Arrays
 from .contents import bytes_of
-from .number_texts import Field, rows
 from .off_arrays import arrays_of_text
 from .off_files import Malformed, Number, read_off
-from .surface_forms import records
+from .surface_forms import data_of
 
 
 def shown(value: Number) -> int | float:
@@ -26,18 +24,11 @@ def shown(value: Number) -> int | float:
     return value if isinstance(value, int) else float(value)
 
 
-def data_of(hull: Arrays) -> str:
-    """The text of a hull in JSON, as `page` makes it, by numpy."""
-    points, faces = records("],[", [rows("", ",", hull.points)]), records("],[", [Field("", ",", hull.corners, hull.offsets)])
-    texts = ",".join(map(str, range(len(hull.points)))), *(b"".join(blocks).decode("ascii") for blocks in (points, faces))
-    return '{"ids":[%s],"points":[[%s]],"faces":[[%s]]}' % texts
-
-
 def shown_file(data: bytes, title: str) -> str:
     """The page of an OFF file."""
     hull = arrays_of_text(data)
     if hull:
-        return page_of(data_of(hull), title)
+        return page_of(data_of(range(len(hull.points)), *hull), title)
     points, faces = read_off(data.decode("utf-8", "replace"))
     return page(list(range(len(points))), [list(map(shown, point)) for point in points], faces, title)
 

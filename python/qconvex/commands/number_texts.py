@@ -89,7 +89,7 @@ def text_of(columns: List[Any], count: int) -> bytes:
     put(heads.ravel(), np.arange(count) * 24, columns, sizes, 8)
     put(text, starts, columns, sizes, 1 << 62)
     words_at(text)[starts] = heads[:, :8].copy().view(np.uint64).ravel()
-    return text[:-16].tobytes()  # type: ignore[no-any-return]
+    return text[:-16].tobytes()
 
 
 def put(text: Any, starts: Any, columns: List[Any], sizes: List[Any], least: int) -> None:

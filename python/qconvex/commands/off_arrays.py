@@ -54,7 +54,7 @@ def numbers_of(data: bytes) -> Optional[Tuple[Any, Any]]:
 def numbers_of_lines(text: bytes, start: int, end: int) -> Optional[Tuple[Any, Any]]:
     """The same of the lines from an offset to before another, with a word of memory before them."""
     letters = np.frombuffer(text, np.uint8, end - start, start)
-    words = np.ndarray((end - start + 1,), np.uint64, text, start - DIGITS, (1,))  # those that end before each letter
+    words: Any = np.ndarray((end - start + 1,), np.uint64, text, start - DIGITS, (1,))  # those that end before each letter
     digit, line, minus = letters - np.uint8(ord("0")) < 10, letters == NEWLINE, letters == MINUS
     gap = line | (letters == BLANK)
     signs = minus.nonzero()[0]

@@ -83,6 +83,13 @@ def polymake_blocks(hull: Surface, _indices: Sequence[int]) -> Iterable[bytes]:
     return chain([head], vertices, [b"]], LINEALITY_SPACE=>[], FACETS=>["], facets, [b"]], AFFINE_HULL=>[]);\n"])
 
 
+def data_of(ids: Sequence[int], points: Any, corners: Any, offsets: Any) -> str:
+    """What `hullview` shows of a hull, in JSON: the indices of its points, their places, which are whole, and its faces."""
+    parts = records("],[", [rows("", ",", points)]), records("],[", [Field("", ",", corners, offsets)])
+    texts = ",".join(map(str, ids)), *(b"".join(blocks).decode("ascii") for blocks in parts)
+    return '{"ids":[%s],"points":[[%s]],"faces":[[%s]]}' % texts
+
+
 BLOCKS: Dict[str, Callable[[Surface, Sequence[int]], Iterable[bytes]]] = {
     "text": text_blocks,
     "json": json_blocks,
