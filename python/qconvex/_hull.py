@@ -160,7 +160,7 @@ class ConvexHull(Surface):
         return ply_text(self._drawn())
 
     def to_stl(self) -> str:
-        """Returns the triangles of the hull as an STL text, with unit normals that are rounded."""
+        """Returns the triangles of the hull as an STL text, with unit normals that are rounded to float32."""
         return stl_text(self._coordinates()[self.vertices], self._numbered(self.simplices), self.equations[:, :3])
 
     def to_trimesh(self) -> Any:

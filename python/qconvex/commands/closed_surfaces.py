@@ -93,8 +93,11 @@ def sides_of(starts: Any, offsets: Any, count: int) -> Optional[Sides]:
 
 
 def sorted_with(keys: Any, places: Any) -> Tuple[Any, Any]:
-    """Keys of up to 40 bits in rising order, and with each its place: sorting both in one number is faster than sorting by keys."""
-    both = np.sort(keys << PLACE_BITS | places)
+    """Keys of up to 40 bits in rising order, and with each its place: sorting both in one number is faster than sorting by keys.
+
+    The stable way is the faster one where first corners rise from face to face, as those of `off` do.
+    """
+    both = np.sort(keys << PLACE_BITS | places, kind="stable")
     return both >> PLACE_BITS, both & (1 << PLACE_BITS) - 1
 
 
