@@ -3,7 +3,7 @@
 //! A set is hulled in parts if that is cheaper: most points of a part are not extreme, and the extreme points of all
 //! parts are few. These rules decide when. They affect the time and never an answer, since the hull of a set is the
 //! same for every division of it. docs/PERFORMANCE.md has the measurements.
-ghost use Rattle.std.specs.Prelude.{◌↔◌, ◌≤◌, ◌<◌, ◌/◌, ◌⊎◌, IsTrue};
+ghost use Rattle.std.specs.Prelude.{◌≡◌, ◌↔◌, ◌≤◌, ◌<◌, ◌/◌, ◌⊎◌, IsTrue};
 ghost use Rattle.qh_model.specs.{contract.Cut.blocks_of, declared.limits.TheConstants.BLOCK_LIMIT};
 
 use qh_model::BLOCK_LIMIT;
