@@ -1,5 +1,5 @@
 //! Texts of small hulls, and the bytes that sinks receive.
-ghost use Rattle.std.specs.Prelude.{◌≡◌, IfOk};
+ghost use Rattle.std.specs.Prelude.{◌≡◌, [], ◌∷◌, IfOk};
 
 use qh_fixtures::files::TETRAHEDRON_OFF;
 use qh_fixtures::{Host, table};
@@ -13,21 +13,23 @@ mod many_points;
 mod refusals;
 mod writers;
 
-/// Returns the hull of points in one plane with these corners, which are all different.
-fn flat_hull(alloc: Global, given: u32, dim: u8, corners: &[Id], edges: u64) -> Result<Hull, Memory>
-    ensures { IfOk result (λ h. h.body.extremes ≡ corners.now) }
+/// Returns the hull of a single point.
+fn one_point(alloc: Global) -> Result<Hull, Memory>
+    ensures { IfOk result (λ h. h.body.extremes ≡ 0 ∷ []) }
 {
+    let extremes = Vec::from_array(alloc, [Id::new(0)])?;
+    let face = Vec::from_array(alloc, [Id::new(0)])?;
     let mut polygons = Vec::new(alloc);
-    polygons.push(Polygon::of(Vec::from_slice(alloc, corners)?))?;
+    polygons.push(Polygon::of(face))?;
     let body = Body {
-        dim,
-        extremes: Vec::from_slice(alloc, corners)?,
+        dim: 0,
+        extremes,
         polygons,
-        edges,
+        edges: 0,
     };
     Ok(Hull {
-        given,
-        distinct: given,
+        given: 1,
+        distinct: 1,
         body,
     })
 }
@@ -43,7 +45,7 @@ const TEXTS: [(&[Out], &str); 2] = table![
 
 #[test]
 fn texts_of_one_point(rt: HostRuntime) -> Result<(), Fail> {
-    let hull = flat_hull(rt.alloc(), 1, 0, &[Id::new(0)], 0)?;
+    let hull = one_point(rt.alloc())?;
     for (outs, want) in TEXTS {
         let texts = text(rt.alloc(), &hull, &[Point::new(5, 5, 5)], outs)?;
         assert_eq!(rt; texts.as_slice(), want.as_bytes());

@@ -2,9 +2,8 @@
 //! result when it is repeated. `scripts/trials/refusals.py` makes each allocation fail in turn.
 ghost use Rattle.std.specs.Prelude.{◌≡◌, [], ◌∷◌, IfOk};
 
-use super::flat_hull;
 use qh_fixtures::{again, points, table};
-use qh_model::{Hull, Id, Memory};
+use qh_model::{Body, Hull, Id, Memory, Polygon};
 use qh_write::{MemSink, Out, Sink, send, text};
 use std::alloc::Global;
 use std::test::Fail;
@@ -14,7 +13,21 @@ fn square(alloc: Global) -> Result<Hull, Memory>
     ensures { IfOk result (λ h. h.body.extremes ≡ 0 ∷ 1 ∷ 2 ∷ 3 ∷ []) }
 {
     let corners = [Id::new(0), Id::new(1), Id::new(2), Id::new(3)];
-    flat_hull(alloc, 5, 2, &corners, 4)
+    let extremes = Vec::from_array(alloc, corners)?;
+    let face = Vec::from_array(alloc, corners)?;
+    let mut polygons = Vec::new(alloc);
+    polygons.push(Polygon::of(face))?;
+    let body = Body {
+        dim: 2,
+        extremes,
+        polygons,
+        edges: 4,
+    };
+    Ok(Hull {
+        given: 5,
+        distinct: 5,
+        body,
+    })
 }
 
 const OUTS: [Out; 5] = table![
