@@ -31,7 +31,7 @@ EXAMPLES = {"square-with-centre": "2", "unit-cube": "2", "octahedron-midpoints":
 BLOCK_OF_MANY = "100"
 RUNS_OF_A_SWEEP = 100
 MEMORY = (3, b"", b"qconvex: 8: Memory\n")
-CHECKS_OUT_OF_MEMORY = [(3, b"", b"hullcheck: " + line + b"\n") for line in (b"the points: Memory", b"the faces: Memory", b"out of memory")]
+CHECKS_OUT_OF_MEMORY = [(3, b"", b"hullcheck: " + line + b"\n") for line in (b"the points: out of memory", b"the faces: out of memory", b"out of memory")]
 MODULE, MAY_FAIL = "refusals::", "falls_back"
 
 
