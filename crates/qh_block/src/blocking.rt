@@ -3,7 +3,7 @@
 //! A set is hulled in parts if that is cheaper: most points of a part are not extreme, and the extreme points of all
 //! parts are few. These rules decide when. They affect the time and never an answer, since the hull of a set is the
 //! same for every division of it. docs/PERFORMANCE.md has the measurements.
-ghost use Rattle.std.specs.Prelude.{◌≡◌, ◌↔◌, ◌≤◌, ◌<◌, ◌/◌, ◌⊎◌, IsTrue};
+ghost use Rattle.std.specs.Prelude.{◌≡◌, ◌↔◌, ◌≤◌, ◌<◌, ◌+◌, ◌*◌, ◌/◌, ◌^◌, ◌⊎◌, IsTrue};
 ghost use Rattle.qh_model.specs.{contract.Cut.blocks_of, declared.limits.TheConstants.BLOCK_LIMIT};
 
 use qh_model::BLOCK_LIMIT;
@@ -38,9 +38,9 @@ pub fn are_few(extremes: usize, among: usize) -> bool
 #[derive(Clone, Copy, Debug)]
 pub struct Allowance {
     /// The number of ids of the blocks.
-    pub among: usize,
+    among: usize,
     /// The most extreme ids with which the tree pays.
-    pub most: usize,
+    most: usize,
 }
 
 impl Allowance {
@@ -55,7 +55,11 @@ impl Allowance {
 
     /// Returns the allowance of the blocks of two nodes: half of the ids if there are too few to decide, otherwise three
     /// quarters of both allowances.
-    pub fn and(self, other: Allowance) -> Allowance {
+    pub fn and(self, other: Allowance) -> Allowance
+        ensures among { self.among + other.among < 2 ^ 64 → result.among ≡ self.among + other.among }
+        ensures few { result.among < TELLING → result.most ≡ result.among / 2 }
+        ensures many { TELLING ≤ result.among → self.most + other.most < 2 ^ 64 → result.most ≡ (self.most + other.most) / 4 * 3 }
+    {
         let among = self.among.saturating_add(other.among);
         if among < TELLING {
             return Allowance::of_block(among);

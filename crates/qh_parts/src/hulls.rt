@@ -11,8 +11,8 @@ use qh_parts_guess::gap::{is_worth_parting, trial_sample};
 use std::alloc::Global;
 use std::thread::Threads;
 
-/// The hull of a set with fewer ids is computed by one thread.
-const LARGE: usize = 50_000;
+/// The hull of a set with fewer ids is computed by one thread. Parts of fewer take more than twice its CPU time.
+const LARGE: usize = 65_536;
 
 /// The greatest number of parts. More parts have longer seams, and are no faster.
 const PARTS: usize = 8;

@@ -1,4 +1,4 @@
-//! The 20,000 points of a paraboloid, all of them extreme, with four settings, and 60,000 points whose hull is computed
+//! The 20,000 points of a paraboloid, all of them extreme, with four settings, and 70,000 points whose hull is computed
 //! by several threads.
 use crate::tests::outcomes::{Asked, Call, OFFT, Outcome, SUMMARY, push_point};
 use qh_fixtures::Host;
@@ -9,7 +9,7 @@ use std::alloc::{AllocError, Global};
 use std::test::Fail;
 
 /// The greatest number of points that are created: their coordinates fit.
-const COUNT_LIMIT: u32 = 60000;
+const COUNT_LIMIT: u32 = 70000;
 
 const BEGINNING: &str =
     "Convex hull of 20000 points in 3-d:\n  dimension: 3\n  distinct points: 20000\n  extreme points: 20000\n  facets: 19706\n  edges: 39704\n";
@@ -69,11 +69,11 @@ fn has_its_triangles(rt: HostRuntime) -> Result<(), Fail> {
 }
 
 const LARGE_BEGINNING: &str =
-    "Convex hull of 60000 points in 3-d:\n  dimension: 3\n  distinct points: 60000\n  extreme points: 60000\n";
+    "Convex hull of 70000 points in 3-d:\n  dimension: 3\n  distinct points: 70000\n  extreme points: 70000\n";
 
 #[test]
 fn has_the_same_text_by_parts(rt: HostRuntime) -> Result<(), Fail> {
-    let input = points(rt.alloc(), 60000)?;
+    let input = points(rt.alloc(), 70000)?;
     let asked = OUTPUTS.by(4, 4096);
     let whole = outcome_of(&rt, asked, input.as_bytes(), &NoGate)?;
     let gate = Threaded {
