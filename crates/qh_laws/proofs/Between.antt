@@ -1,14 +1,13 @@
 -- A point between a facet and an inner place is above no facet, and a point above no facet is a convex combination.
-use Rattle.std.proofs.Common.{◌≡◌, ℕ, arith, refl, sym, ◌∙◌, inl, inr, ⊎_elim}
-use Rattle.std.proofs.lemmas.Int.{ints}
-use Rattle.std.specs.Prelude.{ℤ, pos, ◌+ℤ◌, ◌-ℤ◌, ◌*ℤ◌, ◌≤ℤ◌, ◌<ℤ◌}
+use Rattle.std.proofs.Common.{◌≡◌, ℕ, refl, sym, ◌∙◌, inl, inr, ⊎_elim}
+use Rattle.std.specs.Prelude.{ℤ, pos, ◌+ℤ◌, ◌≤ℤ◌, ◌<ℤ◌}
 use Rattle.qh_model.specs.contract.{FinishedSurface.weighted_at, FinishedSurface.middle_at, Surface.start, Surface.end, Surface.IsCorner, Surface.rise}
 use Rattle.qh_model.specs.contract.Weighted.{Weighted, weighted, weighted_dot, plane_of}
-use Rattle.qh_model.specs.{headline.Sets.In, headline.Sets.Members, headline.Vector.dot, laws.Separator.Separator}
+use Rattle.qh_model.specs.{headline.Sets.In, headline.Sets.Members}
 use Rattle.qh_model.proofs.algebra.Order.{mul-pos, mul-nonneg_nonpos, neg-positive, neg-nonneg, negative_le}
-use Rattle.qh_model.proofs.algebra.Signs.{at_most_zero, not_less, less_differ, equal_nonpos, equal_negative, equal_positive, no_sum}
+use Rattle.qh_model.proofs.algebra.Signs.{at_most_zero, less_differ, equal_nonpos, equal_negative, equal_positive, no_sum}
 use Rattle.qh_model.proofs.extremes.{ExtremeIds.listed_itself, ExtremeIds.alternative_in, Faces.face_combination}
-use Rattle.qh_model.proofs.surfaces.{CoveredPlanes.nothing_outside, Determinants.dot-together, Determinants.above-together, Facets.plane-is}
+use Rattle.qh_model.proofs.surfaces.{Determinants.above-together, Facets.plane-is, Finished.none_beyond}
 use Rattle.qh_model.proofs.surfaces.{Finished.unseen_above, Located.Located, Located.shares, Located.mix, Simplex.middle_is_below, SurfaceLaws.rise_is_vol}
 use Rattle.qh_laws.specs.contract.Seam.{height_over}
 use Rattle.qh_laws.specs.laws.PointLaws.{LevelIsInPolygon, WithinIsBelow, BetweenIsBelow, MiddleIsInner, BetweenFourIsBelow, BelowIsCombination}
@@ -78,36 +77,8 @@ between_four_is_below at ids m z s t u v hs ht hu hv h f live p b =
 
 -- proof of the law `BelowIsCombination`
 pub below_is_combination : BelowIsCombination
-below_is_combination at ids m z p below = ⊎_elim (λ c. c) (λ s. absurd (none s)) (alternative_in at (Members ids) ids (listed_itself ids) p)
-  where
-    home : ℕ → Weighted
-    home = weighted_at at
-
-    none : Separator at (Members ids) p → ⊥
-    none s =
-        not_less (pos 0) _ (equal_positive _ _ (sym own) (omega (arith, ints)))
-        (nothing_outside m home (middle_at at z.s z.t z.u z.v) z.whole z.sound z.some z.some_live n (weighted p)
-        (λ g i l c. low l (z.corners g i l c)) middle_low (λ f i. blind_rise at m f p (below f i)))
-      where
-        -- a form that is 1 at p, and at most 0 at the members
-        n : Weighted
-        n = record { w = pos 1 -ℤ dot s.w p; x = s.w.x; y = s.w.y; z = s.w.z }
-
-        own : weighted_dot n (weighted p) ≡ pos 1
-        own = omega (arith, ints)
-
-        low : (l : ℕ) → Members ids l → weighted_dot n (home l) ≤ℤ pos 0
-        low l h = lower (dot s.w p) (s.w.x *ℤ (at l).x) (s.w.y *ℤ (at l).y) (s.w.z *ℤ (at l).z) (dot s.w (at l)) refl (s.past l h)
-          where
-            lower : (d x y z e : ℤ) → e ≡ x +ℤ y +ℤ z → e <ℤ d → ((pos 1 -ℤ d) *ℤ pos 1 +ℤ x +ℤ y +ℤ z) ≤ℤ pos 0
-            lower d x y z e q h = omega (arith, ints)
-
-        middle_low : weighted_dot n (middle_at at z.s z.t z.u z.v) ≤ℤ pos 0
-        middle_low =
-            four _ _ _ _ _ (dot-together n (home z.s) (home z.t) (home z.u) (home z.v)) (low z.s z.has_s) (low z.t z.has_t) (low z.u z.has_u) (low z.v z.has_v)
-          where
-            four : (x a b c d : ℤ) → x ≡ a +ℤ b +ℤ c +ℤ d → a ≤ℤ pos 0 → b ≤ℤ pos 0 → c ≤ℤ pos 0 → d ≤ℤ pos 0 → x ≤ℤ pos 0
-            four x a b c d e ha hb hc hd = omega (arith, ints)
+below_is_combination at ids m z p below =
+    ⊎_elim (λ c. c) (λ s. absurd (none_beyond at ids m z s.w p below s.past)) (alternative_in at (Members ids) ids (listed_itself ids) p)
 
 -- proof of the law `LevelIsInPolygon`
 pub level_is_in_polygon : LevelIsInPolygon

@@ -6,9 +6,9 @@ use Rattle.qh_model.specs.contract.{FinishedSurface.weighted_at, FinishedSurface
 use Rattle.qh_model.specs.contract.{Surface.Surface, Surface.IsCorner, Surface.rise, Surface.Sees, Weighted.Weighted, Weighted.weighted, Weighted.above}
 use Rattle.qh_model.specs.{headline.Sets.In, headline.Vector.Vector, laws.FacetPlanes.IsLevelFacet, laws.FacetPlanes.IsPlaneWalk}
 use Rattle.qh_model.proofs.algebra.{Integers.one_mul, Order.mul-nonneg, Order.mul-nonneg_nonpos, Order.positive_le, Order.product_zero, Signs.less_differ}
-use Rattle.qh_model.proofs.{algebra.Signs.at_most_zero, algebra.Signs.equal_positive, extremes.Directions.vol_along, extremes.Directions.zero_along}
-use Rattle.qh_model.proofs.surfaces.CoveredPlanes.{above-last, beyond, on_sees_beyond, sees_beyond_on}
-use Rattle.qh_model.proofs.surfaces.FacetPlanes.{level_facets_span, plane_walk_finds_all, level_itself, level_back, seen_level}
+use Rattle.qh_model.proofs.{algebra.Signs.at_most_zero, algebra.Signs.equal_positive, extremes.Directions.same_plane}
+use Rattle.qh_model.proofs.surfaces.FacetPlanes.{above-last, beyond, on_sees_beyond, sees_beyond_on, level_facets_span, plane_walk_finds_all}
+use Rattle.qh_model.proofs.surfaces.FacetPlanes.{level_itself, level_back, seen_level}
 use Rattle.qh_model.proofs.surfaces.Facets.{middle, sum_blind, sum_level}
 use Rattle.qh_model.proofs.surfaces.{Finished.unseen_above, PerturbedInwards.bound, PerturbedInwards.scale, SurfaceLaws.walk_finds_all}
 use Rattle.qh_laws.specs.{contract.Seam.height_over, contract.Seam.IsBelowAll, contract.Seam.IsRing, laws.PointLaws.IsBeside, laws.PointLaws.SidesHideRest}
@@ -60,9 +60,8 @@ module _ (at : ℕ → Vector) (ids : List ℕ) (m : Surface) (z : IsFinished at
   -- p is in the plane of each facet that is in the plane of f
   pub level_point : (g : ℕ) → In g m.live → IsLevelFacet at m f g → height_over at m g p ≡ pos 0
   level_point g i level =
-      let h = (level_facets_span at ids m z f g live i level).along in
-      zero_along h.s h.t _ _ h.some_t
-      (vol_along (at (m.i f)) (at (m.j f)) (at (m.k f)) (at (m.i g)) (at (m.j g)) (at (m.k g)) p h (level (m.i g) (inl refl))) on
+      (same_plane (at (m.i f)) (at (m.j f)) (at (m.k f)) (at (m.i g)) (at (m.j g)) (at (m.k g)) p
+      (level_facets_span at ids m z f g live i level).along (level (m.i g) (inl refl))).0 on
 
   -- a facet in the plane of f sees x
   level_sees : (g : ℕ) → In g m.live → IsLevelFacet at m f g → Sees m home g x

@@ -1,12 +1,12 @@
 -- Sound meshes: the simplex, the result of a step, and that both are closed.
 use Rattle.std.proofs.Common.{slice_index, ◌≡◌, ℕ, arith, rules, refl, [], ◌≢◌, sym, inl, inr, List, ◌∷◌, subst}
 use Rattle.std.proofs.lemmas.{Bool.cases_Bool, Int.ints, Int.by_lt_z}
-use Rattle.std.specs.Prelude.{pos, ◌<ℤ◌}
+use Rattle.std.specs.Prelude.{pos, ◌≤ℤ◌, ◌<ℤ◌}
 use Rattle.qh_model.specs.contract.{ClosedSurface.signed_volume, ClosedSurface.triples_of, FinishedSurface.weighted_at, FinishedSurface.middle_at}
 use Rattle.qh_model.specs.contract.{FinishedSurface.IsFinished, StoredSurface.StoredFacet, StoredSurface.surface_of, Weighted.Weighted, Weighted.weighted}
 use Rattle.qh_model.specs.{headline.Predicates.vol, headline.Sets.In, headline.Vector.Vector, laws.SimplexSurface.simplex_surface}
-use Rattle.qh_model.proofs.algebra.{Signs.not_less, VectorIdentities.vol-flip_last}
-use Rattle.qh_model.proofs.surfaces.Closed.{sound_is_closed, sound_has_volume, seen_volume}
+use Rattle.qh_model.proofs.algebra.{Signs.less_le, Signs.not_less, VectorIdentities.vol-flip_last}
+use Rattle.qh_model.proofs.surfaces.Closed.{of_facets, sound_is_closed, sound_has_volume, seen_volume}
 use Rattle.qh_model.proofs.surfaces.{Named.IsNamed, Named.sound_named, Named.whole_named, Rewired.replace_keeps, Simplex.four, Simplex.middle-turned}
 use Rattle.qh_model.proofs.surfaces.{Simplex.simplex_sound, Stored.live_in, Stored.in_live, Stored.live_is_listed_once, SurfaceLaws.rise_is_vol}
 use Rattle.qh_mesh.specs.contract.Replacement.{is_listed, IsLive}
@@ -87,7 +87,8 @@ module _ (old new : List StoredFacet) (vs : List ℕ) (p : ℕ) (made : List ℕ
     step_leaves : (fs : List ℕ) → (surface_of new).live ≡ fs → (f : ℕ) × IsLive new f
     step_leaves [] e = absurd (not_less (signed_volume at (triples_of (surface_of old)) (at p)) (pos 0)
         ((closed_of at old s t u v (slice_index vs 0) (d.facets.live 0 0 visible.some) z).volume (at p))
-        (seen_volume at (surface_of old) (at p) (surface_of old).live (all_seen e)))
+        (seen_volume at (at p) (triples_of (surface_of old))
+        (of_facets (surface_of old) (λ t. pos 0 ≤ℤ vol (at t.i) (at t.j) (at t.k) (at p)) (surface_of old).live (λ f i. less_le _ _ (all_seen e f i)))))
     step_leaves (f ∷ fs) e = (f, live_in new f (subst (In f) (sym e) (inl refl)))
 
     -- and the mesh is closed

@@ -16,10 +16,8 @@ pub mod FacetSides
 pub mod PerturbedHorizon
 pub mod Horizon
 pub mod Rewired
-pub mod CoveredPlanes
 pub mod SurfaceLaws
 pub mod Simplex
-pub mod Combinations
 pub mod Stored
 pub mod Finished
 pub mod Named

@@ -5,8 +5,6 @@ pub mod ClosedSurfaceLaws
 pub mod CombinationLaws
 pub mod CompletenessLaws
 pub mod ConeLaws
-pub mod CoverageLaws
-pub mod CoveredPoints
 pub mod CutLaws
 pub mod DimensionLaws
 pub mod EdgeLaws

@@ -37,5 +37,5 @@ pub use reading::one_reading;
 pub use round_trips::off_is_read_back;
 pub use surfaces::{
     horizon_goes_round, live_is_marked, replace_keeps, rise_is_vol, settled_stay_unseen,
-    simplex_is_sound, surface_covers, walk_finds_all,
+    simplex_is_sound, walk_finds_all,
 };

@@ -1,10 +1,10 @@
 -- The signed volume of a closed surface: a function that changes its sign with an edge's direction adds up to 0.
-use Rattle.std.proofs.Common.{◌≡◌, ℕ, arith, ap, sym, ◌∙◌, refl, List, [], ◌∷◌, map, Bool, true, false, eqb, rules}
+use Rattle.std.proofs.Common.{◌≡◌, ℕ, arith, ap, sym, ◌∙◌, refl, inl, inr, List, [], ◌∷◌, map, Bool, true, false, eqb, rules}
 use Rattle.std.proofs.lemmas.{Bool.and_parts, Bool.eqb-true, Int.ints}
-use Rattle.std.specs.Prelude.{ℤ, pos, ◌+ℤ◌, neg_ℤ, ◌&&◌}
+use Rattle.std.specs.Prelude.{ℤ, pos, ◌+ℤ◌, neg_ℤ, ◌≤ℤ◌, ◌<ℤ◌, ◌&&◌}
 use Rattle.qh_model.specs.contract.ClosedSurface.{Triple, edges, is_edge, IsClosed, signed_volume}
-use Rattle.qh_model.specs.{headline.Predicates.vol, headline.Vector.Vector, laws.ClosedSurfaceLaws.VolumeIsConstant}
-use Rattle.qh_model.proofs.algebra.VectorIdentities.{vol-boundary, vol-flip}
+use Rattle.qh_model.specs.{headline.Predicates.vol, headline.Sets.In, headline.Vector.Vector, laws.ClosedSurfaceLaws.VolumeIsConstant}
+use Rattle.qh_model.proofs.{Members.each_more, algebra.VectorIdentities.vol-boundary, algebra.VectorIdentities.vol-flip}
 use Rattle.qh_model.proofs.closed_surfaces.Sums.{sum_z, count, Tests, sum_z-same_counts, count-is}
 
 -- a reversed edge
@@ -48,6 +48,24 @@ edges-cancel g h ts c =
     let opposite = sum_z-same_counts is_edge edge_tests g (edges ts) (map back (edges ts))
     (λ e. count-is (is_edge e) (edges ts) ∙ c e.0 e.1 ∙ sym (count-is (is_edge (back e)) (edges ts)) ∙ sym (count-back e (edges ts))) in
     omega (arith, ints, opposite ∙ sum-back g h (edges ts))
+
+-- the sum round a triangle
+abbrev pub around : ((ℕ × ℕ) → ℤ) → Triple → ℤ
+around g t = g (t.i, t.j) +ℤ g (t.j, t.k) +ℤ g (t.k, t.i)
+
+-- if no triangle has a sum above 0, the sum over all edges is not above 0, and not above the sum round any triangle
+sums_round : (g : (ℕ × ℕ) → ℤ) (ts : List Triple) → ((t : Triple) → In t ts → around g t ≤ℤ pos 0)
+    → (sum_z g (edges ts) ≤ℤ pos 0) × ((t : Triple) → In t ts → sum_z g (edges ts) ≤ℤ around g t)
+sums_round g [] h = (omega (arith, ints), λ t i. absurd i)
+sums_round g (u ∷ ts) h = let own = h u (inl refl) in let rest = sums_round g ts (λ t i. h t (inr i)) in (
+  omega (arith, ints, own, rest.0),
+  each_more (λ t. sum_z g (edges (u ∷ ts)) ≤ℤ around g t) u ts (omega (arith, ints, rest.0)) (λ t i. omega (arith, ints, own, rest.1 t i)),
+)
+
+-- so no triangle of a closed surface has a sum below 0
+pub none_lower : (g : (ℕ × ℕ) → ℤ) → ((e : ℕ × ℕ) → g (back e) ≡ neg_ℤ (g e)) → (ts : List Triple) → IsClosed ts
+    → ((t : Triple) → In t ts → around g t ≤ℤ pos 0) → (t : Triple) → In t ts → around g t <ℤ pos 0 → ⊥
+none_lower g odd ts c h t i low = omega (arith, ints, edges-cancel g odd ts c, (sums_round g ts h).1 t i, low)
 
 -- the volume of a triangle and p
 abbrev pub vol_at : (ℕ → Vector) → Vector → Triple → ℤ

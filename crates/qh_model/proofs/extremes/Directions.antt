@@ -1,7 +1,7 @@
 -- Directions up to a positive scale, and the normals of triangles in one plane.
 use Rattle.std.proofs.Common.{◌≡◌, ◌≢◌, ℕ, zero, suc, ◌<◌, arith, refl, sym, ap, subst, ◌∙◌, ◌⊎◌, inl, inr, [], ◌∷◌, ⊎_elim}
 use Rattle.std.proofs.lemmas.Int.{ints, by_lt_z}
-use Rattle.std.specs.Prelude.{ℤ, pos, negsuc, ◌*ℤ◌, neg_ℤ, ◌<ℤ◌, ◌≤ℤ◌}
+use Rattle.std.specs.Prelude.{◌↔◌, ℤ, pos, negsuc, ◌*ℤ◌, neg_ℤ, ◌<ℤ◌, ◌≤ℤ◌}
 use Rattle.qh_model.specs.headline.{Predicates.cross, Predicates.vol, Predicates.left, Predicates.AreInLine, Vector.Vector, Vector.origin, Vector.minus}
 use Rattle.qh_model.specs.{headline.Vector.cross_product, headline.Vector.dot, laws.FaceLaws.IsAlong}
 use Rattle.qh_model.proofs.algebra.{Integers.zero_mul, Integers.neg_mul, Integers.mul_neg, Order.mul-nonneg, Order.mul-nonneg_nonpos}
@@ -173,6 +173,11 @@ from_plane a b c p l z = rw (dot-minus (cross a b c) l p) (omega (arith, ints, v
 pub vol_along : (a b c u v w l : Vector) (h : IsAlong (cross a b c) (cross u v w)) → vol a b c u ≡ pos 0 → pos h.s *ℤ vol a b c l ≡ pos h.t *ℤ vol u v w l
 vol_along a b c u v w l h z = ap (λ t. pos h.s *ℤ t) (sym (from_plane a b c u l z))
     ∙ dot_along (cross a b c) (cross u v w) h (minus l u) ∙ ap (λ t. pos h.t *ℤ t) (sym (vol-dot u v w l))
+
+-- planes of one direction through a common point have the same points
+pub same_plane : (a b c u v w l : Vector) → IsAlong (cross a b c) (cross u v w) → vol a b c u ≡ pos 0 → (vol a b c l ≡ pos 0) ↔ (vol u v w l ≡ pos 0)
+same_plane a b c u v w l h z = let scale = vol_along a b c u v w l h z in
+    (zero_along h.s h.t _ _ h.some_t scale, zero_along h.t h.s _ _ h.some_s (sym scale))
 
 -- each direction is the same as itself
 pub along_itself : (n : Vector) → IsAlong n n

@@ -1,12 +1,12 @@
 -- The edges of a solid: at most one face has a given step.
 use Rattle.std.proofs.Common.{◌≡◌, ℕ, arith, sym, ◌∙◌, List}
 use Rattle.std.proofs.lemmas.Int.{ints}
-use Rattle.std.specs.Prelude.{pos, ◌*ℤ◌, ◌≤ℤ◌}
+use Rattle.std.specs.Prelude.{pos, ◌*ℤ◌, ◌≤ℤ◌, ◌↔◌}
 use Rattle.qh_model.specs.{contract.IdSets.HasDistinctPoints, headline.Extreme.Extreme, headline.Polygon.Follows}
 use Rattle.qh_model.specs.headline.{Polygons.AreFaces, Polygons.IsFacePolygon, Predicates.cross, Predicates.vol, Predicates.left, Sets.In, Sets.Members}
 use Rattle.qh_model.specs.{headline.SupportingPlane.OnPlane, headline.Vector.Vector, laws.EdgeLaws.OneFaceEachWay, laws.FaceLaws.IsAlong}
 use Rattle.qh_model.proofs.algebra.{Order.cancel-zero, Order.positive_le, Order.product_zero, VectorIdentities.vol-swap_last}
-use Rattle.qh_model.proofs.{extremes.Directions.vol_along, extremes.Directions.zero_along, polygons.Direction.polygon_as}
+use Rattle.qh_model.proofs.{extremes.Directions.same_plane, polygons.Direction.polygon_as}
 use Rattle.qh_model.proofs.polygons.LeftOfEdge.{at_most, Way, Third, has_u, has_v, to_left, third, square, over}
 use Rattle.qh_model.proofs.polygons.{PlaneTurns.level_along, Unique.one_polygon}
 
@@ -16,10 +16,10 @@ pub seen_from : (at : ℕ → Vector) (A : ℕ → Type 0) (i j k u v y : ℕ) (
     → IsFacePolygon at A u v y q
 seen_from at A i j k u v y q p h z =
     polygon_as at (OnPlane at (Extreme at A) i j k) (OnPlane at (Extreme at A) u v y) (cross (at i) (at j) (at k)) (cross (at u) (at v) (at y)) q
-    (λ l. (λ o. (o.0, zero_along h.s h.t _ _ h.some_t (scale l) o.1), λ o. (o.0, zero_along h.t h.s _ _ h.some_s (sym (scale l)) o.1))) h p
+    (λ l. (λ o. (o.0, (same l).0 o.1), λ o. (o.0, (same l).1 o.1))) h p
   where
-    scale : (l : ℕ) → pos h.s *ℤ vol (at i) (at j) (at k) (at l) ≡ pos h.t *ℤ vol (at u) (at v) (at y) (at l)
-    scale l = vol_along (at i) (at j) (at k) (at u) (at v) (at y) (at l) h z
+    same : (l : ℕ) → (vol (at i) (at j) (at k) (at l) ≡ pos 0) ↔ (vol (at u) (at v) (at y) (at l) ≡ pos 0)
+    same l = same_plane (at i) (at j) (at k) (at u) (at v) (at y) (at l) h z
 
 -- proof of the law `OneFaceEachWay`
 pub one_face_each_way : OneFaceEachWay

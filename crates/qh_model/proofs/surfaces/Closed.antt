@@ -8,7 +8,7 @@ use Rattle.qh_model.specs.contract.{FinishedSurface.weighted_at, FinishedSurface
 use Rattle.qh_model.specs.contract.Surface.{Surface, Side, start, end, IsWhole, rise, Side.first, Side.second, Side.third}
 use Rattle.qh_model.specs.{contract.Weighted.Weighted, contract.Weighted.above, headline.Predicates.vol, headline.Predicates.AreInLine, headline.Sets.In}
 use Rattle.qh_model.specs.{headline.Sets.Once, headline.Vector.Vector, laws.ClosedSurfaceLaws.SoundIsClosed, laws.ClosedSurfaceLaws.SoundHasVolume}
-use Rattle.qh_model.proofs.algebra.{Signs.less_le, VectorIdentities.in_line-vol}
+use Rattle.qh_model.proofs.{Members.each_more, algebra.Signs.less_le, algebra.VectorIdentities.in_line-vol}
 use Rattle.qh_model.proofs.closed_surfaces.{SignedVolume.edge_tests, SignedVolume.volume_is_constant, Sums.count, Sums.count-is}
 use Rattle.qh_model.proofs.surfaces.{Determinants.above-together, Facets.ends_differ, KeptSound.edge_once, SurfaceLaws.rise_is_vol}
 
@@ -171,11 +171,11 @@ module _ (at : ℕ → Vector) (m : Surface) (s t u v : ℕ) where
   volumes_negative z f0 (f ∷ fs) i sub = volumes_more z f fs (sub f (inl refl)) (volumes_below z fs (λ g i. sub g (inr i)))
 
 -- ---- the laws
--- a triple of the list is that of a facet
-facet_of : (m : Surface) (fs : List ℕ) (t : Triple) → In t (triples_from m fs) → (f : ℕ) × In f fs × (t ≡ record { i = m.i f; j = m.j f; k = m.k f })
-facet_of m [] t i = absurd i
-facet_of m (f ∷ fs) t (inl e) = (f, inl refl, e)
-facet_of m (f ∷ fs) t (inr i) = let r = facet_of m fs t i in (r.0, inr r.1, r.2)
+-- a fact about the triple of each facet holds for each triple
+pub of_facets : (m : Surface) (P : Triple → Type 0) (fs : List ℕ) → ((f : ℕ) → In f fs → P (record { i = m.i f; j = m.j f; k = m.k f }))
+    → (t : Triple) → In t (triples_from m fs) → P t
+of_facets m P [] h = λ t i. absurd i
+of_facets m P (f ∷ fs) h = each_more P (record { i = m.i f; j = m.j f; k = m.k f }) (triples_from m fs) (h f (inl refl)) (of_facets m P fs (λ g i. h g (inr i)))
 
 -- a list with a member is not empty
 some_triples : (m : Surface) (fs : List ℕ) (f : ℕ) → In f fs → 1 ≤ length (triples_from m fs)
@@ -186,12 +186,9 @@ some_triples m (g ∷ fs) f i = omega arith
 pub sound_is_closed : SoundIsClosed
 sound_is_closed at m s t u v f0 i once w z = record {
   some = some_triples m m.live f0 i;
-  area = λ x k. area x (facet_of m m.live x k);
+  area = of_facets m (λ x. ¬ (AreInLine (at x.i) (at x.j) (at x.k))) m.live (λ f live. inner_area at m s t u v f (z.inner f live));
   closed = closed m (weighted_at at) (middle_at at s t u v) z w once;
 }
-  where
-    area : (x : Triple) → (f : ℕ) × In f m.live × (x ≡ record { i = m.i f; j = m.j f; k = m.k f }) → ¬ (AreInLine (at x.i) (at x.j) (at x.k))
-    area x (f, live, e) = subst (λ y. ¬ (AreInLine (at y.i) (at y.j) (at y.k))) (sym e) (inner_area at m s t u v f (z.inner f live))
 
 -- proof of the law `SoundHasVolume`
 pub sound_has_volume : SoundHasVolume
@@ -202,8 +199,8 @@ sound_has_volume at m s t u v f0 i once w z p =
     same : (l : ℕ) → signed_volume at (triples_of m) (at l) ≡ signed_volume at (triples_of m) p
     same l = volume_is_constant at (triples_of m) (sound_is_closed at m s t u v f0 i once w z) (at l) p
 
--- facets that all see p have no volume below 0
-pub seen_volume : (at : ℕ → Vector) (m : Surface) (p : Vector) (fs : List ℕ) → ((f : ℕ) → In f fs → pos 0 <ℤ vol (at (m.i f)) (at (m.j f)) (at (m.k f)) p)
-    → pos 0 ≤ℤ signed_volume at (triples_from m fs) p
-seen_volume at m p [] h = omega (arith, ints)
-seen_volume at m p (f ∷ fs) h = let a = h f (inl refl) in let b = seen_volume at m p fs (λ g i. h g (inr i)) in omega (arith, ints)
+-- triangles that p is not strictly below have no volume below 0
+pub seen_volume : (at : ℕ → Vector) (p : Vector) (ts : List Triple) → ((t : Triple) → In t ts → pos 0 ≤ℤ vol (at t.i) (at t.j) (at t.k) p)
+    → pos 0 ≤ℤ signed_volume at ts p
+seen_volume at p [] h = omega (arith, ints)
+seen_volume at p (t ∷ ts) h = let a = h t (inl refl) in let b = seen_volume at p ts (λ u i. h u (inr i)) in omega (arith, ints)

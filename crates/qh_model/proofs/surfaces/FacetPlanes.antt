@@ -1,14 +1,48 @@
 -- The live facets in one plane are those that see a point slightly beyond one of them, so they are connected.
-use Rattle.std.proofs.Common.{◌≡◌, ℕ, refl, sym, ◌∙◌, inl, inr, Bool, true, List}
-use Rattle.std.specs.Prelude.{pos, ◌≤ℤ◌}
+use Rattle.std.proofs.Common.{◌≡◌, ℕ, arith, ap, refl, sym, ◌∙◌, inl, inr, Bool, true, List, [], ◌∷◌}
+use Rattle.std.proofs.lemmas.Int.{ints, by_lt_z}
+use Rattle.std.specs.Prelude.{ℤ, pos, ◌+ℤ◌, ◌*ℤ◌, neg_ℤ, ◌≤ℤ◌, ◌<ℤ◌}
 use Rattle.qh_model.specs.contract.{FinishedSurface.weighted_at, FinishedSurface.middle_at, FinishedSurface.IsFinished, Surface.Surface, Surface.IsCorner}
-use Rattle.qh_model.specs.{contract.Surface.rise, contract.Surface.Sees, contract.Weighted.Weighted, headline.Sets.In, headline.Vector.Vector}
+use Rattle.qh_model.specs.{contract.SoundSurface.towards, contract.Surface.rise, contract.Surface.Sees, contract.Weighted.Weighted, contract.Weighted.above}
+use Rattle.qh_model.specs.{headline.Sets.In, headline.Vector.Vector}
 use Rattle.qh_model.specs.laws.FacetPlanes.{IsLevelWith, IsLevelFacet, IsPlaneWalk, LevelFacetsSpan, PlaneWalkFindsAll}
+use Rattle.qh_model.proofs.algebra.{Integers.one_mul, Integers.neg_mul, Order.product_zero, Order.le_antisym, Ring.ring, Ring.Expr.var, Ring.Expr.add, Ring.Expr.mul}
 use Rattle.qh_model.proofs.algebra.{Signs.equal_le, VectorIdentities.vol-first, VectorIdentities.vol-second, VectorIdentities.vol-third}
-use Rattle.qh_model.proofs.surfaces.{CoveredPlanes.beyond, CoveredPlanes.on_sees_beyond, CoveredPlanes.sees_beyond_on, Facets.middle, Facets.of_corners}
+use Rattle.qh_model.proofs.surfaces.{Determinants.above_of, Determinants.quad, Determinants.aboveE, Determinants.put4, Facets.middle, Facets.of_corners}
 use Rattle.qh_model.proofs.surfaces.{Facets.sum_blind, Facets.sum_level, Facets.level_parts, Finished.one_plane, Finished.unseen_above, Finished.facets_support}
-use Rattle.qh_model.proofs.surfaces.{PerturbedInwards.bound, SurfaceLaws.rise_is_vol, SurfaceLaws.walk_finds_all}
+use Rattle.qh_model.proofs.surfaces.{PerturbedInwards.towardsE, PerturbedInwards.bound, PerturbedInwards.share, SurfaceLaws.rise_is_vol}
+use Rattle.qh_model.proofs.surfaces.SurfaceLaws.{walk_finds_all}
 
+-- ---- a point slightly beyond another, as seen from o
+-- a point perturbed, as the last argument
+pub above-last : (a b c p o : Weighted) (n k : ℤ) → above a b c (towards o n p k) ≡ n *ℤ above a b c p +ℤ k *ℤ above a b c o
+unfolding above
+above-last a b c p o n k =
+    ring (put4 a (put4 b (put4 c (put4 p (put4 o (n ∷ k ∷ [])))))) (aboveE (quad 0) (quad 1) (quad 2) (towardsE (quad 4) (var 20) (quad 3) (var 21)))
+    (add (mul (var 20) (above_of 0 1 2 3)) (mul (var 21) (above_of 0 1 2 4))) refl
+
+-- the point
+abbrev pub beyond : (o y : Weighted) → ℕ → Weighted
+beyond o y k = towards o (pos k) y (neg_ℤ (pos 1))
+
+module _ (a b c o y : Weighted) (k : ℕ) where
+  -- the height of the point above a plane
+  beyond-is : above a b c (beyond o y k) ≡ pos k *ℤ above a b c y +ℤ neg_ℤ (above a b c o)
+  beyond-is =
+      above-last a b c y o (pos k) (neg_ℤ (pos 1)) ∙ ap (λ v. pos k *ℤ above a b c y +ℤ v)
+      (neg_mul (pos 1) (above a b c o) ∙ ap neg_ℤ (one_mul (above a b c o)))
+
+  -- a plane through y with o strictly below it sees the point
+  pub on_sees_beyond : above a b c y ≡ pos 0 → above a b c o <ℤ pos 0 → pos 0 <ℤ above a b c (beyond o y k)
+  on_sees_beyond h low = let s = beyond-is in let p = product_zero (pos k) (above a b c y) h in omega (arith, ints, s, p, low)
+
+  -- if a plane that y is not above sees the point, y is on that plane, for k large enough
+  pub sees_beyond_on : neg_ℤ (above a b c o) <ℤ pos k → above a b c y ≤ℤ pos 0 → pos 0 <ℤ above a b c (beyond o y k) → above a b c y ≡ pos 0
+  sees_beyond_on large h sees =
+      by_lt_z (above a b c y) (pos 0) (λ p. absurd (let s = beyond-is in
+      omega (arith, ints, share (neg_ℤ (above a b c o)) (above a b c y) k large p, s, sees))) (λ p. le_antisym _ (pos 0) h p)
+
+-- ---- the facets of a plane
 -- proof of the law `LevelFacetsSpan`
 pub level_facets_span : LevelFacetsSpan
 level_facets_span at ids m z f g live live' level =

@@ -2,7 +2,6 @@
 ghost use Rattle.qh_model.specs.laws.SurfaceLaws.{RiseIsVol, SimplexBoundaryIsSound, SimplexIsSound, MiddleIsBelow};
 ghost use Rattle.qh_model.specs.laws.SurfaceLaws.{WalkFindsAll, HorizonGoesOn, HorizonIsKnown, ReplaceKeeps};
 ghost use Rattle.qh_model.specs.laws.SurfaceLaws.{CornersAreSettled, AddedIsSettled, SettledStayUnseen, DroppedStayUnseen};
-ghost use Rattle.qh_model.specs.laws.CoverageLaws.{NothingOutside, PlaneIsCovered, SettledIsCombination, LevelIsCombination};
 ghost use Rattle.qh_model.specs.laws.LiveFacets.{LiveIsMarked, LiveIsListedOnce};
 
 /// A facet sees a point exactly by the sign of their volume.
@@ -43,16 +42,6 @@ pub fn settled_stay_unseen()
     ensures added { AddedIsSettled }
     ensures settled { SettledStayUnseen }
     ensures dropped { DroppedStayUnseen }
-{}
-
-/// A point that no facet sees is beyond no plane of the hull, lies in a live facet of each supporting plane through it,
-/// and is a convex combination of corners. So a surface that no point sees has every supporting plane and every extreme
-/// point.
-pub fn surface_covers()
-    ensures nothing_outside { NothingOutside }
-    ensures plane { PlaneIsCovered }
-    ensures settled { SettledIsCombination }
-    ensures level { LevelIsCombination }
 {}
 
 /// The live facets of a stored surface are the places that are marked live, each listed once.
