@@ -1,6 +1,5 @@
 -- Surfaces of facets: determinants of weighted points, visible facets, the horizon, the step, and covering.
 pub mod Determinants
-pub mod PlanesThroughLine
 pub mod CramersRule
 pub mod VisibleFacets
 pub mod Facets

@@ -8,7 +8,7 @@ use Rattle.std.specs.Prelude.{ℤ, pos, ◌-ℤ◌, ◌*ℤ◌, ◌≤ℤ◌, �
 use Rattle.qh_model.proofs.algebra.Order.{mul-pos, mul-nonneg, mul-nonneg_nonpos, mul-nonpos_nonneg, mul-nonpos, mul-neg_pos, mul-pos_neg, positive_le}
 use Rattle.qh_model.proofs.algebra.{Order.negative_le, Signs.not_less}
 use Rattle.qh_model.proofs.surfaces.Facets.{corner_rest, corner_cases, corner_test, far_apart, weak, bends, side_rise, far_rise, side_seen, side_blind}
-use Rattle.qh_model.proofs.surfaces.{Facets.side_below, Facets.far_seen, Facets.far_blind, Facets.far_below, PlanesThroughLine.line_product}
+use Rattle.qh_model.proofs.surfaces.{Facets.side_below, Facets.far_seen, Facets.far_blind, Facets.far_below, CramersRule.line_product}
 
 -- ---- signs, for two planes through one line, and a third through it and p
 -- a ≤ 0 with a positive product

@@ -14,7 +14,7 @@ use Rattle.qh_model.proofs.surfaces.{ConePlanes.Old, ConePlanes.apex_rise, ConeP
 use Rattle.qh_model.proofs.surfaces.{Determinants.above-turn, Determinants.swap24, Determinants.turned_first}
 use Rattle.qh_model.proofs.surfaces.FacetSides.{side_next, start_next, end_next, from, from_is}
 use Rattle.qh_model.proofs.surfaces.Facets.{rise_over, corner_end, corner_rest, corner_test, ends_differ, rest_differs}
-use Rattle.qh_model.proofs.surfaces.{KeptSound.edge_once, KeptSound.side_once, PlanesThroughLine.line_product, VisibleFacets.Least, VisibleFacets.least}
+use Rattle.qh_model.proofs.surfaces.{KeptSound.edge_once, KeptSound.side_once, CramersRule.line_product, VisibleFacets.Least, VisibleFacets.least}
 
 -- ---- perturbed corners: top is strictly above or strictly below every facet
 pub record Scene (m : Surface) (home : ℕ → Weighted) (o : Weighted) : Type 0 where

@@ -6,7 +6,7 @@ use Rattle.std.specs.Prelude.{ℤ, pos, ◌+ℤ◌, ◌-ℤ◌, ◌*ℤ◌, neg_
 use Rattle.qh_model.proofs.Members.{each_more}
 use Rattle.qh_model.proofs.algebra.Order.{mul-nonneg_nonpos, mul-nonpos, mul-pos, cancel-pos, mul-neg_pos, neg-positive, product_zero, positive_le, negative_le}
 use Rattle.qh_model.proofs.algebra.{Ring.ring, Ring.Expr.var, Ring.Expr.add, Ring.Expr.sub as less, Ring.Expr.mul, Ring.Expr.neg, Signs.not_less}
-use Rattle.qh_model.proofs.surfaces.{CramersRule.cramer, Determinants.above-turn, Determinants.above-flip, PlanesThroughLine.line_product}
+use Rattle.qh_model.proofs.surfaces.{CramersRule.cramer, Determinants.above-turn, Determinants.above-flip, CramersRule.line_product}
 
 -- three corners
 pub record Corners : Type 0 where
