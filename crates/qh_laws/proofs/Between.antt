@@ -1,14 +1,16 @@
 -- A point between a facet and an inner place is above no facet, and a point above no facet is a convex combination.
-use Rattle.std.proofs.Common.{◌≡◌, ℕ, refl, sym, ◌∙◌, inl, inr, ⊎_elim}
+use Rattle.std.proofs.Common.{◌≡◌, ℕ, arith, refl, sym, ◌∙◌, inl, inr, ⊎_elim}
+use Rattle.std.proofs.lemmas.Int.{ints}
 use Rattle.std.specs.Prelude.{ℤ, pos, ◌+ℤ◌, ◌≤ℤ◌, ◌<ℤ◌}
 use Rattle.qh_model.specs.contract.{FinishedSurface.weighted_at, FinishedSurface.middle_at, Surface.start, Surface.end, Surface.IsCorner, Surface.rise}
-use Rattle.qh_model.specs.contract.Weighted.{Weighted, weighted, weighted_dot, plane_of}
+use Rattle.qh_model.specs.contract.Surface.Side.{first, second, third}
+use Rattle.qh_model.specs.contract.Weighted.{Weighted, weighted, weighted_dot, plane_of, above}
 use Rattle.qh_model.specs.{headline.Sets.In, headline.Sets.Members}
-use Rattle.qh_model.proofs.algebra.Order.{mul-pos, mul-nonneg_nonpos, neg-positive, neg-nonneg, negative_le}
-use Rattle.qh_model.proofs.algebra.Signs.{at_most_zero, less_differ, equal_nonpos, equal_negative, equal_positive, no_sum}
+use Rattle.qh_model.proofs.algebra.Order.{mul-neg_pos, mul-nonpos, negative_le}
+use Rattle.qh_model.proofs.algebra.Signs.{at_most_zero, less_differ, equal_nonpos, equal_negative, equal_positive}
 use Rattle.qh_model.proofs.extremes.{ExtremeIds.listed_itself, ExtremeIds.alternative_in, Faces.face_combination}
-use Rattle.qh_model.proofs.surfaces.{Determinants.above-together, Facets.plane-is, Finished.none_beyond}
-use Rattle.qh_model.proofs.surfaces.{Finished.unseen_above, Located.Located, Located.shares, Located.mix, Simplex.middle_is_below, SurfaceLaws.rise_is_vol}
+use Rattle.qh_model.proofs.surfaces.{CramersRule.cramer, Determinants.above-together, Determinants.above-turn, Facets.plane-is, Finished.none_beyond}
+use Rattle.qh_model.proofs.surfaces.{Finished.unseen_above, Simplex.middle_is_below, SurfaceLaws.rise_is_vol}
 use Rattle.qh_laws.specs.contract.Seam.{height_over}
 use Rattle.qh_laws.specs.laws.PointLaws.{LevelIsInPolygon, WithinIsBelow, BetweenIsBelow, MiddleIsInner, BetweenFourIsBelow, BelowIsCombination}
 use Rattle.qh_laws.proofs.{Heights.rise_is_height, Heights.blind_rise, Heights.seen_rise}
@@ -26,18 +28,20 @@ within_is_below at ids m z o unseen f live p w g i = at_most_zero _ outside
     value : (q : Weighted) → weighted_dot plane q ≡ rise m home g q
     value q = plane-is (home (m.i g)) (home (m.j g)) (home (m.k g)) q
 
-    over : Located m home o (weighted p)
-    over = record { f = f; live = live; within = w.sides }
-
     corner : (l : ℕ) → IsCorner m f l → weighted_dot plane (home l) ≤ℤ pos 0
     corner l c = equal_nonpos _ _ (sym (value (home l))) (unseen_above at ids m z g i l (z.corners f live l c))
 
+    -- Cramer's rule at a point beyond the plane has no term above 0 on its left, and none below 0 on its right
     outside : pos 0 <ℤ height_over at m g p → ⊥
-    outside above =
-        no_sum _ _ _ _ _ (mix over plane) (mul-pos _ _ (neg-positive _ w.inner) (equal_positive _ _ (sym (value (weighted p))) (seen_rise at m g p above)))
-        (mul-nonneg_nonpos _ _ (shares over).0 (corner (m.i f) (inl refl))) (mul-nonneg_nonpos _ _ (shares over).1 (corner (m.j f) (inr (inl refl))))
-        (mul-nonneg_nonpos _ _ (shares over).2 (corner (m.k f) (inr (inr refl))))
-        (mul-nonneg_nonpos _ _ (neg-nonneg _ (blind_rise at m f p w.below)) (equal_nonpos _ _ (sym (value o)) (unseen g i)))
+    outside up =
+        let a = home (m.i f) in let b = home (m.j f) in let c = home (m.k f) in let x = weighted p in let sum = cramer plane a b c o x in
+        let low = mul-neg_pos (above a b c o) _ w.inner (equal_positive _ _ (sym (value x)) (seen_rise at m g p up)) in
+        let by_a = mul-nonpos (above x b c o) _ (equal_nonpos _ _ (sym (above-turn x b c o)) (w.sides second)) (corner (m.i f) (inl refl)) in
+        let by_b = mul-nonpos (above a x c o) _ (equal_nonpos _ _ (sym (above-turn a x c o ∙ above-turn x c a o)) (w.sides third))
+        (corner (m.j f) (inr (inl refl))) in
+        let by_c = mul-nonpos (above a b x o) _ (w.sides first) (corner (m.k f) (inr (inr refl))) in
+        let by_o = mul-nonpos (above a b c x) _ (blind_rise at m f p w.below) (equal_nonpos _ _ (sym (value o)) (unseen g i)) in
+        omega (arith, ints, sum, low, by_a, by_b, by_c, by_o)
 
 -- proof of the law `BetweenIsBelow`
 pub between_is_below : BetweenIsBelow

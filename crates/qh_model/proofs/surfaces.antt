@@ -10,7 +10,6 @@ pub mod Cone
 pub mod KeptSound
 pub mod Unseen
 pub mod SimplexBoundary
-pub mod Located
 pub mod FacetSides
 pub mod PerturbedHorizon
 pub mod Horizon

@@ -1,6 +1,6 @@
 -- Separator cancellation: a point that is above no triangle of a closed surface, and strictly beyond all its corners along a direction, is strictly below no
 -- triangle. With the depth of each corner as a common multiple, the terms of each edge cancel.
-use Rattle.std.proofs.Common.{◌≡◌, ℕ, ◌+◌, ◌<◌, arith, sym, ◌∙◌, subst, refl, List, [], ◌∷◌, Bool, true, false, cond, eqb, inl, inr}
+use Rattle.std.proofs.Common.{◌≡◌, ℕ, ◌+◌, ◌<◌, arith, ap, sym, ◌∙◌, subst, refl, List, [], ◌∷◌, Bool, true, false, cond, eqb, inl, inr}
 use Rattle.std.proofs.lemmas.{Bool.eqb-true, Int.ints}
 use Rattle.std.specs.{List.AllByRecursion as Each, List.flat_map, Prelude.ℤ, Prelude.pos, Prelude.◌+ℤ◌, Prelude.◌*ℤ◌, Prelude.neg_ℤ, Prelude.◌≤ℤ◌, Prelude.◌<ℤ◌}
 use Rattle.qh_model.specs.{contract.ClosedSurface.Triple, contract.ClosedSurface.IsClosed, headline.Predicates.vol, headline.Sets.In}
@@ -13,57 +13,54 @@ use Rattle.qh_model.proofs.algebra.VectorIdentities.{vol-flip, vol-depths, depth
 use Rattle.qh_model.proofs.closed_surfaces.SignedVolume.{back, eqb-refl, around, none_lower, vol_at}
 use Rattle.qh_model.proofs.closed_surfaces.Sums.{count, drop_first, Tests, taken_out, one_there}
 
--- the contribution of an edge to the sum
-unfoldable pub edge_part : (at : ℕ → Vector) (p : Vector) → (ℕ → ℤ) → ℤ → ℕ → (ℕ × ℕ) → ℤ
-edge_part at p co m r e = m *ℤ (vol (at e.0) (at e.1) (at r) p *ℤ (co e.0 *ℤ co e.1))
+-- the contribution of an edge to the sum, from its value V
+unfoldable pub edge_part : (V : ℕ → ℕ → ℤ) (co : ℕ → ℤ) (m : ℤ) → (ℕ × ℕ) → ℤ
+edge_part V co m e = m *ℤ (V e.0 e.1 *ℤ (co e.0 *ℤ co e.1))
 
--- the contribution changes its sign with the direction of the edge
-pub edge_part-back : (at : ℕ → Vector) (p : Vector) (co : ℕ → ℤ) (m : ℤ) (r : ℕ) (e : ℕ × ℕ) → edge_part at p co m r (back e) ≡ neg_ℤ (edge_part at p co m r e)
+-- the contribution changes its sign with the direction of the edge if the value does
+pub edge_part-back : (V : ℕ → ℕ → ℤ) (co : ℕ → ℤ) (m : ℤ) → ((u v : ℕ) → V v u ≡ neg_ℤ (V u v)) → (e : ℕ × ℕ)
+    → edge_part V co m (back e) ≡ neg_ℤ (edge_part V co m e)
 unfolding edge_part
-edge_part-back at p co m r e =
-    rw (vol-flip (at e.1) (at e.0) (at r) p) (ring (m ∷ vol (at e.0) (at e.1) (at r) p ∷ co e.0 ∷ co e.1 ∷ [])
-    (mul (var 0) (mul (neg (var 1)) (mul (var 3) (var 2)))) (neg (mul (var 0) (mul (var 1) (mul (var 2) (var 3)))))
-    refl)
+edge_part-back V co m odd e =
+    rw (odd e.0 e.1) (ring (m ∷ V e.0 e.1 ∷ co e.0 ∷ co e.1 ∷ []) (mul (var 0) (mul (neg (var 1)) (mul (var 3) (var 2))))
+    (neg (mul (var 0) (mul (var 1) (mul (var 2) (var 3))))) refl)
 
--- the sum round a triangle has the sign of its volume with p, if depth x * co x is the same m at its corners
-pub round_sign : (at : ℕ → Vector) (w p : Vector) (co : ℕ → ℤ) (m : ℤ) (r : ℕ) (t : Triple) → pos 0 <ℤ depth w p (at r)
-    → ((x : ℕ) → In x (t.i ∷ t.j ∷ t.k ∷ []) → (pos 0 <ℤ co x) × (depth w p (at x) *ℤ co x ≡ m))
-    → (vol_at at p t ≤ℤ pos 0 → around (edge_part at p co m r) t ≤ℤ pos 0) × (vol_at at p t <ℤ pos 0 → around (edge_part at p co m r) t <ℤ pos 0)
+-- the sum round a triangle has the sign of h, if D x * co x is the same m at its corners
+pub round_sign : (V : ℕ → ℕ → ℤ) (D co : ℕ → ℤ) (m h d : ℤ) (t : Triple) → pos 0 <ℤ d
+    → h *ℤ d ≡ V t.i t.j *ℤ D t.k +ℤ V t.j t.k *ℤ D t.i +ℤ V t.k t.i *ℤ D t.j
+    → ((x : ℕ) → In x (t.i ∷ t.j ∷ t.k ∷ []) → (pos 0 <ℤ co x) × (D x *ℤ co x ≡ m))
+    → (h ≤ℤ pos 0 → around (edge_part V co m) t ≤ℤ pos 0) × (h <ℤ pos 0 → around (edge_part V co m) t <ℤ pos 0)
 unfolding edge_part
-round_sign at w p co m r t deep h = (
-  λ low. equal_nonpos _ _ split (mul-nonpos_nonneg (vol_at at p t) _ low (positive_le _ weight)),
-  λ low. equal_negative _ _ split (mul-neg_pos (vol_at at p t) _ low weight),
+round_sign V D co m h d t deep sum fair = (
+  λ low. equal_nonpos _ _ split (mul-nonpos_nonneg h _ low (positive_le _ weight)),
+  λ low. equal_negative _ _ split (mul-neg_pos h _ low weight),
 )
   where
-    i : (pos 0 <ℤ co t.i) × (depth w p (at t.i) *ℤ co t.i ≡ m)
-    i = h t.i (inl refl)
+    i : (pos 0 <ℤ co t.i) × (D t.i *ℤ co t.i ≡ m)
+    i = fair t.i (inl refl)
 
-    j : (pos 0 <ℤ co t.j) × (depth w p (at t.j) *ℤ co t.j ≡ m)
-    j = h t.j (inr (inl refl))
+    j : (pos 0 <ℤ co t.j) × (D t.j *ℤ co t.j ≡ m)
+    j = fair t.j (inr (inl refl))
 
-    k : (pos 0 <ℤ co t.k) × (depth w p (at t.k) *ℤ co t.k ≡ m)
-    k = h t.k (inr (inr (inl refl)))
+    k : (pos 0 <ℤ co t.k) × (D t.k *ℤ co t.k ≡ m)
+    k = fair t.k (inr (inr (inl refl)))
 
-    weight : pos 0 <ℤ (depth w p (at r) *ℤ (co t.i *ℤ co t.j *ℤ co t.k))
-    weight = mul-pos (depth w p (at r)) _ deep (mul-pos (co t.i *ℤ co t.j) (co t.k) (mul-pos (co t.i) (co t.j) i.0 j.0) k.0)
+    weight : pos 0 <ℤ (d *ℤ (co t.i *ℤ co t.j *ℤ co t.k))
+    weight = mul-pos d _ deep (mul-pos (co t.i *ℤ co t.j) (co t.k) (mul-pos (co t.i) (co t.j) i.0 j.0) k.0)
 
-    split : vol_at at p t *ℤ (depth w p (at r) *ℤ (co t.i *ℤ co t.j *ℤ co t.k)) ≡ around (edge_part at p co m r) t
-    split = sym (mul_assoc (vol_at at p t) (depth w p (at r)) (co t.i *ℤ co t.j *ℤ co t.k)) ∙
-        rw (vol-depths w (at t.i) (at t.j) (at t.k) (at r) p) (combine3 ((vol (at t.i) (at t.j) (at r) p *ℤ depth w p (at t.k) +ℤ vol (at t.j) (at t.k) (at r) p
-        *ℤ depth w p (at t.i) +ℤ vol (at t.k) (at t.i) (at r) p *ℤ depth w p (at t.j)) *ℤ (co t.i *ℤ co t.j *ℤ co t.k))
-        (m *ℤ (vol (at t.i) (at t.j) (at r) p *ℤ (co t.i *ℤ co t.j)) +ℤ m
-        *ℤ (vol (at t.j) (at t.k) (at r) p *ℤ (co t.j *ℤ co t.k)) +ℤ m
-        *ℤ (vol (at t.k) (at t.i) (at r) p *ℤ (co t.k *ℤ co t.i))) (vol (at t.j) (at t.k) (at r) p *ℤ (co t.j *ℤ co t.k)) (depth w p (at t.i) *ℤ co t.i) m
-        (vol (at t.k) (at t.i) (at r) p *ℤ (co t.k *ℤ co t.i)) (depth w p (at t.j) *ℤ co t.j) m
-        (vol (at t.i) (at t.j) (at r) p *ℤ (co t.i *ℤ co t.j)) (depth w p (at t.k) *ℤ co t.k) m
-        (ring (m ∷ vol (at t.i) (at t.j) (at r) p ∷ vol (at t.j) (at t.k) (at r) p ∷ vol (at t.k) (at t.i) (at r) p
-        ∷ depth w p (at t.i) ∷ depth w p (at t.j) ∷ depth w p (at t.k) ∷ co t.i ∷ co t.j ∷ co t.k ∷ [])
+    split : h *ℤ (d *ℤ (co t.i *ℤ co t.j *ℤ co t.k)) ≡ around (edge_part V co m) t
+    split =
+        sym (mul_assoc h d (co t.i *ℤ co t.j *ℤ co t.k)) ∙ ap (λ v. v *ℤ (co t.i *ℤ co t.j *ℤ co t.k)) sum
+        ∙ combine3 ((V t.i t.j *ℤ D t.k +ℤ V t.j t.k *ℤ D t.i +ℤ V t.k t.i *ℤ D t.j) *ℤ (co t.i *ℤ co t.j *ℤ co t.k)) (around (edge_part V co m) t)
+        (V t.j t.k *ℤ (co t.j *ℤ co t.k)) (D t.i *ℤ co t.i) m (V t.k t.i *ℤ (co t.k *ℤ co t.i)) (D t.j *ℤ co t.j) m
+        (V t.i t.j *ℤ (co t.i *ℤ co t.j)) (D t.k *ℤ co t.k) m
+        (ring (m ∷ V t.i t.j ∷ V t.j t.k ∷ V t.k t.i ∷ D t.i ∷ D t.j ∷ D t.k ∷ co t.i ∷ co t.j ∷ co t.k ∷ [])
         (less (mul (add (add (mul (var 1) (var 6)) (mul (var 2) (var 4))) (mul (var 3) (var 5))) (mul (mul (var 7) (var 8)) (var 9)))
         (add (add (mul (var 0) (mul (var 1) (mul (var 7) (var 8)))) (mul (var 0) (mul (var 2) (mul (var 8) (var 9)))))
         (mul (var 0) (mul (var 3) (mul (var 9) (var 7)))))) (add (add (mul (mul (var 2) (mul (var 8) (var 9))) (less (mul (var 4) (var 7)) (var 0)))
         (mul (mul (var 3) (mul (var 9) (var 7))) (less (mul (var 5) (var 8)) (var 0)))) (mul
         (mul (var 1) (mul (var 7) (var 8))) (less (mul (var 6) (var 9)) (var 0)))) refl)
-        i.1 j.1 k.1)
+        i.1 j.1 k.1
 
 -- a point that is lower along w has a positive depth
 below_depth : (w p x : Vector) → dot w x <ℤ dot w p → pos 0 <ℤ depth w p x
@@ -120,7 +117,8 @@ others-same f all i m = sym (prod-drop_first f i all (occurs i all m))
 pub none_below : (at : ℕ → Vector) (w p : Vector) (ts : List Triple) → IsClosed ts → ((i : ℕ) → IsCornerOf ts i → dot w (at i) <ℤ dot w p)
     → ((t : Triple) → In t ts → vol_at at p t ≤ℤ pos 0) → (u : Triple) → In u ts → vol_at at p u <ℤ pos 0 → ⊥
 none_below at w p ts closed beyond blind u there low =
-    none_lower (edge_part at p co m u.i) (edge_part-back at p co m u.i) ts closed (λ t r. (sign t r).0 (blind t r)) u there ((sign u there).1 low)
+    none_lower (edge_part V co m) (edge_part-back V co m (λ a b. vol-flip (at b) (at a) (at u.i) p)) ts closed
+    (λ t r. (sign t r).0 (blind t r)) u there ((sign u there).1 low)
   where
     corners : Triple → List ℕ
     corners t = t.i ∷ t.j ∷ t.k ∷ []
@@ -140,12 +138,14 @@ none_below at w p ts closed beyond blind u there low =
     deep : (i : ℕ) → IsCornerOf ts i → pos 0 <ℤ f i
     deep i c = below_depth w p (at i) (beyond i c)
 
+    V : ℕ → ℕ → ℤ
+    V a b = vol (at a) (at b) (at u.i) p
+
     sign : (t : Triple) → In t ts
-        → (vol_at at p t ≤ℤ pos 0 → around (edge_part at p co m u.i) t ≤ℤ pos 0) × (vol_at at p t <ℤ pos 0 → around (edge_part at p co m u.i) t <ℤ pos 0)
-    sign t r = round_sign at w p co m u.i t (deep u.i (u, there, inl refl)) (λ i c. (
-      others-pos f all (λ i r. deep i (of_flat_map corners ts i r)) i,
-      others-same f all i (in_flat_map corners ts t i r c),
-    ))
+        → (vol_at at p t ≤ℤ pos 0 → around (edge_part V co m) t ≤ℤ pos 0) × (vol_at at p t <ℤ pos 0 → around (edge_part V co m) t <ℤ pos 0)
+    sign t r =
+        round_sign V f co m (vol_at at p t) (f u.i) t (deep u.i (u, there, inl refl)) (vol-depths w (at t.i) (at t.j) (at t.k) (at u.i) p)
+        (λ i c. (others-pos f all (λ i r. deep i (of_flat_map corners ts i r)) i, others-same f all i (in_flat_map corners ts t i r c)))
 
 -- proof of the law `NoneBelowAndBeyond`
 pub none_below_and_beyond : NoneBelowAndBeyond

@@ -1,38 +1,36 @@
--- Supporting triangles that close up have a triangle at each extreme id of a plane that has one of them. Otherwise take the plane through a point below that
--- separates the id from the other members of the plane: the terms of the triangles in the plane and those of the edges of the others would not cancel.
-use Rattle.std.proofs.Common.{◌≡◌, ◌≢◌, ℕ, arith, refl, sym, subst, inl, inr, ⊎_elim, List, [], ◌∷◌}
+-- Supporting triangles that close up have a triangle at each extreme id of a plane that has one of them. Otherwise, with weights by a direction that puts the id
+-- beyond the other members of the plane, the terms of the triangles in the plane and those of the edges of the others would not cancel.
+use Rattle.std.proofs.Common.{◌≡◌, ◌≢◌, ℕ, arith, refl, sym, subst, ◌∙◌, inl, inr, ⊎_elim, List, [], ◌∷◌}
 use Rattle.std.proofs.lemmas.{Int.ints}
 use Rattle.std.specs.Prelude.{ℤ, pos, ◌+ℤ◌, ◌-ℤ◌, ◌*ℤ◌, neg_ℤ, ◌≤ℤ◌, ◌<ℤ◌, filter}
 use Rattle.qh_model.specs.contract.ClosedSurface.{Triple, IsClosedSurface}
 use Rattle.qh_model.specs.headline.{Extreme.Others, Extreme.Extreme, Predicates.cross, Predicates.vol, Predicates.left, Sets.In, Sets.Members}
-use Rattle.qh_model.specs.headline.{SupportingPlane.IsSupportingTriple, SupportingPlane.OnPlane, Vector.Vector, Vector.minus, Vector.dot}
+use Rattle.qh_model.specs.headline.{SupportingPlane.IsSupportingTriple, SupportingPlane.OnPlane, Vector.Vector, Vector.dot}
 use Rattle.qh_model.specs.laws.{ClosedFaceLaws.AreSupporting, Separator.Separator}
 use Rattle.qh_model.proofs.Decisions.{Decided, test, told, holds, both, contrary, same_id, in_or_not, each_or_not, some_or_none}
 use Rattle.qh_model.proofs.{Members.each_of_three, Members.every_of, lists.Filters.in_filter, lists.Filters.of_filter, extremes.ExtremeIds.separated}
-use Rattle.qh_model.proofs.algebra.{Integers.neg_mul, Integers.zero_mul, Ring.ring, Ring.Expr.con, Ring.Expr.add, Ring.Expr.sub as less, Ring.Expr.mul}
-use Rattle.qh_model.proofs.algebra.Order.{mul-nonneg, mul-pos, mul-neg_pos, mul-neg_neg, mul-nonpos_nonneg, product_zero, zero_or_not, le_less, neg-positive}
-use Rattle.qh_model.proofs.algebra.{Order.positive_le, Order.negative_le, Signs.equal_le}
-use Rattle.qh_model.proofs.algebra.VectorIdentities.{vec, put, dotE, subE, depth, vol-first, vol-second, vol-third, vol-flip, vol-flip_last, vol-swap_last}
+use Rattle.qh_model.proofs.algebra.{Integers.neg_mul, Integers.zero_mul, Ring.Expr, Ring.ring, Ring.Expr.con, Ring.Expr.add, Ring.Expr.sub as less, Ring.Expr.mul}
+use Rattle.qh_model.proofs.algebra.Order.{mul-nonneg, mul-pos, mul-nonpos_nonneg, cancel-zero, product_zero, zero_or_not, le_less, positive_le, negative_le}
+use Rattle.qh_model.proofs.algebra.Signs.{equal_le}
+use Rattle.qh_model.proofs.algebra.VectorIdentities.{vec, put, dotE, volE, VE, vol-first, vol-second, vol-third, vol-flip, vol-flip_last, vol-swap_last}
 use Rattle.qh_model.proofs.closed_surfaces.Cancellation.{edge_part, edge_part-back, round_sign, prod_z, prod-pos, others, others-pos, others-same}
 use Rattle.qh_model.proofs.closed_surfaces.SignedVolume.{around, none_lower, vol_at}
-use Rattle.qh_model.proofs.extremes.Directions.{square-positive, from_plane}
+use Rattle.qh_model.proofs.extremes.Directions.{square-positive}
 use Rattle.qh_model.proofs.polygons.{LeftOfEdge.at_most, LeftOfEdge.turn_sign, PlaneTurns.level_volume}
 
--- a direction that turns w about q, for points of one plane that are h above q along n
-abbrev tilted : (n w q l : Vector) (h : ℤ) → Vector
-tilted n w q l h = let s = pos 2 *ℤ (dot w l -ℤ dot w q) -ℤ pos 1 in let t = pos 2 *ℤ h in
-    record { x = s *ℤ n.x +ℤ t *ℤ w.x; y = s *ℤ n.y +ℤ t *ℤ w.y; z = s *ℤ n.z +ℤ t *ℤ w.z }
+-- 1 at l, and below 0 at points that are before l along w
+abbrev past : (w l x : Vector) → ℤ
+past w l x = pos 2 *ℤ (dot w x -ℤ dot w l) +ℤ pos 1
 
--- the depth of a point of the plane along it
-depth-tilted : (n w q l x : Vector) (h : ℤ) → dot n (minus q x) ≡ h → depth (tilted n w q l h) q x ≡ h *ℤ (pos 2 *ℤ (dot w l -ℤ dot w x) -ℤ pos 1)
-unfolding depth
-depth-tilted n w q l x h e =
-    let N = vec 0 in let W = vec 1 in let Q = vec 2 in let L = vec 3 in let X = vec 4 in
-    let H = dotE N (subE Q X) in let S = less (mul (con (pos 2)) (less (dotE W L) (dotE W Q))) (con (pos 1)) in let T = mul (con (pos 2)) H in
-    subst (λ h. dot (tilted n w q l h) (minus q x) ≡ h *ℤ (pos 2 *ℤ (dot w l -ℤ dot w x) -ℤ pos 1)) e
-    (ring (put n (put w (put q (put l (put x [])))))
-    (dotE (record { x = add (mul S N.x) (mul T W.x); y = add (mul S N.y) (mul T W.y); z = add (mul S N.z) (mul T W.z) }) (subE Q X))
-    (mul H (less (mul (con (pos 2)) (less (dotE W L) (dotE W X))) (con (pos 1)))) refl)
+-- the volume of a triangle, by those of its edges with l
+past_split : (w a b c l q : Vector) → vol a b c q
+    ≡ vol a b l q *ℤ past w l c +ℤ vol b c l q *ℤ past w l a +ℤ vol c a l q *ℤ past w l b +ℤ past w l q *ℤ vol a b c l
+unfolding vol cross
+past_split w a b c l q =
+    let A = vec 0 in let B = vec 1 in let C = vec 2 in let L = vec 3 in let Q = vec 4 in let W = vec 5 in
+    let D : VE → Expr = λ x. add (mul (con (pos 2)) (less (dotE W x) (dotE W L))) (con (pos 1)) in
+    ring (put a (put b (put c (put l (put q (put w [])))))) (volE A B C Q) (add (add (add (mul (volE A B L Q) (D C)) (mul (volE B C L Q) (D A)))
+    (mul (volE C A L Q) (D B))) (mul (D Q) (volE A B C L))) refl
 
 module _ (at : ℕ → Vector) (ids : List ℕ) (ts : List Triple) (closed : IsClosedSurface at ts) (supporting : AreSupporting at (Members ids) ts)
     (t0 : Triple) (there : In t0 ts) (q : ℕ) (has_q : Members ids q) (low : vol (at t0.i) (at t0.j) (at t0.k) (at q) <ℤ pos 0)
@@ -56,7 +54,8 @@ module _ (at : ℕ → Vector) (ids : List ℕ) (ts : List Triple) (closed : IsC
   none : (((t : Triple) × In t ts × HasCorner t) → ⊥) → ⊥
   unfolding edge_part
   none never =
-      none_lower part (edge_part-back at (at q) co m l) ts closed.closed (λ t r. by_level t r (level_or_not t)) t0 there ((sign t0 there own).1 low)
+      none_lower part (edge_part-back V co m (λ a b. vol-flip (at b) (at a) (at l) (at q))) ts closed.closed (λ t r. by_level t r (level_or_not t)) t0 there
+      ((sign t0 there own).1 low)
     where
       plane : IsSupportingTriple at (Members ids) t0.i t0.j t0.k
       plane = supporting t0 there
@@ -67,16 +66,14 @@ module _ (at : ℕ → Vector) (ids : List ℕ) (ts : List Triple) (closed : IsC
       s : Separator at (Others (Members ids) l) (at l)
       s = separated at ids l extreme.0
 
-      w : Vector
-      w = tilted n s.w (at q) (at l) (height q)
+      D : ℕ → ℤ
+      D x = past s.w (at l) (at x)
 
-      -- the depth of a point of the plane
-      deep : (x : ℕ) → height x ≡ pos 0 → depth w (at q) (at x) ≡ height q *ℤ (pos 2 *ℤ (dot s.w (at l) -ℤ dot s.w (at x)) -ℤ pos 1)
-      deep x e =
-          depth-tilted n s.w (at q) (at l) (at x) (height q) (from_plane (at t0.i) (at t0.j) (at t0.k) (at x) (at q) e)
+      V : ℕ → ℕ → ℤ
+      V a b = vol (at a) (at b) (at l) (at q)
 
-      l_deep : pos 0 <ℤ depth w (at q) (at l)
-      l_deep = subst (λ v. pos 0 <ℤ v) (sym (deep l extreme.1)) (mul-neg_neg (height q) _ low (omega (arith, ints)))
+      square : pos 0 <ℤ dot n n
+      square = square-positive n plane.area
 
       -- a member of the plane other than l
       Kept : ℕ → Type 0
@@ -89,12 +86,10 @@ module _ (at : ℕ → Vector) (ids : List ℕ) (ts : List Triple) (closed : IsC
       all = filter (λ x. test (kept x)) ids
 
       f : ℕ → ℤ
-      f x = neg_ℤ (depth w (at q) (at x))
+      f x = neg_ℤ (D x)
 
       f_pos : (x : ℕ) → In x all → pos 0 <ℤ f x
-      f_pos x i =
-          let r = of_filter (λ x. test (kept x)) ids x i in let k = holds (kept x) r.1 in
-          neg-positive _ (subst (λ v. v <ℤ pos 0) (sym (deep x k.0)) (mul-neg_pos (height q) _ low (omega (arith, ints, s.past x (r.0, k.1)))))
+      f_pos x i = let r = of_filter (λ x. test (kept x)) ids x i in omega (arith, ints, s.past x (r.0, (holds (kept x) r.1).1))
 
       m : ℤ
       m = neg_ℤ (prod_z f all)
@@ -106,23 +101,27 @@ module _ (at : ℕ → Vector) (ids : List ℕ) (ts : List Triple) (closed : IsC
       weight x (inl k) = others f all x
       weight x (inr n) = pos 0
 
-      fair : (x : ℕ) → Members ids x → Kept x → (d : Decided (Kept x)) → (pos 0 <ℤ weight x d) × (depth w (at q) (at x) *ℤ weight x d ≡ m)
+      fair : (x : ℕ) → Members ids x → Kept x → (d : Decided (Kept x)) → (pos 0 <ℤ weight x d) × (D x *ℤ weight x d ≡ m)
       fair x h k (inr n) = absurd (n k)
       fair x h k (inl _) = (
         others-pos f all f_pos x,
-        omega (arith, ints, others-same f all x (in_filter (λ x. test (kept x)) ids x h (told (kept x) k)), neg_mul (depth w (at q) (at x)) (others f all x)),
+        omega (arith, ints, others-same f all x (in_filter (λ x. test (kept x)) ids x h (told (kept x) k)), neg_mul (D x) (others f all x)),
       )
 
       co : ℕ → ℤ
       co x = weight x (kept x)
 
       part : (ℕ × ℕ) → ℤ
-      part = edge_part at (at q) co m l
+      part = edge_part V co m
 
       -- ---- a triangle in the plane
       sign : (t : Triple) → In t ts → IsLevel t
           → (vol_at at (at q) t ≤ℤ pos 0 → around part t ≤ℤ pos 0) × (vol_at at (at q) t <ℤ pos 0 → around part t <ℤ pos 0)
-      sign t r h = let own = supporting t r in round_sign at w (at q) co m l t l_deep (λ x i.
+      sign t r h =
+          let own = supporting t r in let i = h t.i (inl refl) in let j = h t.j (inr (inl refl)) in let k = h t.k (inr (inr (inl refl))) in
+          let flat = cancel-zero _ _ square (level_volume (at t0.i) (at t0.j) (at t0.k) (at t.i) (at t.j) (at t.k) (at l) i j k ∙ product_zero _ _ extreme.1) in
+          round_sign V D co m (vol_at at (at q) t) (pos 1) t (omega (arith, ints))
+          (omega (arith, ints, past_split s.w (at t.i) (at t.j) (at t.k) (at l) (at q), product_zero (D q) _ flat)) (λ x i.
           fair x (each_of_three (Members ids) t.i t.j t.k own.has_i own.has_j own.has_k x i)
           (h x i, λ e. never (t, r, (h, subst (λ y. In y (corners t)) e i))) (kept x))
 
@@ -135,24 +134,20 @@ module _ (at : ℕ → Vector) (ids : List ℕ) (ts : List Triple) (closed : IsC
           → part (a, b) ≤ℤ pos 0
       edge a b c has under off = mul-nonpos_nonneg m _ m_neg (by_kept (kept a) (kept b))
         where
-          volume : ℤ
-          volume = vol (at a) (at b) (at l) (at q)
+          no_weight : (x : ℤ) → x ≡ pos 0 → pos 0 ≤ℤ (V a b *ℤ x)
+          no_weight x e = equal_le (pos 0) _ (sym (product_zero (V a b) x e))
 
-          no_weight : (x : ℤ) → x ≡ pos 0 → pos 0 ≤ℤ (volume *ℤ x)
-          no_weight x e = equal_le (pos 0) _ (sym (product_zero volume x e))
-
-          by_kept : (d : Decided (Kept a)) (e : Decided (Kept b)) → pos 0 ≤ℤ (volume *ℤ (weight a d *ℤ weight b e))
+          by_kept : (d : Decided (Kept a)) (e : Decided (Kept b)) → pos 0 ≤ℤ (V a b *ℤ (weight a d *ℤ weight b e))
           by_kept (inr n) e = no_weight _ (zero_mul (weight b e))
           by_kept (inl k) (inr n) = no_weight _ (product_zero (others f all a) (pos 0) refl)
-          by_kept (inl (d, _)) (inl (e, _)) = mul-nonneg volume _ upward (positive_le _ (mul-pos _ _ (others-pos f all f_pos a) (others-pos f all f_pos b)))
+          by_kept (inl (d, _)) (inl (e, _)) = mul-nonneg (V a b) _ upward (positive_le _ (mul-pos _ _ (others-pos f all f_pos a) (others-pos f all f_pos b)))
             where
               -- the volume from the edge back, by the height of its last point
               turn : (x : ℕ) → dot n n *ℤ vol (at b) (at a) (at l) (at x) ≡ left n (at b) (at a) (at l) *ℤ height x
               turn x = level_volume (at t0.i) (at t0.j) (at t0.k) (at b) (at a) (at l) (at x) e d extreme.1
 
-              upward : pos 0 ≤ℤ volume
+              upward : pos 0 ≤ℤ V a b
               upward =
-                  let square = square-positive n plane.area in
                   let inside : pos 0 ≤ℤ left n (at b) (at a) (at l) = turn_sign _ _ _ _ square (turn c) (le_less _ _ (plane.supports c has) (off d e))
                   (omega (arith, ints, vol-flip (at b) (at a) (at l) (at c), vol-swap_last (at a) (at b) (at c) (at l), under)) in
                   omega (arith, ints, vol-flip (at a) (at b) (at l) (at q), at_most _ _ _ _ square (turn q) inside (negative_le _ low))
