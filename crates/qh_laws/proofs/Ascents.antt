@@ -7,18 +7,16 @@ use Rattle.qh_model.proofs.{algebra.Signs.less_le, algebra.Signs.not_less, close
 use Rattle.qh_laws.proofs.{Greatest.ratio-trans, Signs.above, Signs.above_is, Signs.is_above}
 
 -- ---- tests that differ at a member
+-- one more element of both counts
+counted : (a b : Bool) (m n : ℕ) → (a ≡ true → b ≡ true) → m ≤ n → cond a 1 0 + m ≤ cond b 1 0 + n
+counted false b m n f l = omega arith
+counted true true m n f l = omega arith
+counted true false m n f l = let e = f refl in cc
+
 -- no more members pass the narrower test
 fewer_le : {X : Type 0} (p q : X → Bool) → ((x : X) → q x ≡ true → p x ≡ true) → (xs : List X) → count q xs ≤ count p xs
 fewer_le p q h [] = omega arith
-fewer_le p q h (x ∷ xs) = plain (q x) (p x) (count q xs) (count p xs) (h x) (fewer_le p q h xs)
-  where
-    plain : (a b : Bool) (m n : ℕ) → (a ≡ true → b ≡ true) → m ≤ n → cond a 1 0 + m ≤ cond b 1 0 + n
-    plain false b m n f l = omega arith
-    plain true true m n f l = omega arith
-    plain true false m n f l = absurd (clash (f refl))
-      where
-        clash : false ≡ true → ⊥
-        clash e = cc
+fewer_le p q h (x ∷ xs) = counted (q x) (p x) (count q xs) (count p xs) (h x) (fewer_le p q h xs)
 
 -- fewer members pass the narrower test, if some member passes the wider one only
 fewer : {X : Type 0} (p q : X → Bool) → ((x : X) → q x ≡ true → p x ≡ true) → (xs : List X) (y : X) → In y xs → p y ≡ true → q y ≡ false
@@ -30,15 +28,7 @@ fewer p q h (x ∷ xs) y (inl d) e f = plain (q x) (p x) (count q xs) (count p x
     plain false true m n f e l = omega arith
     plain true b m n f e l = cc
     plain false false m n f e l = cc
-fewer p q h (x ∷ xs) y (inr i) e f = plain (q x) (p x) (count q xs) (count p xs) (h x) (fewer p q h xs y i e f)
-  where
-    plain : (a b : Bool) (m n : ℕ) → (a ≡ true → b ≡ true) → m < n → cond a 1 0 + m < cond b 1 0 + n
-    plain false b m n f l = omega arith
-    plain true true m n f l = omega arith
-    plain true false m n f l = absurd (clash (f refl))
-      where
-        clash : false ≡ true → ⊥
-        clash e = cc
+fewer p q h (x ∷ xs) y (inr i) e f = omega (arith, counted (q x) (p x) (suc (count q xs)) (count p xs) (h x) (fewer p q h xs y i e f))
 
 -- ---- the walk, over members with P, to a place D
 module _ {X : Type 0} (num den : X → ℤ) (P : X → Type 0) (D : Type 0) (xs : List X) where

@@ -1,9 +1,10 @@
 -- Faces of parts and of the kept ids that close up are the faces of the whole set.
 use Rattle.std.proofs.Common.{ℕ, ◌⊎◌, inl, inr, refl, List}
-use Rattle.std.specs.Prelude.{pos, ◌↔◌}
+use Rattle.std.specs.Prelude.{◌↔◌}
 use Rattle.qh_model.specs.contract.{ClosedPolygons.AreClosedFaces, ClosedPolygons.IsFace, IdSets.HasDistinctPoints}
-use Rattle.qh_model.specs.headline.{Extreme.Extreme, Predicates.vol, Sets.Members, Vector.Vector}
-use Rattle.qh_model.proofs.{algebra.Signs.less_differ, extremes.ExtremeIds.listed_itself, extremes.ExtremeIds.extremes_between}
+use Rattle.qh_model.specs.headline.{Extreme.Extreme, Sets.Members, Vector.Vector}
+use Rattle.qh_model.proofs.{extremes.ExtremeIds.listed_itself, extremes.ExtremeIds.extremes_between, extremes.SameDimension.tetrahedron_by_names}
+use Rattle.qh_model.proofs.surfaces.Complete.{finished_tetrahedron}
 use Rattle.qh_model.proofs.{extremes.Faces.support_of_extremes, polygons.ClosedFaces.closed_faces_are_all, polygons.ClosedFaces.closed_faces_have_extremes}
 use Rattle.qh_laws.specs.contract.Parts.{AreKept, IsPartFace, AreJoined}
 use Rattle.qh_laws.specs.laws.PartLaws.{FacesOfKept, JoinedAreFaces, JoinedHaveExtremes, PartIsSolid}
@@ -58,17 +59,4 @@ joined_have_extremes at all kept qs d k j l = closed_faces_have_extremes at all 
 
 -- proof of the law `PartIsSolid`
 pub part_is_solid : PartIsSolid
-part_is_solid at all ids m z sub = inl (
-  refl,
-  record {
-    i = z.s;
-    j = z.t;
-    k = z.u;
-    l = z.v;
-    has_i = sub z.s z.has_s;
-    has_j = sub z.t z.has_t;
-    has_k = sub z.u z.has_u;
-    has_l = sub z.v z.has_v;
-    volume = λ e. less_differ (vol (at z.s) (at z.t) (at z.u) (at z.v)) (pos 0) z.volume e;
-  },
-)
+part_is_solid at all ids m z sub = inl (refl, tetrahedron_by_names (λ i. i) sub (λ i h. refl) (finished_tetrahedron at ids m z))

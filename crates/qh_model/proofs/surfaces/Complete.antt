@@ -1,7 +1,8 @@
 -- A finished surface determines the hull: its dimension, its extreme ids and its polygons.
 use Rattle.std.proofs.Common.{◌≡◌, ℕ, refl, inl, List}
 use Rattle.std.specs.Prelude.{pos, ◌↔◌}
-use Rattle.qh_model.specs.headline.{Extreme.Extreme, Polygons.IsFacePolygon, Predicates.cross, Predicates.vol, Sets.In, Sets.Members, SupportingPlane.OnPlane}
+use Rattle.qh_model.specs.contract.{FinishedSurface.IsFinished, Surface.Surface}
+use Rattle.qh_model.specs.headline.{Dimension.HasTetrahedron, Vector.Vector, Extreme.Extreme, Polygons.IsFacePolygon, Predicates.cross, Predicates.vol, Sets.In, Sets.Members, SupportingPlane.OnPlane}
 use Rattle.qh_model.specs.laws.CompletenessLaws.{CornerInPlane, IsLiveCorner, FacetOfPlane, FinishedIsSolid, ExtremesOfCorners, ExtremesOfPlane}
 use Rattle.qh_model.specs.laws.CompletenessLaws.{PolygonsOfFacets}
 use Rattle.qh_model.proofs.{algebra.Order.zero_or_not, algebra.Signs.less_differ, extremes.Directions.along_back}
@@ -10,11 +11,13 @@ use Rattle.qh_model.proofs.{extremes.Faces.extremes_of_face, polygons.Direction.
 use Rattle.qh_model.proofs.surfaces.Finished.{extremes_are_corners, extremes_of_plane_are_corners, facets_support, planes_have_facets}
 
 -- the four ids of the middle are a tetrahedron
+pub finished_tetrahedron : (at : ℕ → Vector) (ids : List ℕ) (m : Surface) → IsFinished at ids m → HasTetrahedron at (Members ids)
+finished_tetrahedron at ids m z =
+    record { i = z.s; j = z.t; k = z.u; l = z.v; has_i = z.has_s; has_j = z.has_t; has_k = z.has_u; has_l = z.has_v; volume = less_differ _ _ z.volume }
+
+-- proof of the law `FinishedIsSolid`
 pub finished_is_solid : FinishedIsSolid
-finished_is_solid at ids m z = inl (
-  refl,
-  record { i = z.s; j = z.t; k = z.u; l = z.v; has_i = z.has_s; has_j = z.has_t; has_k = z.has_u; has_l = z.has_v; volume = less_differ _ _ z.volume },
-)
+finished_is_solid at ids m z = inl (refl, finished_tetrahedron at ids m z)
 
 -- proof of the law `ExtremesOfCorners`
 pub extremes_of_corners : ExtremesOfCorners
