@@ -25,7 +25,7 @@ pub const CACHE_SLOTS: u64 = 65_536;
 
 /// A closed range of numbers.
 #[derive(Clone, Copy, Drop)]
-struct Span {
+struct CoordinateRange {
     least: u64,
     greatest: u64,
 }
@@ -33,9 +33,9 @@ struct Span {
 /// The range of the coordinates of points along each axis.
 #[derive(Clone, Copy, Drop)]
 struct BoundingBox {
-    x: Span,
-    y: Span,
-    z: Span,
+    x: CoordinateRange,
+    y: CoordinateRange,
+    z: CoordinateRange,
 }
 
 /// The slots of a box of places: its least coordinates, the factor of each coordinate in a slot's number, and the
@@ -52,18 +52,18 @@ pub struct CloseBox {
     pub slots: u64,
 }
 
-impl Span {
+impl CoordinateRange {
     /// Returns an empty range.
-    fn none() -> Span {
-        Span {
+    fn none() -> CoordinateRange {
+        CoordinateRange {
             least: u64::MAX,
             greatest: 0,
         }
     }
 
     /// Returns the range extended by a number.
-    fn with(self, number: u64) -> Span {
-        Span {
+    fn with(self, number: u64) -> CoordinateRange {
+        CoordinateRange {
             least: self.least.min(number),
             greatest: self.greatest.max(number),
         }
@@ -78,7 +78,11 @@ impl Span {
 impl BoundingBox {
     /// Returns the ranges of the coordinates of points.
     fn of(pts: &[Point]) -> BoundingBox {
-        let (mut x, mut y, mut z) = (Span::none(), Span::none(), Span::none());
+        let (mut x, mut y, mut z) = (
+            CoordinateRange::none(),
+            CoordinateRange::none(),
+            CoordinateRange::none(),
+        );
         for point in pts {
             x = x.with(biased(point.x()));
             y = y.with(biased(point.y()));

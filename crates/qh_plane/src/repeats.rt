@@ -35,17 +35,6 @@ pub fn repeats_told(alloc: Global, pts: &[Point], keys: &[u64]) -> FoundIds
     Ok(Some(repeats))
 }
 
-/// Returns the ids of all points that are equal to an earlier one, by sorting all keys; `None` if too many have one
-/// hash.
-fn repeats_of_keys(alloc: Global, pts: &[Point]) -> FoundIds
-    requires { length pts.now ≤ POINT_LIMIT }
-    ensures { IfOk result (λ found. IfSome found (λ v. AreAllRepeats pts.now v.items)) }
-{
-    let mut keys = hashed_keys(alloc, pts)?;
-    keys.sort_unstable();
-    repeats_told(alloc, pts, &keys)
-}
-
 /// Returns the ids of all points that are equal to an earlier one, by sorting the keys that share a slot of a table;
 /// `None` if too many have one hash.
 fn repeats_in_slots(alloc: Global, pts: &[Point]) -> FoundIds
@@ -66,10 +55,11 @@ pub fn repeats_of_all(alloc: Global, pts: &[Point]) -> FoundIds
 {
     let count = pts.len();
     if TABLE_FROM <= count && count <= TABLE_TO {
-        repeats_in_slots(alloc, pts)
-    } else {
-        repeats_of_keys(alloc, pts)
+        return repeats_in_slots(alloc, pts);
     }
+    let mut keys = hashed_keys(alloc, pts)?;
+    keys.sort_unstable();
+    repeats_told(alloc, pts, &keys)
 }
 
 /// Returns the ids of all points that are equal to an earlier one, by sorting all keys with the threads of a runtime;

@@ -1,4 +1,4 @@
-use Rattle.qh_plane.proofs.repeats.repeats_of_keys.Goals as goal
+use Rattle.qh_plane.proofs.repeats.repeats_of_all.Goals as goal
 use Rattle.std.proofs.lemmas.{List.Sorted.IsNonDecreasingBy-from_sort, Option.IfSome_then, Result.IfOk-weaker}
 use Rattle.qh_plane.{proofs.PlaceLists.sorted_within, proofs.PlaceLists.sorted_repeats, specs.steps.HashedKeys.AllHashes}
 
