@@ -8,7 +8,7 @@ ghost use Rattle.hullcheck.specs.steps.Words.{with_next};
 
 use crate::fault::Fault;
 use qh_model::WORKER_LIMIT;
-use qh_read::faces::{Layout, Reading, Turn};
+use qh_read::faces::{Layout, Orientation, Reading};
 
 /// The settings of a command line.
 #[derive(Clone, Copy, Drop)]
@@ -65,7 +65,7 @@ impl<'a> Settings<'a> {
             workers: 4,
             reading: Reading {
                 layout: Layout::Off,
-                turn: Turn::Counterclockwise,
+                orientation: Orientation::Counterclockwise,
             },
             points: None,
             faces: None,
@@ -98,7 +98,7 @@ impl<'a> Settings<'a> {
         } else if word == "--counted" {
             self.reading.layout = Layout::Counted;
         } else if word == "--clockwise" {
-            self.reading.turn = Turn::Clockwise;
+            self.reading.orientation = Orientation::Clockwise;
         } else {
             return self.take_file(word);
         }

@@ -11,4 +11,4 @@ mod list;
 mod reading;
 
 pub use files::read_faces;
-pub use reading::{Faces, Layout, Reading, Turn};
+pub use reading::{Faces, Layout, Orientation, Reading};

@@ -5,7 +5,7 @@ use Rattle.std.specs.List.{list_any}
 use Rattle.std.specs.{Option.option_and_then, Option.option_map, Str.all_ascii_digits, Str.bytes_eq, Str.Parse.digits_value, Str.Parse.without_leading_plus}
 use Rattle.qh_model.specs.declared.limits.TheConstants.{WORKER_LIMIT}
 use Rattle.qh_read.specs.declared.faces.reading.{Reading.Reading, Layout.TheVariants.Off, Layout.TheVariants.Counted, Layout.TheVariants.Lines}
-use Rattle.qh_read.specs.declared.faces.reading.Turn.TheVariants.{Counterclockwise, Clockwise}
+use Rattle.qh_read.specs.declared.faces.reading.Orientation.TheVariants.{Counterclockwise, Clockwise}
 use Rattle.hullcheck.specs.declared.command_line.Settings.{Settings}
 
 -- the settings: the number of workers, how the faces are read, and the names of the two files
@@ -17,7 +17,7 @@ pub record Asked : Type 0 where
 
 -- the settings without any words
 abbrev pub asked_by_default : Asked
-asked_by_default = record { workers = 4; reading = record { layout = Off; turn = Counterclockwise }; points = None; faces = None }
+asked_by_default = record { workers = 4; reading = record { layout = Off; orientation = Counterclockwise }; points = None; faces = None }
 
 -- the digits are a numeral from 1 to the limit
 abbrev pub is_number_of_workers : List ℕ → Bool
@@ -46,9 +46,9 @@ with_file asked word = if slice_index word 0 == 45 then None else with_named ask
 -- the settings with an option without a value, or with a file name
 abbrev pub with_word : Asked → List ℕ → Option Asked
 with_word asked word =
-    if bytes_eq word (codes "--indices") then Some (record asked { reading = record { layout = Lines; turn = asked.reading.turn } })
-    else if bytes_eq word (codes "--counted") then Some (record asked { reading = record { layout = Counted; turn = asked.reading.turn } })
-    else if bytes_eq word (codes "--clockwise") then Some (record asked { reading = record { layout = asked.reading.layout; turn = Clockwise } })
+    if bytes_eq word (codes "--indices") then Some (record asked { reading = record { layout = Lines; orientation = asked.reading.orientation } })
+    else if bytes_eq word (codes "--counted") then Some (record asked { reading = record { layout = Counted; orientation = asked.reading.orientation } })
+    else if bytes_eq word (codes "--clockwise") then Some (record asked { reading = record { layout = asked.reading.layout; orientation = Clockwise } })
     else with_file asked word
 
 -- the settings with all of some words; the word after `--workers` is their number

@@ -5,7 +5,7 @@ use crate::judging::check_streams;
 use qh_check::{Judgement, SurfaceVerdict};
 use qh_model::ReadFault;
 use qh_read::MemSource;
-use qh_read::faces::{Layout, Reading, Turn};
+use qh_read::faces::{Layout, Orientation, Reading};
 use std::alloc::{AllocError, Global};
 use std::test::Fail;
 use std::thread::Threads;
@@ -28,13 +28,13 @@ fn told<R: Threads + Sync>(
 /// The reading of Qhull's option `i`.
 const INDICES: Reading = Reading {
     layout: Layout::Lines,
-    turn: Turn::Clockwise,
+    orientation: Orientation::Clockwise,
 };
 
 /// The reading of an OFF file.
 const OFF: Reading = Reading {
     layout: Layout::Off,
-    turn: Turn::Counterclockwise,
+    orientation: Orientation::Counterclockwise,
 };
 
 /// The faces of the cube as Qhull writes them, two corners under their second index.

@@ -36,7 +36,7 @@ IsListOf layout bytes vertices ws = IsWholeList bytes vertices ws
 -- the bytes are a file of these vertices and faces
 abbrev pub ReadsFaces : Reading → List ℕ → List Vector → List (List ℕ) → Type 0
 ReadsFaces reading bytes vertices faces =
-    (ws : List Numeral) × IsListOf reading.layout bytes vertices ws × IsList reading.layout reading.turn ws faces
+    (ws : List Numeral) × IsListOf reading.layout bytes vertices ws × IsList reading.layout reading.orientation ws faces
 
 -- the fault in the words before the list of faces
 abbrev pub IsFaultBefore : Layout → List ℕ → ReadFault → Type 0

@@ -2,7 +2,7 @@
 -- Source: Geomview OFF (a face is its number of corners, their indices from 0, and an optional colour up to the end of the line); Qhull's options `Fv` (such
 -- faces) and `i` (a face is a line of indices, without their number).
 use Rattle.std.specs.Prelude.{ℕ, ◌≡◌, ◌==◌, List, [], ◌∷◌, ◌++◌, map, reverse, length, Some, if◌then◌else◌}
-use Rattle.qh_read.specs.declared.faces.reading.{Layout.Layout, Layout.TheVariants.Lines, Turn.Turn, Turn.TheVariants.Clockwise}
+use Rattle.qh_read.specs.declared.faces.reading.{Layout.Layout, Layout.TheVariants.Lines, Orientation.Orientation, Orientation.TheVariants.Clockwise}
 use Rattle.qh_read.specs.declared.numerals.Numeral.{Numeral}
 
 -- the leading words that are on this line
@@ -47,20 +47,20 @@ IsFace Lines ws corners rest = IsLineFace ws corners rest
 IsFace layout ws corners rest = IsCountedFace ws corners rest
 
 -- corners in counterclockwise order
-abbrev pub turned : Turn → List ℕ → List ℕ
+abbrev pub turned : Orientation → List ℕ → List ℕ
 turned Clockwise corners = reverse corners
-turned turn corners = corners
+turned orientation corners = corners
 
 -- the words are these faces, one after another, and nothing else
-abbrev pub AreFaces : Layout → Turn → List Numeral → List (List ℕ) → Type 0
-AreFaces layout turn ws [] = ws ≡ []
-AreFaces layout turn ws (f ∷ fs) =
-    (corners : List ℕ) × (rest : List Numeral) × IsFace layout ws corners rest × (f ≡ turned turn corners) × AreFaces layout turn rest fs
+abbrev pub AreFaces : Layout → Orientation → List Numeral → List (List ℕ) → Type 0
+AreFaces layout orientation ws [] = ws ≡ []
+AreFaces layout orientation ws (f ∷ fs) =
+    (corners : List ℕ) × (rest : List Numeral) × IsFace layout ws corners rest × (f ≡ turned orientation corners) × AreFaces layout orientation rest fs
 
 -- the words are the number of faces, and then the faces
-pub record IsList (layout : Layout) (turn : Turn) (ws : List Numeral) (faces : List (List ℕ)) : Type 0 where
+pub record IsList (layout : Layout) (orientation : Orientation) (ws : List Numeral) (faces : List (List ℕ)) : Type 0 where
   pub count : Numeral
   pub rest : List Numeral
   pub words : ws ≡ count ∷ rest
   pub number : count.number ≡ Some (length faces)
-  pub listed : AreFaces layout turn rest faces
+  pub listed : AreFaces layout orientation rest faces

@@ -2,7 +2,7 @@
 use Rattle.std.specs.Prelude.{ℕ, ◌≡◌, ◌⊎◌, List, ◌++◌, Option, Some}
 use Rattle.qh_model.specs.declared.read_fault.ReadFault.{ReadFault, TheVariants.Memory}
 use Rattle.qh_read.specs.contract.FaceWords.{AreNumbers, IsFace, last_line, turned}
-use Rattle.qh_read.specs.declared.{faces.reading.Layout.Layout, faces.reading.Turn.Turn, numerals.Numeral.Numeral}
+use Rattle.qh_read.specs.declared.{faces.reading.Layout.Layout, faces.reading.Orientation.Orientation, numerals.Numeral.Numeral}
 
 -- the corners are the words that were taken, the last of which is on this line
 pub record AreTaken (line : ℕ) (old : List Numeral) (corners : List ℕ) (last : ℕ) (new : List Numeral) : Type 0 where
@@ -12,8 +12,8 @@ pub record AreTaken (line : ℕ) (old : List Numeral) (corners : List ℕ) (last
   pub ends : last ≡ last_line line own
 
 -- a face was taken, with these corners in counterclockwise order
-abbrev pub IsTakenFace : Layout → Turn → List Numeral → List ℕ → List Numeral → Type 0
-IsTakenFace layout turn old face new = (corners : List ℕ) × IsFace layout old corners new × (face ≡ turned turn corners)
+abbrev pub IsTakenFace : Layout → Orientation → List Numeral → List ℕ → List Numeral → Type 0
+IsTakenFace layout orientation old face new = (corners : List ℕ) × IsFace layout old corners new × (face ≡ turned orientation corners)
 
 -- an allocation failed, or this is the fault for any continuation
 abbrev pub IsFaultFor : {C : Type 0} → (C → Option ReadFault) → ReadFault → Type 0

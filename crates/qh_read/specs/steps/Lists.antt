@@ -13,12 +13,12 @@ behind skipped (w ∷ ws) = w ∷ drop skipped ws
 -- the faces of an OFF file
 abbrev pub AreOffFaces : Reading → List ℕ → List Vector → List (List ℕ) → Type 0
 AreOffFaces reading bytes vertices faces =
-    (ws : List Numeral) × IsOffList bytes vertices ws × IsList reading.layout reading.turn ws faces
+    (ws : List Numeral) × IsOffList bytes vertices ws × IsList reading.layout reading.orientation ws faces
 
 -- the faces of a file that contains nothing but a list
 abbrev pub AreWholeFaces : Reading → List ℕ → List Vector → List (List ℕ) → Type 0
 AreWholeFaces reading bytes vertices faces =
-    (ws : List Numeral) × IsWholeList bytes vertices ws × IsList reading.layout reading.turn ws faces
+    (ws : List Numeral) × IsWholeList bytes vertices ws × IsList reading.layout reading.orientation ws faces
 
 -- an allocation failed, or a list has too many bytes or this fault
 abbrev pub IsWholeFault : Layout → List ℕ → ReadFault → Type 0

@@ -6,7 +6,7 @@ ghost use Rattle.qh_read.specs.{declared.numerals.Numeral.Numeral, steps.Corners
 
 use crate::Numerals;
 use crate::faces::corners::{next_number, skip_line, take_corners, take_line};
-use crate::faces::reading::{Layout, Reading, Turn};
+use crate::faces::reading::{Layout, Orientation, Reading};
 use qh_model::{Id, Polygon, ReadFault};
 use std::alloc::Global;
 
@@ -41,11 +41,11 @@ fn take_written(
 }
 
 /// Returns the polygon of corners that are in the order of a file.
-fn polygon_of(corners: Vec<Id>, turn: Turn) -> Polygon
-    ensures { result ≡ turned turn corners.items }
+fn polygon_of(corners: Vec<Id>, orientation: Orientation) -> Polygon
+    ensures { result ≡ turned orientation corners.items }
 {
     let mut corners = corners;
-    if turn == Turn::Clockwise {
+    if orientation == Orientation::Clockwise {
         corners.reverse();
     }
     Polygon::of(corners)
@@ -57,11 +57,11 @@ pub fn take_face(
     words: &mut Numerals<'_>,
     reading: Reading,
 ) -> Result<Polygon, ReadFault>
-    ensures ok { IfOk result (λ face. IsTakenFace reading.layout reading.turn words.old face words.new) }
+    ensures ok { IfOk result (λ face. IsTakenFace reading.layout reading.orientation words.old face words.new) }
     ensures passes { IfOk result (λ face. (after : List Numeral → Option ReadFault)
         → face_fault reading.layout after words.old ≡ after words.new) }
     ensures fault { IfErr result (IsFaultFor (λ after. face_fault reading.layout after words.old)) }
 {
     let corners = take_written(alloc, words, reading.layout)?;
-    Ok(polygon_of(corners, reading.turn))
+    Ok(polygon_of(corners, reading.orientation))
 }

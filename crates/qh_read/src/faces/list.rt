@@ -29,7 +29,7 @@ fn take_faces(
     count: u32,
     reading: Reading,
 ) -> Result<Vec<Polygon>, ReadFault>
-    ensures ok { IfOk result (λ faces. AreFaces reading.layout reading.turn words.old faces.items) }
+    ensures ok { IfOk result (λ faces. AreFaces reading.layout reading.orientation words.old faces.items) }
     ensures count { IfOk result (λ faces. length faces.items ≡ count) }
     ensures fault { IfErr result (λ e. (e ≡ faults.Memory) ⊎ (faces_fault reading.layout count words.old ≡ Some e)) }
 {
@@ -58,7 +58,7 @@ pub fn take_list(
     skipped: usize,
     reading: Reading,
 ) -> Result<Vec<Polygon>, ReadFault>
-    ensures ok { IfOk result (λ faces. IsList reading.layout reading.turn (behind skipped words.old) faces.items) }
+    ensures ok { IfOk result (λ faces. IsList reading.layout reading.orientation (behind skipped words.old) faces.items) }
     ensures fault { IfErr result (λ e. (e ≡ faults.Memory) ⊎ (list_fault reading.layout (behind skipped words.old) ≡ Some e)) }
 {
     let count = next_number(words)?;

@@ -14,7 +14,7 @@ pub enum Layout {
 
 /// The orientation of faces, seen from outside.
 #[derive(Clone, Copy, Debug, PartialEq, Eq)]
-pub enum Turn {
+pub enum Orientation {
     /// As in OFF files.
     Counterclockwise,
     /// As Qhull writes them.
@@ -27,7 +27,7 @@ pub struct Reading {
     /// The layout of the file.
     pub layout: Layout,
     /// The orientation of its faces.
-    pub turn: Turn,
+    pub orientation: Orientation,
 }
 
 /// Faces, as numbers of points.

@@ -15,12 +15,12 @@ returns-in_err-face-clause-fault c =
 
 pub faces-preserved : goal.faces-preserved
 faces-preserved c =
-    let layout = c.args.reading.layout in let turn = c.args.reading.turn in let count = c.args.count in let k = c.faces.counter in
+    let layout = c.args.reading.layout in let orientation = c.args.reading.orientation in let count = c.args.count in let k = c.faces.counter in
     let face = c.in_ok-face.face in let left = c.take_face.new.words in let t = c.in_ok-face.ensures.ok in
     let pushed : c.push.new.self.items ≡ c.faces.faces.items ++ face ∷ [] = grind (arith, common_steps) in record {
       taken = λ more later.
-          let one : AreFaces layout turn c.faces.words (face ∷ more) = (t.0, left, t.1, t.2, later) in
-          subst (λ (fs : List (List ℕ)). AreFaces layout turn c.args.words.now fs)
+          let one : AreFaces layout orientation c.faces.words (face ∷ more) = (t.0, left, t.1, t.2, later) in
+          subst (λ (fs : List (List ℕ)). AreFaces layout orientation c.args.words.now fs)
           (sym (ap (λ (fs : List (List ℕ)). fs ++ more) pushed ∙ append_assoc c.faces.faces.items (face ∷ []) more))
           (c.faces.invariant.taken (face ∷ more) one);
       count = rw pushed (grind (arith, common_steps));
@@ -38,5 +38,5 @@ returns-in_err-finish-clause-fault c =
 
 pub returns-clause-ok : goal.returns-clause-ok
 returns-clause-ok c =
-    subst (λ (fs : List (List ℕ)). AreFaces c.args.reading.layout c.args.reading.turn c.args.words.now fs) (append-nil c.faces.faces.items)
+    subst (λ (fs : List (List ℕ)). AreFaces c.args.reading.layout c.args.reading.orientation c.args.words.now fs) (append-nil c.faces.faces.items)
     (c.faces.invariant.taken [] c.in_ok-finish.ensures.end)
