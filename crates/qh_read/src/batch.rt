@@ -79,25 +79,38 @@ impl Batch {
         Ok(at_end)
     }
 
-    /// Parses the segments, which several threads claim. Another thread calls `there` before it claims, and the calling
-    /// thread calls `here`; their results are returned. If an allocation fails, the batch has no segments, which only
-    /// costs time.
-    pub fn parse_beside<R: Threads + Sync, A: Send, B, T: FnMut() -> A + Send, H: FnMut() -> B>(
+    /// Parses the segments, which several threads claim. Before it claims, another thread feeds the batch `done` to a
+    /// reader, and the calling thread calls `here`; their results are returned. If an allocation fails, the batch has no
+    /// segments, which only costs time.
+    pub fn parse_beside<R: Threads + Sync, B, H: FnMut() -> B>(
         &mut self,
         rt: &R,
         sizes: Sizes,
-        there: &mut T,
+        reader: &mut Reader,
+        done: &Batch,
         here: &mut H,
-    ) -> (A, B)
+    ) -> (Result<(), FeedFault>, B)
         requires few { length (batch_text self.old) ≤ BYTE_LIMIT }
         requires parsed { IsParsed self.old }
-        requires there { T.pre there.old }
+        requires done { IsParsed done.now }
         requires here { H.pre here.old }
-        ensures there { T.step there.old result.0 there.new }
+        ensures fed { OnOk result.0 ((form : Form) (before : List ℕ) → Fed form reader.old before
+            → Fed form reader.new (before ++ batch_text done.now)) }
+        ensures count { OnOk result.0 (reader.new.count ≡ reader.old.count + length (batch_text done.now)) }
+        ensures big { result.0 ≡ Err FeedFault.Big
+            → BYTE_LIMIT < reader.old.count + length (batch_text done.now) }
         ensures here { H.step here.old result.1 here.new }
         ensures parsed { IsParsed self.new }
         ensures text { batch_text self.new ≡ batch_text self.old }
     {
+        let mut feed = || -> Result<(), FeedFault>
+            requires { IsParsed done.now }
+            ensures fed { OnOk result ((form : Form) (before : List ℕ) → Fed form reader.entry.now before
+                → Fed form reader.exit.now (before ++ batch_text done.entry.now)) }
+            ensures count { OnOk result (reader.exit.now.count ≡ reader.entry.now.count + length (batch_text done.entry.now)) }
+            ensures big { result ≡ Err FeedFault.Big
+                → BYTE_LIMIT < reader.entry.now.count + length (batch_text done.entry.now) }
+        { done.feed(reader) };
         let alloc = *self.bytes.allocator();
         let text = &self.bytes[..self.count];
         let count = sizes.segments.max(1);
@@ -111,11 +124,11 @@ impl Batch {
             count,
             f: &parse,
         };
-        let (a, b, segments) = map_claimed_beside(rt, alloc, &calls, there, here);
+        let (fed, answer, segments) = map_claimed_beside(rt, alloc, &calls, &mut feed, here);
         if let Ok(segments) = segments {
             self.segments = segments;
         }
-        (a, b)
+        (fed, answer)
     }
 
     /// Feeds the bytes to a reader, with the points of the segments.

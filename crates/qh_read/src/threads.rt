@@ -94,13 +94,6 @@ fn turn<R: Threads + Sync, S: Source>(
     let Batches { done, raw, next } = batches;
     let room = sizes.batch.clamp(1, BYTE_LIMIT as usize);
     let before = reader.fed() + (done.text().len() + raw.text().len()) as u32;
-    let mut feed = || -> Result<(), FeedFault>
-        requires { IsParsed done.now }
-        ensures fed { OnOk result ((form : Form) (bytes : List ℕ) → Fed form reader.entry.now bytes
-            → Fed form reader.exit.now (bytes ++ batch_text done.entry.now)) }
-        ensures count { OnOk result (reader.exit.now.count ≡ reader.entry.now.count + length (batch_text done.entry.now)) }
-        ensures big { result ≡ Err FeedFault.Big → BYTE_LIMIT < reader.entry.now.count + length (batch_text done.entry.now) }
-    { done.feed(reader) };
     let mut fill = || -> Result<bool, ReadFault>
         requires failures { S.failure_count source.now < 2 ^ 64 - 1 }
         requires before { before ≤ BYTE_LIMIT }
@@ -115,7 +108,7 @@ fn turn<R: Threads + Sync, S: Source>(
         ensures stops { IfErr result (λ e. Stops e before (S.remaining source.entry.now) (S.remaining source.exit.now)
             (S.failure_count source.entry.now) (S.failure_count source.exit.now)) }
     { next.fill(source, before, room) };
-    let (fed, at_end) = raw.parse_beside(rt, sizes, &mut feed, &mut fill);
+    let (fed, at_end) = raw.parse_beside(rt, sizes, reader, done, &mut fill);
     let at_end = at_end?;
     fed?;
     Ok(at_end)
@@ -142,15 +135,8 @@ fn feed_last<R: Threads + Sync>(
         done.feed(reader)?;
         return raw.feed(reader);
     }
-    let mut feed = || -> Result<(), FeedFault>
-        requires { IsParsed done.now }
-        ensures fed { OnOk result ((form : Form) (bytes : List ℕ) → Fed form reader.entry.now bytes
-            → Fed form reader.exit.now (bytes ++ batch_text done.entry.now)) }
-        ensures count { OnOk result (reader.exit.now.count ≡ reader.entry.now.count + length (batch_text done.entry.now)) }
-        ensures big { result ≡ Err FeedFault.Big → BYTE_LIMIT < reader.entry.now.count + length (batch_text done.entry.now) }
-    { done.feed(reader) };
     let mut nothing = || {};
-    let (fed, _) = raw.parse_beside(rt, sizes, &mut feed, &mut nothing);
+    let (fed, _) = raw.parse_beside(rt, sizes, reader, done, &mut nothing);
     fed?;
     raw.feed(reader)
 }
