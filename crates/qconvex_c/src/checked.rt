@@ -8,7 +8,7 @@ ghost use Rattle.qconvex_c.specs.contract.Codes.{QCONVEX_ROOM, QCONVEX_STARTS, Q
 ghost use Rattle.qconvex_c.specs.contract.Sets.{AreStarts};
 
 use crate::code::{DONE, MEMORY, STARTS};
-use crate::given::Given;
+use crate::given::CPoint;
 use crate::judging::judge;
 use crate::sets::are_starts;
 use crate::told::{judgement_on, verdict_of};
@@ -30,7 +30,7 @@ use std::alloc::Global;
 #[unsafe(no_mangle)]
 pub extern "C" fn qconvex_check(
     alloc: Global,
-    points: &[Given],
+    points: &[CPoint],
     offsets: &[usize],
     corners: &[u32],
     verdict: &mut Verdict,

@@ -10,7 +10,7 @@ ghost use Rattle.qconvex_c.specs.contract.Codes.{QCONVEX_DONE, QCONVEX_NO_POINT,
 use crate::buffers::{Buffers, fill};
 use crate::code::{DONE, ROOM};
 use crate::fan_lists::write_fans;
-use crate::given::Given;
+use crate::given::CPoint;
 use crate::given_hull::given_hull;
 use crate::sizes::Sizes;
 use std::alloc::Global;
@@ -28,7 +28,7 @@ use std::alloc::Global;
 #[unsafe(no_mangle)]
 pub extern "C" fn qconvex_hull(
     alloc: Global,
-    points: &[Given],
+    points: &[CPoint],
     sizes: &mut Sizes,
     extremes: &mut [u32],
     offsets: &mut [usize],
@@ -81,7 +81,7 @@ pub extern "C" fn qconvex_hull(
 #[unsafe(no_mangle)]
 pub extern "C" fn qconvex_fans(
     alloc: Global,
-    points: &[Given],
+    points: &[CPoint],
     count: &mut usize,
     triangles: &mut [u32],
     normals: &mut [i64],

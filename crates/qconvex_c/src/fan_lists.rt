@@ -8,7 +8,7 @@ ghost use Rattle.qconvex_c.specs.contract.Triangles.{AreFans, NeedsFanRoom};
 use crate::buffers::put;
 use crate::fans::{body_corners, body_normals};
 use crate::fault::Fault;
-use crate::given::{Given, points_of};
+use crate::given::{CPoint, points_of};
 use crate::judging::judge;
 use qh_hull::hull_alone;
 use qh_model::{Hull, Memory, Point};
@@ -37,7 +37,7 @@ fn fan_lists(alloc: Global, pts: &[Point], hull: &Hull) -> Result<FanLists, Memo
 }
 
 /// Returns the fans of the hull of valid points.
-fn fan_lists_of(alloc: Global, points: &[Given]) -> Result<FanLists, Memory>
+fn fan_lists_of(alloc: Global, points: &[CPoint]) -> Result<FanLists, Memory>
     requires some { 0 < length points.now }
     requires few { length points.now ≤ POINT_LIMIT }
     requires places { All IsPlace points.now }
@@ -73,7 +73,7 @@ fn fill_fans(fans: &FanLists, triangles: &mut [u32], normals: &mut [i64]) -> boo
 /// the number of triangles.
 pub fn write_fans(
     alloc: Global,
-    points: &[Given],
+    points: &[CPoint],
     count: &mut usize,
     triangles: &mut [u32],
     normals: &mut [i64],

@@ -12,13 +12,13 @@ use std::marker::Model;
 /// A contract sees it as its three whole numbers.
 #[repr(C)]
 #[derive(Clone, Copy, Debug)]
-pub struct Given {
+pub struct CPoint {
     x: i32,
     y: i32,
     z: i32,
 }
 
-impl Model for Given {
+impl Model for CPoint {
     ghost use Rattle.qh_model.specs.{contract.Places.vector_code, headline.Vector.Vector};
 
     ghost Value = { Vector };
@@ -30,12 +30,12 @@ impl Model for Given {
     ghost inverse = { λ p. record { x = p.x; y = p.y; z = p.z } };
 }
 
-impl Given {
+impl CPoint {
     /// Returns the point with these coordinates.
-    pub fn new(x: i32, y: i32, z: i32) -> Given
+    pub fn new(x: i32, y: i32, z: i32) -> CPoint
         ensures { result ≡ record { x = x; y = y; z = z } }
     {
-        Given { x, y, z }
+        CPoint { x, y, z }
     }
 }
 
@@ -47,14 +47,14 @@ fn is_coordinate(coordinate: i32) -> bool
 }
 
 /// Returns true if each coordinate of a point is in range.
-fn is_place(point: Given) -> bool
+fn is_place(point: CPoint) -> bool
     ensures { IsTrue result ↔ IsPlace point }
 {
     is_coordinate(point.x) && is_coordinate(point.y) && is_coordinate(point.z)
 }
 
 /// Returns true if each point is in range.
-pub fn are_places(points: &[Given]) -> bool
+pub fn are_places(points: &[CPoint]) -> bool
     ensures { IsTrue result ↔ All IsPlace points.now }
 {
     for point in points {
@@ -70,7 +70,7 @@ pub fn are_places(points: &[Given]) -> bool
 /// # Errors
 ///
 /// `Memory` if an allocation failed.
-pub fn points_of(alloc: Global, given: &[Given]) -> Result<Vec<Point>, Memory>
+pub fn points_of(alloc: Global, given: &[CPoint]) -> Result<Vec<Point>, Memory>
     requires { All IsPlace given.now }
     ensures { IfOk result (λ v. v.items ≡ given.now) }
 {
@@ -83,7 +83,7 @@ pub fn points_of(alloc: Global, given: &[Given]) -> Result<Vec<Point>, Memory>
 
 /// Returns one of the points, in the type that volumes use.
 #[tactic(auto, unfolding(qh_model::specs::headline::Predicates::place))]
-pub fn point_of(given: &[Given], index: u32) -> Point
+pub fn point_of(given: &[CPoint], index: u32) -> Point
     requires places { All IsPlace given.now }
     requires index { index < length given.now }
     ensures { result ≡ place given.now index }

@@ -6,14 +6,14 @@ ghost use Rattle.qconvex_c.specs.contract.Flat.{IsFlatHull};
 
 use crate::fault::Fault;
 use crate::flat_hull::{FlatHull, flat_hull};
-use crate::given::{Given, points_of};
+use crate::given::{CPoint, points_of};
 use crate::judging::judge;
 use qh_hull::hull_alone;
 use qh_model::Memory;
 use std::alloc::Global;
 
 /// Returns the hull of valid points, in flat lists.
-fn flat_hull_of(alloc: Global, points: &[Given]) -> Result<FlatHull, Memory>
+fn flat_hull_of(alloc: Global, points: &[CPoint]) -> Result<FlatHull, Memory>
     requires some { 0 < length points.now }
     requires few { length points.now ≤ POINT_LIMIT }
     requires places { All IsPlace points.now }
@@ -29,7 +29,7 @@ fn flat_hull_of(alloc: Global, points: &[Given]) -> Result<FlatHull, Memory>
 /// # Errors
 ///
 /// `NoPoint`, `TooMany`, `Range` and `Memory`.
-pub fn given_hull(alloc: Global, points: &[Given]) -> Result<FlatHull, Fault>
+pub fn given_hull(alloc: Global, points: &[CPoint]) -> Result<FlatHull, Fault>
     ensures hull { IfOk result (λ f. IsFlatHull points.now f.sizes f.extremes.items f.offsets.items f.corners.items) }
     ensures none { IsErrOf result Fault.NoPoint ↔ (length points.now ≡ 0) }
     ensures many { IsErrOf result Fault.TooMany ↔ (POINT_LIMIT < length points.now) }

@@ -4,7 +4,7 @@ ghost use Rattle.std.specs.List.{All};
 ghost use Rattle.qh_model.specs.{contract.Places.IsPlace, declared.limits.TheConstants.POINT_LIMIT};
 
 use crate::fault::Fault;
-use crate::given::{Given, are_places};
+use crate::given::{CPoint, are_places};
 use qh_model::POINT_LIMIT;
 
 /// Checks that points can have a hull here: there is at least one, there are not too many, and all coordinates are in
@@ -13,7 +13,7 @@ use qh_model::POINT_LIMIT;
 /// # Errors
 ///
 /// In this order: `NoPoint`, `TooMany`, `Range`.
-pub fn judge(points: &[Given]) -> Result<(), Fault>
+pub fn judge(points: &[CPoint]) -> Result<(), Fault>
     ensures none { IsErrOf result Fault.NoPoint ↔ (length points.now ≡ 0) }
     ensures many { IsErrOf result Fault.TooMany ↔ (POINT_LIMIT < length points.now) }
     ensures range { IsErrOf result Fault.Range ↔ ((0 < length points.now) × (length points.now ≤ POINT_LIMIT) × ¬ (All IsPlace points.now)) }

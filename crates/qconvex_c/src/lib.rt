@@ -8,6 +8,12 @@
 //! thread or keeps anything between calls.
 #![tactic(auto)]
 
+/// The points with these coordinates, as `points_at![0 0 0, 1 0 0]`.
+#[cfg(test)]
+macro_rules! points_at {
+    ($($x:literal $y:literal $z:literal),*) => { [$(crate::CPoint::new($x, $y, $z)),*] };
+}
+
 mod buffers;
 #[cfg(test)]
 mod check_tests;
@@ -46,7 +52,7 @@ mod volumes;
 pub use checked::qconvex_check;
 pub use code::{DONE, MEMORY, NO_POINT, NONE, RANGE, ROOM, STARTS, TOO_MANY};
 pub use exported::{qconvex_fans, qconvex_hull};
-pub use given::Given;
+pub use given::CPoint;
 pub use kind::{ABOVE, NO_PLANE, OPEN, OTHER_FACE, OTHERS, RIGHT, STRANGER, TWICE};
 pub use many::qconvex_hulls;
 pub use neighbors::qconvex_neighbors;

@@ -5,7 +5,7 @@ ghost use Rattle.qconvex_c.specs.contract.Codes.{QCONVEX_DONE, QCONVEX_ROOM, QCO
 
 use crate::buffers::Buffers;
 use crate::code::{DONE, ROOM, STARTS};
-use crate::given::Given;
+use crate::given::CPoint;
 use crate::set_answer::SetAnswer;
 use crate::set_hulls::hull_of_set;
 use crate::sets::{Rooms, are_starts, have_room, set_at};
@@ -24,7 +24,7 @@ use std::alloc::Global;
 #[unsafe(no_mangle)]
 pub extern "C" fn qconvex_hulls(
     alloc: Global,
-    points: &[Given],
+    points: &[CPoint],
     starts: &[usize],
     answers: &mut [SetAnswer],
     extremes: &mut [u32],

@@ -5,7 +5,7 @@ ghost use Rattle.qconvex_c.specs.steps.Buffers.{AreSame, HaveParts};
 
 use crate::buffers::Buffers;
 use crate::exported::qconvex_hull;
-use crate::given::Given;
+use crate::given::CPoint;
 use crate::set_answer::SetAnswer;
 use crate::sets::Set;
 use crate::sizes::Sizes;
@@ -27,7 +27,7 @@ pub fn no_sizes() -> Sizes
 }
 
 /// Writes the hull of one set to its part of each buffer, and returns the answer of the set.
-pub fn hull_of_set(alloc: Global, points: &[Given], set: Set, buffers: &mut Buffers) -> SetAnswer
+pub fn hull_of_set(alloc: Global, points: &[CPoint], set: Set, buffers: &mut Buffers) -> SetAnswer
     requires rising { set.begin ≤ set.end }
     requires within { set.end ≤ length points.now }
     requires parts { HaveParts buffers.old set }

@@ -1,6 +1,6 @@
 //! Rows of many sets, with the lists of Geomview's OFF for a tetrahedron and a segment.
 use crate::set_hulls::no_sizes;
-use crate::{DONE, Given, NO_POINT, SetAnswer, Sizes, qconvex_hulls};
+use crate::{CPoint, DONE, NO_POINT, SetAnswer, Sizes, qconvex_hulls};
 use std::alloc::Global;
 use std::test::Fail;
 
@@ -19,15 +19,8 @@ const CORNERS: [u32; 49] = [
 ];
 
 /// Returns a tetrahedron, and a segment.
-fn points() -> [Given; 6] {
-    [
-        Given::new(0, 0, 0),
-        Given::new(1, 0, 0),
-        Given::new(0, 1, 0),
-        Given::new(0, 0, 1),
-        Given::new(5, 5, 5),
-        Given::new(3, 5, 5),
-    ]
+fn points() -> [CPoint; 6] {
+    points_at![0 0 0, 1 0 0, 0 1 0, 0 0 1, 5 5 5, 3 5 5]
 }
 
 /// Returns the codes and the numbers of faces of two sets and an empty set between them, and true if the buffers have

@@ -1,22 +1,12 @@
 //! Rows with expected values from outside: the lists of Geomview's OFF for a cube and a point.
 use crate::set_hulls::no_sizes;
-use crate::{DONE, Given, Sizes, qconvex_fans, qconvex_hull};
+use crate::{CPoint, DONE, Sizes, qconvex_fans, qconvex_hull};
 use std::alloc::Global;
 use std::test::Fail;
 
 /// Returns the corners of a cube, in rising order of their coordinates, and the first one twice.
-pub(crate) fn cube() -> [Given; 9] {
-    [
-        Given::new(0, 0, 0),
-        Given::new(0, 0, 1),
-        Given::new(0, 1, 0),
-        Given::new(0, 1, 1),
-        Given::new(1, 0, 0),
-        Given::new(1, 0, 1),
-        Given::new(1, 1, 0),
-        Given::new(1, 1, 1),
-        Given::new(0, 0, 0),
-    ]
+pub(crate) fn cube() -> [CPoint; 9] {
+    points_at![0 0 0, 0 0 1, 0 1 0, 0 1 1, 1 0 0, 1 0 1, 1 1 0, 1 1 1, 0 0 0]
 }
 
 /// The extreme points of the cube, and unused room.
@@ -68,13 +58,7 @@ const NORMALS: [i64; 19] = [0, -2, 0, 0, 0, -4, 0, 0, -4, -2, 0, 0, 2, 0, 4, 0, 
 
 /// Returns the number of triangles of a pyramid, and true if its buffers have the expected contents.
 fn fans_of_pyramid(alloc: Global) -> (usize, bool) {
-    let pyramid = [
-        Given::new(0, 0, 0),
-        Given::new(2, 0, 0),
-        Given::new(2, 2, 0),
-        Given::new(0, 2, 0),
-        Given::new(0, 0, 1),
-    ];
+    let pyramid = points_at![0 0 0, 2 0 0, 2 2 0, 0 2 0, 0 0 1];
     let mut count = 0usize;
     let (mut triangles, mut normals) = ([99u32; 19], [99i64; 19]);
     let code = qconvex_fans(alloc, &pyramid, &mut count, &mut triangles, &mut normals);
@@ -108,10 +92,10 @@ fn fields_as_in_the_header(rt: HostRuntime) -> Result<(), Fail> {
         text.as_str(),
         "Sizes { points: 1, distinct: 2, dimension: 3, extremes: 4, faces: 5, corners: 6, edges: 7 }"
     );
-    let text = format!(in rt.alloc(); "{:?}", Given::new(1, 2, 3))?;
-    assert_eq!(rt; text.as_str(), "Given { x: 1, y: 2, z: 3 }");
+    let text = format!(in rt.alloc(); "{:?}", CPoint::new(1, 2, 3))?;
+    assert_eq!(rt; text.as_str(), "CPoint { x: 1, y: 2, z: 3 }");
     assert_eq!(rt;
-        (size_of::<Sizes>(), size_of::<Given>()),
+        (size_of::<Sizes>(), size_of::<CPoint>()),
         (48usize, 12usize)
     );
     Ok(())

@@ -8,7 +8,7 @@ ghost use Rattle.qconvex_c.specs.contract.Checked.{IsVerdictOn, of_kind, on_edge
 ghost use Rattle.qconvex_c.specs.contract.Sets.{AreStarts};
 
 use crate::cut_faces::cut_faces;
-use crate::given::{Given, points_of};
+use crate::given::{CPoint, points_of};
 use crate::kind::{ABOVE, NO_PLANE, OPEN, OTHER_FACE, OTHERS, RIGHT, STRANGER, TWICE};
 use crate::verdict::Verdict;
 use qh_check::{FaceFault, Judgement, SurfaceVerdict, judge_faces_alone};
@@ -91,7 +91,7 @@ pub fn verdict_of(judgement: Judgement) -> Verdict
 /// `Memory` if an allocation failed.
 pub fn judgement_on(
     alloc: Global,
-    points: &[Given],
+    points: &[CPoint],
     offsets: &[usize],
     corners: &[u32],
 ) -> Result<Judgement, Memory>

@@ -1,15 +1,10 @@
 //! Rows of volumes: the tetrahedron of the origin and the unit vectors has a sixth of the unit cube's volume.
-use crate::{DONE, Given, Wide, qconvex_six_volumes};
+use crate::{DONE, Wide, qconvex_six_volumes};
 use std::test::Fail;
 
 #[test]
 fn corner_of_a_cube(rt: HostRuntime) -> Result<(), Fail> {
-    let points = [
-        Given::new(0, 0, 0),
-        Given::new(1, 0, 0),
-        Given::new(0, 1, 0),
-        Given::new(0, 0, 1),
-    ];
+    let points = points_at![0 0 0, 1 0 0, 0 1 0, 0 0 1];
     let mut volume = Wide { low: 9, high: 9 };
     let outward = [0u32, 2, 1, 0, 1, 3, 0, 3, 2, 1, 2, 3];
     let code = qconvex_six_volumes(&points, &outward, &mut volume);

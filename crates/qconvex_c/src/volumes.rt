@@ -6,7 +6,7 @@ ghost use Rattle.qconvex_c.specs.contract.Volumes.{six_volumes, PartialSumsFit};
 ghost use Rattle.qconvex_c.specs.contract.Codes.{QCONVEX_DONE, QCONVEX_NO_POINT, QCONVEX_RANGE, QCONVEX_ROOM};
 
 use crate::code::{DONE, NO_POINT, RANGE, ROOM};
-use crate::given::{Given, are_places, point_of};
+use crate::given::{CPoint, are_places, point_of};
 use qh_pred::vol;
 
 /// A whole number of 128 bits, two's complement, in two words.
@@ -31,7 +31,7 @@ fn words_of(number: i128) -> Wide
 }
 
 /// Returns true if each corner is the index of a point.
-fn are_indices(corners: &[u32], points: &[Given]) -> bool
+fn are_indices(corners: &[u32], points: &[CPoint]) -> bool
     ensures { IsTrue result ↔ AreIndices points.now corners.now }
 {
     for corner in corners {
@@ -43,7 +43,7 @@ fn are_indices(corners: &[u32], points: &[Given]) -> bool
 }
 
 /// Returns the sum over triangles, or `None` if the sum or a partial sum does not fit into 128 bits.
-fn sum_of_volumes(points: &[Given], triangles: &[u32]) -> Option<i128>
+fn sum_of_volumes(points: &[CPoint], triangles: &[u32]) -> Option<i128>
     requires some { 0 < length points.now }
     requires places { All IsPlace points.now }
     requires indices { AreIndices points.now triangles.now }
@@ -76,7 +76,11 @@ fn sum_of_volumes(points: &[Given], triangles: &[u32]) -> Option<i128>
 /// `volume` is the sum, `NO_POINT`, `RANGE` if a coordinate is out of range or a corner is not the index of a point, or
 /// `ROOM` if the sum or a partial sum has more than 128 bits. `volume` is unchanged except for `DONE`.
 #[unsafe(no_mangle)]
-pub extern "C" fn qconvex_six_volumes(points: &[Given], triangles: &[u32], volume: &mut Wide) -> u32
+pub extern "C" fn qconvex_six_volumes(
+    points: &[CPoint],
+    triangles: &[u32],
+    volume: &mut Wide,
+) -> u32
     ensures done { result ≡ QCONVEX_DONE
         → volume.new.low + 2 ^ 64 * volume.new.high ≡ cast_unsigned w128
         (six_volumes (place points.now) (place points.now 0) triangles.now) }
