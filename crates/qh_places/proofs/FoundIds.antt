@@ -8,7 +8,7 @@ use Rattle.qh_model.proofs.lists.Joined.{in_append, of_append}
 use Rattle.qh_pred.specs.contract.Planes.{PlaneValue, height}
 use Rattle.qh_places.specs.contract.{Bundles.IsOfBundle, Near.rise_at, Near.IsNear, Places.ArePlaces, Places.IsAbove, Places.AreLevel}
 use Rattle.qh_places.specs.declared.places.{Places.Places, Near.Near}
-use Rattle.qh_places.specs.steps.Levels.{AreBelow, AreOn, IsAboveAt, HasLooked, HasSeen}
+use Rattle.qh_places.specs.steps.Levels.{AreOn, IsAboveAt, HasLooked, HasSeen}
 use Rattle.qh_places.proofs.NearPositions.{begun}
 
 -- ---- position by position
@@ -18,15 +18,6 @@ module _ (points : List Vector) (ids : List ℕ) (plane : PlaneValue) where
   look_start from old = record {
     below = λ k f h l. absurd (omega arith);
     lists = λ k f h l e. absurd (omega arith);
-    kept = λ i m. m;
-    only = λ o. o;
-  }
-
-  -- points that the plane is above
-  pub looked_below : (from to : ℕ) (old : List ℕ) → AreBelow points plane from to → HasLooked points ids plane from to old old
-  looked_below from to old b = record {
-    below = λ k f h l. less_le _ _ (b k f h l);
-    lists = λ k f h l e. absurd (less_differ _ _ (b k f h l) e);
     kept = λ i m. m;
     only = λ o. o;
   }

@@ -1,5 +1,5 @@
 -- Members of a list: a test that finds them, and those before and after a cut.
-use Rattle.std.proofs.Common.{◌≡◌, ℕ, zero, suc, ◌⊎◌, inl, inr, List, [], ◌∷◌, length, take, drop, subst, arith, refl, sym, Bool, true, false, eqb, eqb-true}
+use Rattle.std.proofs.Common.{◌≡◌, ℕ, zero, suc, ◌⊎◌, inl, inr, List, [], ◌∷◌, take, drop, subst, refl, sym, Bool, true, false, eqb, eqb-true}
 use Rattle.std.specs.{Prelude.◌||◌, List.list_any, Cmp.Lexicographic.pointwise}
 use Rattle.qh_model.specs.headline.Sets.{In}
 use Rattle.qh_model.proofs.closed_surfaces.SignedVolume.{eqb-refl}
@@ -43,11 +43,6 @@ pub in_back : {X : Type 0} (n : ℕ) (xs : List X) (x : X) → In x (drop n xs) 
 in_back zero xs x m = m
 in_back (suc n) [] x m = absurd m
 in_back (suc n) (y ∷ xs) x m = inr (in_back n xs x m)
-
--- a list of length 0 has no member
-pub in_none : (xs : List ℕ) (x : ℕ) → length xs ≡ 0 → In x xs → ⊥
-in_none [] x e m = absurd m
-in_none (y ∷ ys) x e m = absurd (omega (arith, e))
 
 -- a list equals itself
 pub same_itself : (xs : List ℕ) → pointwise eqb xs xs ≡ true

@@ -1,6 +1,6 @@
 -- A property of each element of a list so far, of one more, and of all.
 use Rattle.std.proofs.Common.{◌≡◌, ℕ, ◌+◌, ◌<◌, ◌≤◌, arith, sym, subst, List, length, get_or, slice_index, take, All}
-use Rattle.std.proofs.lemmas.List.{get_or_default, get_or-take, length-take, take_more}
+use Rattle.std.proofs.lemmas.List.{get_or-take, length-take, take_more}
 use Rattle.qh_model.specs.headline.Sets.{In}
 use Rattle.qh_model.proofs.Members.{all_and, in_at}
 
@@ -9,11 +9,6 @@ pub all_goes : {X : Type 0} (P : X → Type 0) (xs : List X) (k : ℕ) (x : X) �
     → x ≡ get_or xs k x → P x → All P (take (k + 1) xs)
 all_goes P xs k x h l e p =
     subst (All P) (sym (take_more xs k x l)) (all_and P (take k xs) (get_or xs k x) h (subst P e p))
-
--- the property of one more number
-pub all_next : (P : ℕ → Type 0) (xs : List ℕ) (k : ℕ) → All P (take k xs) → k < length xs → P (get_or xs k 0)
-    → All P (take (k + 1) xs)
-all_next P xs k h l p = all_goes P xs k (get_or xs k 0) h l (sym (get_or_default xs k (get_or xs k 0) 0 l)) p
 
 -- the property of all
 pub all_ends : {X : Type 0} (P : X → Type 0) (xs : List X) (k : ℕ) → length xs ≤ k → All P (take k xs) → All P xs
