@@ -3,7 +3,7 @@ use Rattle.std.proofs.Common.{ℕ, ◌+◌, ◌≤◌, inl, inr, List, [], ◌�
 use Rattle.std.proofs.lemmas.List.{length-append}
 use Rattle.std.specs.Prelude.{◌↔◌}
 use Rattle.qh_model.specs.{contract.FinishedSurface.IsFinished, contract.Surface.Surface, headline.Vector.Vector, headline.Sets.In, headline.Sets.Once}
-use Rattle.qh_model.proofs.lists.{Joined.in_append, Joined.of_append, OnceEach.once_within}
+use Rattle.qh_model.proofs.{lists.Joined.in_append, lists.Joined.of_append, lists.OnceEach.once_within, surfaces.Inside.finished_over}
 
 module _ {X : Type 0} (each : List X) (once : Once each) where
   -- if the members of `each` are in two lists that together are no longer, the second list has each of its members once
@@ -37,20 +37,4 @@ module _ {X : Type 0} (each : List X) (once : Once each) where
 
 -- a surface is finished for the same ids in another list
 pub finished_for : (at : ℕ → Vector) (a b : List ℕ) (m : Surface) → IsFinished at a m → ((l : ℕ) → In l a ↔ In l b) → IsFinished at b m
-finished_for at a b m z same = record {
-  s = z.s;
-  t = z.t;
-  u = z.u;
-  v = z.v;
-  has_s = (same z.s).0 z.has_s;
-  has_t = (same z.t).0 z.has_t;
-  has_u = (same z.u).0 z.has_u;
-  has_v = (same z.v).0 z.has_v;
-  volume = z.volume;
-  whole = z.whole;
-  sound = z.sound;
-  some = z.some;
-  some_live = z.some_live;
-  corners = λ f i l k. (same l).0 (z.corners f i l k);
-  unseen = λ f i l k. z.unseen f i l ((same l).1 k);
-}
+finished_for at a b m z same = finished_over at a b m z (λ l. (same l).0) (λ f i l k. z.unseen f i l ((same l).1 k))

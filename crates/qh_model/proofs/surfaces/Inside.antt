@@ -1,35 +1,37 @@
 -- A point strictly below all facets of the surface of a part of a set is no extreme point of the set.
-use Rattle.std.proofs.Common.{◌≡◌, ℕ, inl, inr, List, ◌∷◌, refl, sym, subst}
+use Rattle.std.proofs.Common.{◌≡◌, ℕ, inl, inr, List, ◌∷◌, refl}
 use Rattle.std.specs.Prelude.{pos, ◌≤ℤ◌, ◌<ℤ◌}
 use Rattle.qh_model.specs.{contract.FinishedSurface.IsFinished, contract.Surface.Surface, headline.Extreme.Others, headline.Extreme.Extreme}
 use Rattle.qh_model.specs.{headline.Predicates.vol, headline.Sets.In, headline.Sets.Members, headline.Vector.Vector, laws.CompletenessLaws.IsLiveCorner}
 use Rattle.qh_model.proofs.algebra.{Signs.less_differ, Signs.less_le, VectorIdentities.vol-first, VectorIdentities.vol-second, VectorIdentities.vol-third}
-use Rattle.qh_model.proofs.{extremes.ExtremeIds.combination_within, surfaces.Facets.of_corners, surfaces.Finished.extremes_are_corners}
+use Rattle.qh_model.proofs.{Members.each_more, extremes.ExtremeIds.combination_within, surfaces.Facets.of_corners, surfaces.Finished.extremes_are_corners}
 
--- a surface stays finished with one more id that is above no facet
-pub finished_with : (at : ℕ → Vector) (ids : List ℕ) (m : Surface) → IsFinished at ids m → (l : ℕ)
-    → ((f : ℕ) → In f m.live → vol (at (m.i f)) (at (m.j f)) (at (m.k f)) (at l) ≤ℤ pos 0) → IsFinished at (l ∷ ids) m
-finished_with at ids m z l b = record {
+-- a surface is finished for each list that has its ids and no id above a facet
+pub finished_over : (at : ℕ → Vector) (ids more : List ℕ) (m : Surface) → IsFinished at ids m → ((l : ℕ) → In l ids → In l more)
+    → ((f : ℕ) → In f m.live → (l : ℕ) → In l more → vol (at (m.i f)) (at (m.j f)) (at (m.k f)) (at l) ≤ℤ pos 0) → IsFinished at more m
+finished_over at ids more m z sub unseen = record {
   s = z.s;
   t = z.t;
   u = z.u;
   v = z.v;
-  has_s = inr z.has_s;
-  has_t = inr z.has_t;
-  has_u = inr z.has_u;
-  has_v = inr z.has_v;
+  has_s = sub z.s z.has_s;
+  has_t = sub z.t z.has_t;
+  has_u = sub z.u z.has_u;
+  has_v = sub z.v z.has_v;
   volume = z.volume;
   whole = z.whole;
   sound = z.sound;
   some = z.some;
   some_live = z.some_live;
-  corners = λ f i k c. inr (z.corners f i k c);
+  corners = λ f i l c. sub l (z.corners f i l c);
   unseen = unseen;
 }
-  where
-    unseen : (f : ℕ) → In f m.live → (k : ℕ) → Members (l ∷ ids) k → vol (at (m.i f)) (at (m.j f)) (at (m.k f)) (at k) ≤ℤ pos 0
-    unseen f i k (inl e) = subst (λ (n : ℕ). vol (at (m.i f)) (at (m.j f)) (at (m.k f)) (at n) ≤ℤ pos 0) (sym e) (b f i)
-    unseen f i k (inr h) = z.unseen f i k h
+
+-- one more id that is above no facet
+pub finished_with : (at : ℕ → Vector) (ids : List ℕ) (m : Surface) → IsFinished at ids m → (l : ℕ)
+    → ((f : ℕ) → In f m.live → vol (at (m.i f)) (at (m.j f)) (at (m.k f)) (at l) ≤ℤ pos 0) → IsFinished at (l ∷ ids) m
+finished_with at ids m z l b = finished_over at ids (l ∷ ids) m z (λ k i. inr i) (λ f i.
+    each_more (λ k. vol (at (m.i f)) (at (m.j f)) (at (m.k f)) (at k) ≤ℤ pos 0) l ids (b f i) (z.unseen f i))
 
 module _ (at : ℕ → Vector) (part : List ℕ) (m : Surface) (z : IsFinished at part m) (l : ℕ)
     (below : (f : ℕ) → In f m.live → vol (at (m.i f)) (at (m.j f)) (at (m.k f)) (at l) <ℤ pos 0) where

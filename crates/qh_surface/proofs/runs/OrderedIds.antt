@@ -8,7 +8,8 @@ use Rattle.qh_model.specs.contract.{FinishedSurface.IsFinished, Surface.Surface,
 use Rattle.qh_model.specs.contract.{StoredSurface.StoredFacet, StoredSurface.named_facet, StoredSurface.surface_of, IdSets.AreIndices}
 use Rattle.qh_model.specs.headline.{Vector.Vector, Vector.origin, Predicates.place, Predicates.vol, Sets.In, Sets.Once, Sets.Members}
 use Rattle.qh_model.proofs.Members.{All-In, All-of, In-get_or, every_of, every_at, in_permutation}
-use Rattle.qh_model.proofs.{lists.Ranges.range_below, surfaces.Named.IsNamed, surfaces.Named.stored_named, surfaces.Stored.live_is_marked}
+use Rattle.qh_model.proofs.{lists.Ranges.range_below, surfaces.Inside.finished_over, surfaces.Named.IsNamed, surfaces.Named.stored_named}
+use Rattle.qh_model.proofs.surfaces.Stored.{live_is_marked}
 use Rattle.qh_mesh.specs.contract.{Names.name_in, Replacement.IsLive}
 use Rattle.qh_surface.specs.{contract.Corners.AreCornersBelow, contract.Simplexes.IsSimplexOf, declared.starts.initial_simplex.Simplex.Simplex}
 use Rattle.qh_surface.specs.steps.Positions.{IsSimplexIn, IsPositionOf, ArePositionsOf}
@@ -20,23 +21,7 @@ module _ {ids near : List ℕ} (p : IsPermutation ids near) where
 
   -- a surface that is finished for ids is finished for the same ids in another order
   pub finished_reordered : {at : ℕ → Vector} {m : Surface} → IsFinished at near m → IsFinished at ids m
-  finished_reordered h = record {
-    s = h.s;
-    t = h.t;
-    u = h.u;
-    v = h.v;
-    has_s = back h.s h.has_s;
-    has_t = back h.t h.has_t;
-    has_u = back h.u h.has_u;
-    has_v = back h.v h.has_v;
-    volume = h.volume;
-    whole = h.whole;
-    sound = h.sound;
-    some = h.some;
-    some_live = h.some_live;
-    corners = λ f i l c. back l (h.corners f i l c);
-    unseen = λ f i l k. h.unseen f i l (in_permutation ids near p l k);
-  }
+  finished_reordered {at} {m} h = finished_over at near ids m h back (λ f i l k. h.unseen f i l (in_permutation ids near p l k))
 
   -- the ids are indices in any order
   pub indices_reordered : (pts : List Vector) → AreIndices pts ids → AreIndices pts near
