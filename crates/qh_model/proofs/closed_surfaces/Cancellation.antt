@@ -5,7 +5,8 @@ use Rattle.std.proofs.lemmas.{Bool.eqb-true, Int.ints}
 use Rattle.std.specs.{List.AllByRecursion as Each, List.flat_map, Prelude.ℤ, Prelude.pos, Prelude.◌+ℤ◌, Prelude.◌*ℤ◌, Prelude.neg_ℤ, Prelude.◌≤ℤ◌, Prelude.◌<ℤ◌}
 use Rattle.qh_model.specs.{contract.ClosedSurface.Triple, contract.ClosedSurface.IsClosed, headline.Predicates.vol, headline.Sets.In}
 use Rattle.qh_model.specs.{headline.Vector.Vector, headline.Vector.dot, laws.ClosedSurfaceLaws.IsCornerOf, laws.ClosedSurfaceLaws.NoneBelowAndBeyond}
-use Rattle.qh_model.proofs.{Members.every_of, algebra.Integers.mul_swap, algebra.Integers.mul_assoc, algebra.Ring.ring, lists.Joined.in_flat_map, lists.Joined.of_flat_map}
+use Rattle.qh_model.proofs.{Members.every_of, algebra.Ring.ring, lists.Joined.in_flat_map, lists.Joined.of_flat_map}
+use Rattle.qh_model.proofs.algebra.Integers.{mul_swap, mul_assoc}
 use Rattle.qh_model.proofs.algebra.Order.{mul-pos, mul-neg_pos, mul-nonpos_nonneg, positive_le}
 use Rattle.qh_model.proofs.algebra.Ring.Expr.{var, add, sub as less, mul, neg}
 use Rattle.qh_model.proofs.algebra.Signs.{gap_positive, less_le, equal_nonpos, equal_negative}

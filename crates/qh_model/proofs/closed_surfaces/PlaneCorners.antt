@@ -1,5 +1,5 @@
--- Supporting triangles that close up have a triangle at each extreme id of a plane that has one of them. Otherwise, with weights by a direction that puts the id
--- beyond the other members of the plane, the terms of the triangles in the plane and those of the edges of the others would not cancel.
+-- Supporting triangles that close up have a triangle at each extreme id of a plane that has one of them. Otherwise, with weights by a direction that puts the
+-- id beyond the other members of the plane, the terms of the triangles in the plane and those of the edges of the others would not cancel.
 use Rattle.std.proofs.Common.{◌≡◌, ◌≢◌, ℕ, arith, refl, sym, subst, ◌∙◌, inl, inr, ⊎_elim, List, [], ◌∷◌}
 use Rattle.std.proofs.lemmas.{Int.ints}
 use Rattle.std.specs.Prelude.{ℤ, pos, ◌+ℤ◌, ◌-ℤ◌, ◌*ℤ◌, neg_ℤ, ◌≤ℤ◌, ◌<ℤ◌, filter}
@@ -9,9 +9,9 @@ use Rattle.qh_model.specs.headline.{SupportingPlane.IsSupportingTriple, Supporti
 use Rattle.qh_model.specs.laws.{ClosedFaceLaws.AreSupporting, Separator.Separator}
 use Rattle.qh_model.proofs.Decisions.{Decided, test, told, holds, both, contrary, same_id, in_or_not, each_or_not, some_or_none}
 use Rattle.qh_model.proofs.{Members.each_of_three, Members.every_of, lists.Filters.in_filter, lists.Filters.of_filter, extremes.ExtremeIds.separated}
-use Rattle.qh_model.proofs.algebra.{Integers.neg_mul, Integers.zero_mul, Ring.Expr, Ring.ring, Ring.Expr.con, Ring.Expr.add, Ring.Expr.sub as less, Ring.Expr.mul}
+use Rattle.qh_model.proofs.algebra.{Integers.neg_mul, Integers.zero_mul, Signs.equal_le}
+use Rattle.qh_model.proofs.algebra.Ring.{Expr, ring, Expr.con, Expr.add, Expr.sub as less, Expr.mul}
 use Rattle.qh_model.proofs.algebra.Order.{mul-nonneg, mul-pos, mul-nonpos_nonneg, cancel-zero, product_zero, zero_or_not, le_less, positive_le, negative_le}
-use Rattle.qh_model.proofs.algebra.Signs.{equal_le}
 use Rattle.qh_model.proofs.algebra.VectorIdentities.{vec, put, dotE, volE, VE, vol-first, vol-second, vol-third, vol-flip, vol-flip_last, vol-swap_last}
 use Rattle.qh_model.proofs.closed_surfaces.Cancellation.{edge_part, edge_part-back, round_sign, prod_z, prod-pos, others, others-pos, others-same}
 use Rattle.qh_model.proofs.closed_surfaces.SignedVolume.{around, none_lower, vol_at}

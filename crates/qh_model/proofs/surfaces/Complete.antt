@@ -2,7 +2,8 @@
 use Rattle.std.proofs.Common.{◌≡◌, ℕ, refl, inl, List}
 use Rattle.std.specs.Prelude.{pos, ◌↔◌}
 use Rattle.qh_model.specs.contract.{FinishedSurface.IsFinished, Surface.Surface}
-use Rattle.qh_model.specs.headline.{Dimension.HasTetrahedron, Vector.Vector, Extreme.Extreme, Polygons.IsFacePolygon, Predicates.cross, Predicates.vol, Sets.In, Sets.Members, SupportingPlane.OnPlane}
+use Rattle.qh_model.specs.headline.{Dimension.HasTetrahedron, Extreme.Extreme, Polygons.IsFacePolygon, Predicates.cross, Predicates.vol, Sets.In}
+use Rattle.qh_model.specs.headline.{Sets.Members, SupportingPlane.OnPlane, Vector.Vector}
 use Rattle.qh_model.specs.laws.CompletenessLaws.{CornerInPlane, IsLiveCorner, FacetOfPlane, FinishedIsSolid, ExtremesOfCorners, ExtremesOfPlane}
 use Rattle.qh_model.specs.laws.CompletenessLaws.{PolygonsOfFacets}
 use Rattle.qh_model.proofs.{algebra.Order.zero_or_not, algebra.Signs.less_differ, extremes.Directions.along_back}

@@ -6,7 +6,8 @@ use Rattle.qh_model.specs.contract.{FinishedSurface.weighted_at, FinishedSurface
 use Rattle.qh_model.specs.{contract.SoundSurface.towards, contract.Surface.rise, contract.Surface.Sees, contract.Weighted.Weighted, contract.Weighted.above}
 use Rattle.qh_model.specs.{headline.Sets.In, headline.Vector.Vector}
 use Rattle.qh_model.specs.laws.FacetPlanes.{IsLevelWith, IsLevelFacet, IsPlaneWalk, LevelFacetsSpan, PlaneWalkFindsAll}
-use Rattle.qh_model.proofs.algebra.{Integers.one_mul, Integers.neg_mul, Order.product_zero, Order.le_antisym, Ring.ring, Ring.Expr.var, Ring.Expr.add, Ring.Expr.mul}
+use Rattle.qh_model.proofs.algebra.{Integers.one_mul, Integers.neg_mul, Order.product_zero, Order.le_antisym}
+use Rattle.qh_model.proofs.algebra.Ring.{ring, Expr.var, Expr.add, Expr.mul}
 use Rattle.qh_model.proofs.algebra.{Signs.equal_le, VectorIdentities.vol-first, VectorIdentities.vol-second, VectorIdentities.vol-third}
 use Rattle.qh_model.proofs.surfaces.{Determinants.above_of, Determinants.quad, Determinants.aboveE, Determinants.put4, Facets.middle, Facets.of_corners}
 use Rattle.qh_model.proofs.surfaces.{Facets.sum_blind, Facets.sum_level, Facets.level_parts, Finished.one_plane, Finished.unseen_above, Finished.facets_support}
