@@ -17,38 +17,23 @@ new-requires c = record {
       c.greater-3.ensures.end;
 }
 
-pub returns-clause-corner : goal.returns-clause-corner
-returns-clause-corner c = record {
-  x = made_one _ _ c.greater.result c.x.result c.x-2.result _ c.x.type_inv c.x-2.type_inv c.greater.type_inv
-      c.x.ensures.value c.x-2.ensures.value (ap (λ (v : Vector). v.x) c.new.ensures) c.greater.ensures.end;
-  y = made_one _ _ c.greater-2.result c.y.result c.y-2.result _ c.y.type_inv c.y-2.type_inv c.greater-2.type_inv
-      c.y.ensures.value c.y-2.ensures.value (ap (λ (v : Vector). v.y) c.new.ensures) c.greater-2.ensures.end;
-  z = made_one _ _ c.greater-3.result c.z.result c.z-2.result _ c.z.type_inv c.z-2.type_inv c.greater-3.type_inv
-      c.z.ensures.value c.z-2.ensures.value (ap (λ (v : Vector). v.z) c.new.ensures) c.greater-3.ensures.end;
-}
-
-pub returns-clause-one : goal.returns-clause-one
-returns-clause-one c = record {
-  x = (made_above _ _ c.greater.result c.x.result c.x-2.result _ c.x.type_inv c.x-2.type_inv c.greater.type_inv
-      c.x.ensures.value c.x-2.ensures.value (ap (λ (v : Vector). v.x) c.new.ensures)
-      (c.greater.ensures.one, c.greater.ensures.two)).0;
-  y = (made_above _ _ c.greater-2.result c.y.result c.y-2.result _ c.y.type_inv c.y-2.type_inv c.greater-2.type_inv
-      c.y.ensures.value c.y-2.ensures.value (ap (λ (v : Vector). v.y) c.new.ensures)
-      (c.greater-2.ensures.one, c.greater-2.ensures.two)).0;
-  z = (made_above _ _ c.greater-3.result c.z.result c.z-2.result _ c.z.type_inv c.z-2.type_inv c.greater-3.type_inv
-      c.z.ensures.value c.z-2.ensures.value (ap (λ (v : Vector). v.z) c.new.ensures)
-      (c.greater-3.ensures.one, c.greater-3.ensures.two)).0;
-}
-
-pub returns-clause-two : goal.returns-clause-two
-returns-clause-two c = record {
-  x = (made_above _ _ c.greater.result c.x.result c.x-2.result _ c.x.type_inv c.x-2.type_inv c.greater.type_inv
-      c.x.ensures.value c.x-2.ensures.value (ap (λ (v : Vector). v.x) c.new.ensures)
-      (c.greater.ensures.one, c.greater.ensures.two)).1;
-  y = (made_above _ _ c.greater-2.result c.y.result c.y-2.result _ c.y.type_inv c.y-2.type_inv c.greater-2.type_inv
-      c.y.ensures.value c.y-2.ensures.value (ap (λ (v : Vector). v.y) c.new.ensures)
-      (c.greater-2.ensures.one, c.greater-2.ensures.two)).1;
-  z = (made_above _ _ c.greater-3.result c.z.result c.z-2.result _ c.z.type_inv c.z-2.type_inv c.greater-3.type_inv
-      c.z.ensures.value c.z-2.ensures.value (ap (λ (v : Vector). v.z) c.new.ensures)
-      (c.greater-3.ensures.one, c.greater-3.ensures.two)).1;
-}
+pub returns : goal.returns
+returns c =
+    let x = made_above _ _ c.greater.result c.x.result c.x-2.result _ c.x.type_inv c.x-2.type_inv c.greater.type_inv
+    c.x.ensures.value c.x-2.ensures.value (ap (λ (v : Vector). v.x) c.new.ensures) (c.greater.ensures.one, c.greater.ensures.two) in
+    let y = made_above _ _ c.greater-2.result c.y.result c.y-2.result _ c.y.type_inv c.y-2.type_inv c.greater-2.type_inv
+    c.y.ensures.value c.y-2.ensures.value (ap (λ (v : Vector). v.y) c.new.ensures) (c.greater-2.ensures.one, c.greater-2.ensures.two) in
+    let z = made_above _ _ c.greater-3.result c.z.result c.z-2.result _ c.z.type_inv c.z-2.type_inv c.greater-3.type_inv
+    c.z.ensures.value c.z-2.ensures.value (ap (λ (v : Vector). v.z) c.new.ensures) (c.greater-3.ensures.one, c.greater-3.ensures.two) in
+    record {
+      corner = record {
+        x = made_one _ _ c.greater.result c.x.result c.x-2.result _ c.x.type_inv c.x-2.type_inv c.greater.type_inv
+            c.x.ensures.value c.x-2.ensures.value (ap (λ (v : Vector). v.x) c.new.ensures) c.greater.ensures.end;
+        y = made_one _ _ c.greater-2.result c.y.result c.y-2.result _ c.y.type_inv c.y-2.type_inv c.greater-2.type_inv
+            c.y.ensures.value c.y-2.ensures.value (ap (λ (v : Vector). v.y) c.new.ensures) c.greater-2.ensures.end;
+        z = made_one _ _ c.greater-3.result c.z.result c.z-2.result _ c.z.type_inv c.z-2.type_inv c.greater-3.type_inv
+            c.z.ensures.value c.z-2.ensures.value (ap (λ (v : Vector). v.z) c.new.ensures) c.greater-3.ensures.end;
+      };
+      one = record { x = x.0; y = y.0; z = z.0 };
+      two = record { x = x.1; y = y.1; z = z.1 };
+    }
