@@ -4,7 +4,7 @@
 ghost use Rattle.std.specs.Prelude.{◌<◌, IfSome};
 ghost use Rattle.qh_model.specs.headline.Limits.{IsCoordinate};
 
-use crate::form::{Form, Rows, covariances};
+use crate::form::{QuadraticForm, Rows, covariances};
 use qh_model::{COORDINATE_LIMIT, Point};
 use std::num::saturating_f64_to_i32;
 
@@ -18,7 +18,7 @@ const SHORTER: f64 = 0.999;
 #[derive(Clone, Copy, Drop)]
 struct Basis {
     rows: [[f64; 3]; 3],
-    form: Form,
+    form: QuadraticForm,
 }
 
 /// Returns a point as floats.

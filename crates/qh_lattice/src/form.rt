@@ -11,8 +11,8 @@ pub(crate) struct Rows {
     pub third: Point,
 }
 
-/// A symmetric form of three dimensions, by rows.
-pub(crate) type Form = [[f64; 3]; 3];
+/// A quadratic form of three dimensions, by the rows of its symmetric matrix.
+pub(crate) type QuadraticForm = [[f64; 3]; 3];
 
 /// The least determinant of a round form whose diagonal has the mean 1. The form of a ball has the determinant 1. That
 /// of a needle 4.6 times as long as wide, or of a disc 8 times as wide as high, has this one.
@@ -44,7 +44,7 @@ impl Rows {
 }
 
 /// Adds the products of all pairs of components of a vector to a form.
-fn add_products(form: &mut Form, way: [f64; 3]) {
+fn add_products(form: &mut QuadraticForm, way: [f64; 3]) {
     for i in 0..3 {
         form[i][0] += way[i] * way[0];
         form[i][1] += way[i] * way[1];
@@ -53,7 +53,7 @@ fn add_products(form: &mut Form, way: [f64; 3]) {
 }
 
 /// Returns the covariances of a sample along all pairs of rows.
-pub(crate) fn covariances(sample: &[Point], rows: &Rows) -> Form {
+pub(crate) fn covariances(sample: &[Point], rows: &Rows) -> QuadraticForm {
     let mut form = [[0.0; 3]; 3];
     let Some(origin) = sample.first() else {
         return form;
@@ -74,14 +74,14 @@ pub(crate) fn covariances(sample: &[Point], rows: &Rows) -> Form {
 }
 
 /// Returns the determinant of a form.
-fn determinant(form: &Form) -> f64 {
+fn determinant(form: &QuadraticForm) -> f64 {
     form[0][0] * (form[1][1] * form[2][2] - form[1][2] * form[2][1])
         - form[0][1] * (form[1][0] * form[2][2] - form[1][2] * form[2][0])
         + form[0][2] * (form[1][0] * form[2][1] - form[1][1] * form[2][0])
 }
 
 /// Returns true if a set with this form extends about equally in all directions.
-pub(crate) fn is_round(form: &Form) -> bool {
+pub(crate) fn is_round(form: &QuadraticForm) -> bool {
     let mean = (form[0][0] + form[1][1] + form[2][2]) / 3.0;
     determinant(form) >= ROUND * mean * mean * mean
 }

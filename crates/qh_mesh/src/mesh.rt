@@ -15,7 +15,7 @@ ghost use Rattle.qh_mesh.specs.steps.Twins.{HasTwins};
 use crate::facets::{EdgeNo, Facet, name_all};
 use crate::live::Live;
 use crate::rebuild::rebuild;
-use crate::room::{Scratch, make_room};
+use crate::room::{ReplacementScratch, make_room};
 use crate::simplex::{four, sees};
 use qh_model::{FacetNo, Id, Memory, Point};
 use std::alloc::Global;
@@ -31,7 +31,7 @@ pub struct Mesh {
     /// The free places.
     free: Vec<FacetNo>,
     /// Memory for replacements.
-    scratch: Scratch,
+    scratch: ReplacementScratch,
 }
 
 impl Model for Mesh {
@@ -82,7 +82,7 @@ impl Mesh {
         Ok(Mesh {
             facets,
             free: Vec::new(alloc),
-            scratch: Scratch::new(alloc),
+            scratch: ReplacementScratch::new(alloc),
         })
     }
 

@@ -8,7 +8,7 @@ use crate::cone::{join_outer, write_cone};
 use crate::facets::{Facet, FacetSide};
 use crate::horizon::gather;
 use crate::places::{allocate_all, remove};
-use crate::room::Scratch;
+use crate::room::ReplacementScratch;
 use crate::slots::{Slot, Table};
 use qh_model::FacetNo;
 
@@ -49,7 +49,7 @@ fn close(facets: &mut [Facet], slots: &[Slot], horizon: &[FacetSide], made: &[Fa
 fn prepare(
     facets: &mut Vec<Facet>,
     free: &mut Vec<FacetNo>,
-    scratch: &mut Scratch,
+    scratch: &mut ReplacementScratch,
     visible: &[FacetNo],
 )
     requires surface { IsSurface facets.old.items free.old.items }
@@ -73,7 +73,7 @@ fn prepare(
 pub fn rebuild(
     facets: &mut Vec<Facet>,
     free: &mut Vec<FacetNo>,
-    scratch: &mut Scratch,
+    scratch: &mut ReplacementScratch,
     visible: &[FacetNo],
     apex: u32,
 )

@@ -13,7 +13,7 @@ const PLACES: usize = 1_431_655_765;
 
 /// Memory that a replacement uses, and that a mesh keeps for the next one.
 #[derive(Drop)]
-pub struct Scratch {
+pub struct ReplacementScratch {
     /// A table of the corners.
     pub slots: Vec<Slot>,
     /// The horizon.
@@ -22,10 +22,10 @@ pub struct Scratch {
     pub made: Vec<FacetNo>,
 }
 
-impl Scratch {
+impl ReplacementScratch {
     /// Creates an empty scratch.
-    pub fn new(alloc: Global) -> Scratch {
-        Scratch {
+    pub fn new(alloc: Global) -> ReplacementScratch {
+        ReplacementScratch {
             slots: Vec::new(alloc),
             horizon: Vec::new(alloc),
             made: Vec::new(alloc),
@@ -48,7 +48,7 @@ fn are_numbered(places: usize, more: usize) -> bool
 pub fn make_room(
     facets: &mut Vec<Facet>,
     free: &mut Vec<FacetNo>,
-    scratch: &mut Scratch,
+    scratch: &mut ReplacementScratch,
     points: usize,
     count: usize,
 ) -> Result<(), AllocError>

@@ -14,20 +14,24 @@ use std::alloc::AllocError;
 
 /// The mark of a facet, which keeps a walk from finding it twice.
 #[derive(Clone, Copy)]
-pub enum Mark {
+pub enum FacetMark {
     /// No walk has found the facet yet.
     Unset,
     /// A walk has found it.
     Set,
 }
 
-impl Mark {
+impl FacetMark {
     /// Returns the mark at a place.
-    fn at(marks: &[bool], place: usize) -> Mark
+    fn at(marks: &[bool], place: usize) -> FacetMark
         requires { place < length marks.now }
         ensures { is_set result ≡ mark_at marks.now place }
     {
-        if marks[place] { Mark::Set } else { Mark::Unset }
+        if marks[place] {
+            FacetMark::Set
+        } else {
+            FacetMark::Unset
+        }
     }
 
     /// Returns true if it is set.
@@ -35,8 +39,8 @@ impl Mark {
         ensures { result ≡ is_set self }
     {
         match self {
-            Mark::Unset => false,
-            Mark::Set => true,
+            FacetMark::Unset => false,
+            FacetMark::Set => true,
         }
     }
 }
@@ -78,7 +82,7 @@ pub trait FacetPredicate {
 
     /// Returns true if a walk enters the facet of an edge: it has no mark yet and passes. A cheap test runs for marked
     /// facets, too, since a branch on the mark cannot be predicted.
-    fn enters(&self, mesh: &Mesh, edge: EdgeNo, mark: Mark) -> bool
+    fn enters(&self, mesh: &Mesh, edge: EdgeNo, mark: FacetMark) -> bool
         requires fits { Self.Fits self.now mesh.now }
         requires live { IsLive mesh.now (facet_of edge) }
         requires over { Self.Passes self.now mesh.now (facet_of (twin_of mesh.now edge)) }
@@ -115,7 +119,7 @@ fn cross<T: FacetPredicate>(
     let twin = mesh.across(side.facet, side.number);
     let neighbour = mesh.facet_of(twin);
     let place = neighbour.index();
-    let is_entered = test.enters(mesh, twin, Mark::at(marks, place));
+    let is_entered = test.enters(mesh, twin, FacetMark::at(marks, place));
     marks[place] |= is_entered;
     found.push_reserved(neighbour);
     if !is_entered {

@@ -3,11 +3,11 @@
 use Rattle.std.specs.Prelude.{All, slice_index, ◌≡◌, ◌⊎◌, ℕ, ◌<◌, ◌≤◌, List, [], Bool, length, slice_index_or, true, false}
 use Rattle.qh_model.specs.{contract.StoredSurface.StoredFacet, contract.StoredSurface.surface_of, contract.Surface.Side, headline.Sets.In}
 use Rattle.qh_mesh.specs.contract.Replacement.{AreFacets}
-use Rattle.qh_surface.specs.declared.walk.Mark.{Mark}
-use Rattle.qh_surface.specs.declared.walk.Mark.TheVariants as marks
+use Rattle.qh_surface.specs.declared.walk.FacetMark.{FacetMark}
+use Rattle.qh_surface.specs.declared.walk.FacetMark.TheVariants as marks
 
 -- is the mark set?
-abbrev pub is_set : Mark → Bool
+abbrev pub is_set : FacetMark → Bool
 is_set marks.Unset = false
 is_set marks.Set = true
 

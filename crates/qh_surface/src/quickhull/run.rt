@@ -29,7 +29,7 @@ const PLACES_EACH: usize = 3;
 
 /// The state that a run keeps from round to round.
 #[derive(Drop)]
-pub struct Run {
+pub struct QuickhullRun {
     /// The surface so far: its corners are positions of the points.
     pub mesh: Mesh,
     /// The points, each identified by its position.
@@ -92,11 +92,11 @@ fn make_ready(
     Ok(())
 }
 
-impl Run {
+impl QuickhullRun {
     /// Returns a run over points with the four facets of an initial simplex, given as four positions of the points.
     ///
     /// Returns `Err` if an allocation failed, or if there are more points than numbers for them.
-    pub fn start(alloc: Global, points: Vec<Point>, first: Simplex) -> Result<Run, Memory>
+    pub fn start(alloc: Global, points: Vec<Point>, first: Simplex) -> Result<QuickhullRun, Memory>
         requires { IsSimplexIn points.items first }
         ensures points { IfOk result (λ r. r.points.items ≡ points.items) }
         ensures under_way { IfOk result (λ r. IsUnderWay (state_of r)) }
@@ -109,7 +109,7 @@ impl Run {
         mesh.ask_for_room(places);
         let mut sets = OutsideSets::new(alloc, positions)?;
         sets.ask_for_room(places.saturating_add(SPARE));
-        let mut run = Run {
+        let mut run = QuickhullRun {
             mesh,
             points,
             planes: room_for(alloc, places.saturating_add(SPARE)),

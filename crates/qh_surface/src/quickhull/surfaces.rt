@@ -10,7 +10,7 @@ ghost use Rattle.qh_surface.specs.contract.{NamedMeshes.named, NamedMeshes.IsNam
 ghost use Rattle.qh_surface.specs.steps.Positions.{IsPositionOf, ArePositionsOf};
 
 use crate::named_mesh::NamedMesh;
-use crate::quickhull::run::Run;
+use crate::quickhull::run::QuickhullRun;
 use crate::starts::{Simplex, ends_of, morton_order, points_of, wide_simplex};
 use qh_mesh::Mesh;
 use qh_model::{Id, Memory, Point};
@@ -58,7 +58,7 @@ pub(super) fn run_over(
     pts: &[Point],
     ids: &[Id],
     first: Simplex,
-) -> Result<Run, Memory>
+) -> Result<QuickhullRun, Memory>
     requires indices { AreIndices pts.now ids.now }
     requires first { IsSimplexOf pts.now ids.now first }
     ensures finished { IfOk result (λ r.
@@ -67,7 +67,7 @@ pub(super) fn run_over(
 {
     let points = points_of(alloc, pts, ids)?;
     let first = positions_of(ids, first)?;
-    let mut run = Run::start(alloc, points, first)?;
+    let mut run = QuickhullRun::start(alloc, points, first)?;
     run.finish(alloc)?;
     Ok(run)
 }

@@ -7,7 +7,7 @@ ghost use Rattle.qh_pred.specs.contract.Planes.{height};
 ghost use Rattle.qh_surface.specs.contract.Walks.{IsMarked, mark_at};
 ghost use Rattle.qh_surface.specs.steps.Planes.{plane_at, ArePlanes};
 
-use crate::walk::{FacetPredicate, Mark, walk};
+use crate::walk::{FacetMark, FacetPredicate, walk};
 use qh_mesh::{EdgeNo, FacetNo, Mesh};
 use qh_model::{Memory, Point};
 use qh_pred::Plane;
@@ -31,7 +31,7 @@ impl FacetPredicate for Sees<'_> {
     }
 
     // Free of branches on the mark.
-    fn enters(&self, mesh: &Mesh, edge: EdgeNo, mark: Mark) -> bool {
+    fn enters(&self, mesh: &Mesh, edge: EdgeNo, mark: FacetMark) -> bool {
         !mark.is_set() & self.passes(mesh, edge)
     }
 }

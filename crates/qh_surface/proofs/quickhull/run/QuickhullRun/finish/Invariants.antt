@@ -1,7 +1,7 @@
 -- The run is under way over the same points, and fewer of them are listed each time.
 use Rattle.std.proofs.Common.{◌≡◌}
 use Rattle.qh_surface.specs.{contract.OutsideSets.listed, steps.Runs.IsUnderWay, steps.RunStates.state_of}
-use Rattle.qh_surface.proofs.quickhull.run.Run.finish.Given as goal
+use Rattle.qh_surface.proofs.quickhull.run.QuickhullRun.finish.Given as goal
 
 abbrev pub invariant-loop-facet : goal.invariant-loop-facet
 invariant-loop-facet l = record {

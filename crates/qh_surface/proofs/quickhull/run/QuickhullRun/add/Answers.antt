@@ -3,7 +3,7 @@ use Rattle.std.proofs.Common.{sym, subst}
 use Rattle.qh_model.specs.headline.Predicates.{place}
 use Rattle.qh_surface.specs.steps.Cones.{IsFan}
 use Rattle.qh_surface.proofs.runs.{ConeRings.cone_fan, PickedApexes.apex_outside, Rounds.remade, Rounds.read_point}
-use Rattle.qh_surface.proofs.quickhull.run.Run.add.Goals as goal
+use Rattle.qh_surface.proofs.quickhull.run.QuickhullRun.add.Goals as goal
 
 pub find-requires-clause-live : goal.find-requires-clause-live
 find-requires-clause-live c = (apex_outside c.requires).0

@@ -4,7 +4,7 @@ use Rattle.std.proofs.lemmas.List.Elements.{All-weaker}
 use Rattle.qh_model.specs.headline.{Predicates.place, Vector.Vector}
 use Rattle.qh_surface.specs.steps.{Cones.HasNoCornerAbove, Planes.ArePlanes}
 use Rattle.qh_surface.proofs.runs.{ConeRings.grown_corners, SetWrites.grown-set, SettledOrphans.same_settling, RenewedPlanes.roomy, FinishedRuns.next_round}
-use Rattle.qh_surface.proofs.quickhull.run.Run.settle.Goals as goal
+use Rattle.qh_surface.proofs.quickhull.run.QuickhullRun.settle.Goals as goal
 
 pub take-requires-clause-below : goal.take-requires-clause-below
 take-requires-clause-below c =

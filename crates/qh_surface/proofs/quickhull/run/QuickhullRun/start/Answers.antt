@@ -2,7 +2,7 @@
 use Rattle.std.proofs.Common.{◌∙◌, ap}
 use Rattle.std.specs.List.{range_with_len}
 use Rattle.qh_surface.proofs.runs.FirstSimplexes.{IsFirst, first_remade}
-use Rattle.qh_surface.proofs.quickhull.run.Run.start.Goals as goal
+use Rattle.qh_surface.proofs.quickhull.run.QuickhullRun.start.Goals as goal
 
 -- the mesh is that of an initial simplex of the points
 first : (c : goal.After-settle-arg-2-1)
