@@ -13,7 +13,7 @@ mod room;
 mod scribes;
 mod summary;
 
-use self::forms::Form;
+use self::forms::FaceForm;
 use self::scribes::{Alone, InThreads, Scribe};
 use crate::pieces::Pieces;
 use qh_model::{Hull, Memory, Out, Point};
@@ -37,8 +37,8 @@ fn push_output<S: Scribe>(
         Out::Rank => summary::push_rank(&mut text.last, hull),
         Out::Summary => summary::push_summary(&mut text.last, hull),
         Out::Fx => off::push_extremes(&mut text.last, &hull.body),
-        Out::Off => off::push_off(scribe, text, alloc, Form::Whole, &hull.body, pts),
-        Out::OffTriangles => off::push_off(scribe, text, alloc, Form::Fans, &hull.body, pts),
+        Out::Off => off::push_off(scribe, text, alloc, FaceForm::Whole, &hull.body, pts),
+        Out::OffTriangles => off::push_off(scribe, text, alloc, FaceForm::Fans, &hull.body, pts),
     }
 }
 

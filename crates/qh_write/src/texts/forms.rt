@@ -12,14 +12,14 @@ use std::alloc::{AllocError, Global};
 
 /// A form of faces.
 #[derive(Clone, Copy, Debug, PartialEq, Eq)]
-pub enum Form {
+pub enum FaceForm {
     /// Each face with all its corners.
     Whole,
     /// Each face as triangles that share its first corner.
     Fans,
 }
 
-impl Form {
+impl FaceForm {
     /// Appends faces in this form, each vertex by its number.
     pub fn push(
         self,
@@ -31,8 +31,8 @@ impl Form {
         ensures { OnOk result (text.new.items ≡ text.old.items ++ flat_map (face_by_numbers numbers.now) (shown self faces.now)) }
     {
         match self {
-            Form::Whole => push_faces(text, numbers, faces),
-            Form::Fans => push_fans(text, numbers, faces),
+            FaceForm::Whole => push_faces(text, numbers, faces),
+            FaceForm::Fans => push_fans(text, numbers, faces),
         }
     }
 
@@ -47,16 +47,16 @@ impl Form {
             ++ spaced (length (shown self body.now.polygons)) ++ spaced (edges_shown self body.now))) }
     {
         match self {
-            Form::Whole => push_counts(text, body),
-            Form::Fans => push_fan_counts(text, alloc, body),
+            FaceForm::Whole => push_counts(text, body),
+            FaceForm::Fans => push_fan_counts(text, alloc, body),
         }
     }
 
     /// Returns an upper bound of the number of bytes that the lines of faces take in this form.
     pub fn room(self, faces: &[Polygon]) -> usize {
         match self {
-            Form::Whole => faces_room(faces),
-            Form::Fans => fans_room(faces),
+            FaceForm::Whole => faces_room(faces),
+            FaceForm::Fans => fans_room(faces),
         }
     }
 }

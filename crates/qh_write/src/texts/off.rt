@@ -5,7 +5,7 @@ ghost use Rattle.qh_model.specs.headline.Text.{line, spaced, extremes_text, vert
 ghost use Rattle.qh_write.specs.{contract.Pieces.bytes_in, steps.Forms.shown, steps.Forms.edges_shown, steps.Forms.body_shown};
 ghost use Rattle.qh_write.specs.steps.Numberings.{AreNumbered, face_by_numbers, number_in};
 
-use super::forms::Form;
+use super::forms::FaceForm;
 use super::lines::{push_line_end, push_number, push_signed, push_spaced};
 use super::numbering::{VertexNumbers, vertex_numbers};
 use super::scribes::{NumberedFaces, Scribe, Vertices};
@@ -107,7 +107,7 @@ pub fn push_numbered<S: Scribe>(
     scribe: &S,
     text: &mut Pieces,
     alloc: Global,
-    form: Form,
+    form: FaceForm,
     body: &Body,
     count: usize,
 ) -> Result<(), AllocError>
@@ -138,7 +138,12 @@ pub fn push_counts(text: &mut Vec<u8>, body: &Body) -> Result<(), AllocError>
 }
 
 /// Appends the lines before the vertices.
-fn push_head(text: &mut Vec<u8>, alloc: Global, form: Form, body: &Body) -> Result<(), AllocError>
+fn push_head(
+    text: &mut Vec<u8>,
+    alloc: Global,
+    form: FaceForm,
+    body: &Body,
+) -> Result<(), AllocError>
     ensures { OnOk result (text.new.items ≡ text.old.items ++ codes "OFF\n" ++ line (decimal (length body.now.extremes)
         ++ spaced (length (shown form body.now.polygons)) ++ spaced (edges_shown form body.now))) }
 {
@@ -151,7 +156,7 @@ pub fn push_off<S: Scribe>(
     scribe: &S,
     text: &mut Pieces,
     alloc: Global,
-    form: Form,
+    form: FaceForm,
     body: &Body,
     pts: &[Point],
 ) -> Result<(), AllocError>

@@ -4,7 +4,7 @@ ghost use Rattle.std.specs.{List.flat_map, Thread.IsSync};
 ghost use Rattle.qh_model.specs.headline.{Predicates.place, Text.vertex_text};
 ghost use Rattle.qh_write.specs.{contract.Pieces.bytes_in, steps.Forms.shown, steps.Numberings.AreNumbered, steps.Numberings.face_by_numbers};
 
-use super::forms::Form;
+use super::forms::FaceForm;
 use super::numbering::VertexNumbers;
 use super::off::push_vertices;
 use super::room::{room_for, vertices_room};
@@ -30,7 +30,7 @@ pub struct Vertices<'a> {
 #[derive(Clone, Copy)]
 pub struct NumberedFaces<'a> {
     /// The form in which the faces are written.
-    pub form: Form,
+    pub form: FaceForm,
     /// The number of each vertex.
     pub numbers: &'a VertexNumbers<'a>,
     /// The faces, by the ids of their corners.
@@ -94,7 +94,7 @@ fn vertices_text(alloc: Global, pts: &[Point], ids: &[Id]) -> Result<Vec<u8>, Al
 /// Returns the lines of faces in a form, each vertex by its number.
 fn faces_text(
     alloc: Global,
-    form: Form,
+    form: FaceForm,
     numbers: &VertexNumbers,
     faces: &[Polygon],
 ) -> Result<Vec<u8>, AllocError>
