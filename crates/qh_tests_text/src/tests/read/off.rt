@@ -1,10 +1,9 @@
 //! OFF files: whole, from a source, and in pieces.
-use super::{Place, Way, assert_full, assert_gave, assert_read, assert_read_in_all_ways};
+use super::{Place, Wanted, Way, assert_full, assert_gave, assert_read, assert_read_in_all_ways};
 use qh_fixtures::faults::OF_OFF_FILES;
 use qh_fixtures::table;
 use qh_model::{BYTE_LIMIT, Form};
-use qh_read::fakes::Spaces;
-use qh_read::{ReadFault, Reader, read_off_from};
+use qh_read::{ReadFault, Reader};
 use std::test::Fail;
 
 /// OFF files with their vertices. Source: the rows of texts, comments and ignored faces.
@@ -44,29 +43,18 @@ fn finds_first_faults(rt: HostRuntime) {
 #[test]
 fn tells_devices(rt: HostRuntime) {
     let bytes = b"OFF\n1 0 0\n5 5 5\n";
-    for fails_at in 1..18 {
-        let (way, want) = (Way::FailingRead(fails_at), Err(ReadFault::Device));
-        assert_read(&rt, Form::Off, bytes, way, want);
+    for fails_at in 1..19 {
+        // The 16 bytes and the end are 17 reads.
+        let want: Wanted = match fails_at {
+            18 => Ok(&[(5, 5, 5)]),
+            _ => Err(ReadFault::Device),
+        };
+        assert_read(&rt, Form::Off, bytes, Way::FailingRead(fails_at), want);
     }
-    assert_read(
-        &rt,
-        Form::Off,
-        bytes,
-        Way::FailingRead(18),
-        Ok(&[(5, 5, 5)]),
-    );
 }
 
 #[test]
 fn tells_lengths(rt: HostRuntime) -> Result<(), Fail> {
-    let endless = read_off_from(rt.alloc(), &mut Spaces);
-    assert_gave(
-        &rt,
-        endless,
-        Err(ReadFault::Big),
-        "without end",
-        Way::Source,
-    );
     let blanks = Vec::from_elem(rt.alloc(), b' ', BYTE_LIMIT as usize)?;
     let mut reader = Reader::new_off(rt.alloc());
     reader.feed(&blanks)?;

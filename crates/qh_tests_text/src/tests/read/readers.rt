@@ -45,17 +45,12 @@ impl Read for Endless<'_> {
     }
 }
 
-/// Returns the fault of reading blanks without end, and the number of blanks read.
-fn read_without_end(alloc: Global) -> (Option<ReadFault>, u64) {
-    let given = AtomicU64::new(0);
-    let mut source = StdSource::new(Endless { given: &given });
-    let outcome = read_from(alloc, &mut source);
-    (outcome.err(), given.load(Ordering::SeqCst))
-}
-
 #[test]
 fn reads_one_piece_too_many(rt: HostRuntime) {
-    let (fault, given) = read_without_end(rt.alloc());
+    let count = AtomicU64::new(0);
+    let mut source = StdSource::new(Endless { given: &count });
+    let fault = read_from(rt.alloc(), &mut source).err();
+    let given = count.load(Ordering::SeqCst);
     let some_more = u64::from(BYTE_LIMIT) + 1..=u64::from(BYTE_LIMIT) + 65536;
     assert!(rt;
         fault == Some(ReadFault::Big) && some_more.contains(&given),

@@ -1,5 +1,4 @@
 //! Whole texts.
-ghost use Rattle.std.specs.Prelude.{◌≤◌};
 
 use super::{Place, TETRAHEDRON, Way, assert_read, assert_read_in_all_ways, joined};
 use qh_fixtures::faults::OF_POINT_FILES;
@@ -7,7 +6,6 @@ use qh_fixtures::files::{COMMENTED_TETRAHEDRON, CUBE};
 use qh_fixtures::table;
 use qh_model::Form;
 use qh_read::{ReadFault, read_points};
-use std::alloc::Global;
 use std::test::Fail;
 
 /// Files with their points.
@@ -69,14 +67,6 @@ fn refuses_words_that_are_no_numbers(rt: HostRuntime) -> Result<(), Fail> {
     Ok(())
 }
 
-/// Returns the number of points in the first `length` bytes of the cube file, or the fault.
-fn count_in_beginning(alloc: Global, length: usize) -> Result<usize, ReadFault>
-    requires { length ≤ 52 }
-{
-    let points = read_points(alloc, &CUBE.as_bytes()[..length])?;
-    Ok(points.len())
-}
-
 #[test]
 fn tells_truncated_files(rt: HostRuntime) {
     for length in 0..53 {
@@ -85,6 +75,7 @@ fn tells_truncated_files(rt: HostRuntime) {
             3..51 => Err(ReadFault::Short),
             _ => Ok(8),
         };
-        assert_eq!(rt; count_in_beginning(rt.alloc(), length), want, "at {length}");
+        let points = read_points(rt.alloc(), &CUBE.as_bytes()[..length]);
+        assert_eq!(rt; points.map(|points| points.len()), want, "at {length}");
     }
 }

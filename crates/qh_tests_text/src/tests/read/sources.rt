@@ -1,9 +1,9 @@
 //! Bytes from a source.
 use super::{TETRAHEDRON, Way, assert_gave};
 use qh_fixtures::files::{COMMENTED_TETRAHEDRON, CUBE};
+use qh_model::Form;
 use qh_read::fakes::{FailSource, Spaces};
-use qh_read::{ReadFault, Source, StdSource, read_from};
-use std::alloc::Global;
+use qh_read::{ReadFault, Source, StdSource, read_form_threads, read_from, read_off_from};
 
 #[test]
 fn reads_to_the_end(rt: HostRuntime) {
@@ -15,14 +15,6 @@ fn reads_to_the_end(rt: HostRuntime) {
     assert_eq!(rt; source.failures(), 0);
 }
 
-/// Returns the number of points of the cube file, or its fault, where one read fails, and the failures of the source.
-fn read_failing(alloc: Global, fails_at: u64) -> (Result<usize, ReadFault>, u64) {
-    let mut source = FailSource::new(CUBE.as_bytes(), 1, Some(fails_at));
-    let outcome = read_from(alloc, &mut source);
-    let count = outcome.map(|points| points.len());
-    (count, source.failures())
-}
-
 #[test]
 fn tells_a_failing_read(rt: HostRuntime) {
     for fails_at in 1..55 {
@@ -31,7 +23,9 @@ fn tells_a_failing_read(rt: HostRuntime) {
             54 => (Ok(8), 0),
             _ => (Err(ReadFault::Device), 1),
         };
-        assert_eq!(rt; read_failing(rt.alloc(), fails_at), want, "read {fails_at}");
+        let mut source = FailSource::new(CUBE.as_bytes(), 1, Some(fails_at));
+        let count = read_from(rt.alloc(), &mut source).map(|points| points.len());
+        assert_eq!(rt; (count, source.failures()), want, "read {fails_at}");
     }
 }
 
@@ -45,12 +39,12 @@ fn goes_on_after_a_fault_of_the_text(rt: HostRuntime) {
 
 #[test]
 fn stops_at_the_limit(rt: HostRuntime) {
-    let outcome = read_from(rt.alloc(), &mut Spaces);
-    assert_gave(
-        &rt,
-        outcome,
-        Err(ReadFault::Big),
-        "without end",
-        Way::Source,
-    );
+    for outcome in [
+        read_from(rt.alloc(), &mut Spaces),
+        read_off_from(rt.alloc(), &mut Spaces),
+        read_form_threads(&rt, rt.alloc(), 4, Form::Qhull, &mut Spaces),
+    ] {
+        let want = Err(ReadFault::Big);
+        assert_gave(&rt, outcome, want, "without end", Way::Source);
+    }
 }

@@ -2,10 +2,10 @@
 //!
 //! A segment contains points only after the end of its first line, and only from numbers that are followed by eleven
 //! bytes, so these texts are longer than those of the other rows.
-use super::{Place, SMALL, Way, assert_gave, assert_read, assert_read_in_sizes, joined};
+use super::{Place, SMALL, Wanted, Way, assert_gave, assert_read, assert_read_in_sizes, joined};
 use qh_fixtures::Host;
-use qh_model::{Form, Point};
-use qh_read::fakes::{FailSource, Spaces};
+use qh_model::Form;
+use qh_read::fakes::FailSource;
 use qh_read::{MemSource, ReadFault, Sizes, Source, read_form_sizes, read_form_threads};
 use std::alloc::{AllocError, Global};
 use std::test::Fail;
@@ -149,36 +149,28 @@ fn reads_no_comment_and_no_face(rt: HostRuntime) -> Result<(), Fail> {
     Ok(())
 }
 
-/// Returns the result of reading one point in batches of four where one read fails, and the failures of the source.
-fn read_failing(
-    rt: &impl Host,
-    alloc: Global,
-    fails_at: u64,
-) -> (Result<Vec<Point>, ReadFault>, u64) {
-    let mut source = FailSource::new(b"3\n1\n5 5 5\n", 1, Some(fails_at));
-    let sizes = Sizes {
-        start: 2,
-        batch: 4,
-        segments: 2,
-        threads: 3,
-    };
-    let outcome = read_form_sizes(rt, alloc, Form::Qhull, &mut source, sizes);
-    (outcome, source.failures())
-}
+/// Batches of four bytes.
+const FOURS: Sizes = Sizes {
+    start: 2,
+    batch: 4,
+    segments: 2,
+    threads: 3,
+};
 
 #[test]
 fn tells_failing_reads(rt: HostRuntime) {
-    // The 10 bytes, and the end.
-    for fails_at in 1..12 {
-        let (outcome, failures) = read_failing(&rt, rt.alloc(), fails_at);
+    for fails_at in 1..13 {
+        // The 10 bytes and the end are 11 reads.
+        let (want, failures): (Wanted, u64) = match fails_at {
+            12 => (Ok(&[(5, 5, 5)]), 0),
+            _ => (Err(ReadFault::Device), 1),
+        };
+        let mut source = FailSource::new(b"3\n1\n5 5 5\n", 1, Some(fails_at));
+        let outcome = read_form_sizes(&rt, rt.alloc(), Form::Qhull, &mut source, FOURS);
         let way = Way::FailingRead(fails_at);
-        assert_gave(&rt, outcome, Err(ReadFault::Device), "one point", way);
-        assert_eq!(rt; failures, 1, "{way:?}");
+        assert_gave(&rt, outcome, want, "one point", way);
+        assert_eq!(rt; source.failures(), failures, "{way:?}");
     }
-    let (outcome, failures) = read_failing(&rt, rt.alloc(), 12);
-    let way = Way::FailingRead(12);
-    assert_gave(&rt, outcome, Ok(&[(5, 5, 5)]), "one point", way);
-    assert_eq!(rt; failures, 0);
 }
 
 #[test]
@@ -189,13 +181,5 @@ fn reads_by_any_number_of_threads(rt: HostRuntime) -> Result<(), Fail> {
         let outcome = read_form_threads(&rt, rt.alloc(), threads, Form::Qhull, &mut source);
         assert_gave(&rt, outcome, Ok(&places()), "lines", Way::Source);
     }
-    let endless = read_form_threads(&rt, rt.alloc(), 4, Form::Qhull, &mut Spaces);
-    assert_gave(
-        &rt,
-        endless,
-        Err(ReadFault::Big),
-        "without end",
-        Way::Source,
-    );
     Ok(())
 }

@@ -37,15 +37,10 @@ const OUTS: [Out; 5] = table![
 const SQUARE_TEXT: &str =
     "5 5 2\nConvex hull of 5 points in 3-d:\n  dimension: 2\n  distinct points: 5\n  extreme points: 4\n  facets: 1\n  edges: 4\n4\n0\n1\n2\n3\nOFF\n4 1 4\n0 0 0\n2 0 0\n2 2 0\n0 2 0\n4 0 1 2 3\nOFF\n4 2 5\n0 0 0\n2 0 0\n2 2 0\n0 2 0\n3 0 1 2\n3 0 2 3\n";
 
-/// Returns all texts of that hull. Repeats each call if an allocation failed.
-fn texts_again(alloc: Global) -> Result<Vec<u8>, Memory> {
-    let hull = again!(square(alloc), Memory)?;
-    again!(text(alloc, &hull, &points::square(), &OUTS), Memory)
-}
-
 #[test]
 fn tries_again_for_texts(rt: HostRuntime) -> Result<(), Fail> {
-    let texts = texts_again(rt.alloc())?;
+    let hull = again!(square(rt.alloc()), Memory)?;
+    let texts = again!(text(rt.alloc(), &hull, &points::square(), &OUTS), Memory)?;
     assert_eq!(rt; texts.as_slice(), SQUARE_TEXT.as_bytes());
     Ok(())
 }
