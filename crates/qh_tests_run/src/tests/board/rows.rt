@@ -6,7 +6,6 @@ use super::runs::run_side_by_side;
 use super::{Row, assert_joined, counted_root};
 use qh_board::{Board, BoardError, Mark};
 use qh_fixtures::{Host, table};
-use std::alloc::Global;
 use std::test::Fail;
 
 /// The events of the passes of a board of two blocks, and of one of seven, one pass after the other.
@@ -103,11 +102,6 @@ fn no_root_where_nothing_is_claimed(rt: HostRuntime) -> Result<(), Fail> {
     Ok(())
 }
 
-/// Returns the error of making a board of `blocks` blocks for `passes` passes, if it fails.
-fn refusal(alloc: Global, blocks: u32, passes: u32) -> Option<BoardError> {
-    Board::new(alloc, Numbers { blocks }, blocks, passes).err()
-}
-
 #[test]
 fn numbers_out_of_range_are_refused(rt: HostRuntime) -> Result<(), Fail> {
     for (blocks, passes, error) in [
@@ -117,8 +111,8 @@ fn numbers_out_of_range_are_refused(rt: HostRuntime) -> Result<(), Fail> {
         (1, 65, BoardError::BadPasses),
         (0, 0, BoardError::BadBlocks),
     ] {
-        let refused = refusal(rt.alloc(), blocks, passes);
-        assert_eq!(rt; refused, Some(error), "{blocks} blocks");
+        let board = Board::new(rt.alloc(), Numbers { blocks }, blocks, passes);
+        assert_eq!(rt; board.err(), Some(error), "{blocks} blocks");
     }
     Ok(())
 }

@@ -116,11 +116,6 @@ fn blocks_got(alloc: Global, met: &[Met]) -> Result<Vec<u32>, AllocError> {
     Ok(blocks)
 }
 
-/// Returns the number of roots that passes published.
-fn roots_of(met: &[Met]) -> usize {
-    met.iter().filter(|met| **met == Met::Root).count()
-}
-
 /// Asserts that no block was got twice. Asserts that, if all blocks were claimed and every pass left, all were got and
 /// one root has them all, and else that there is no root. The passes got the blocks `got` and published `roots` roots.
 fn assert_root(
@@ -156,7 +151,8 @@ fn assert_run(
 ) -> Result<(), BoardError> {
     let (closed, met) = run_side_by_side(rt, alloc, blocks, passes, gives_up_at)?;
     let got = blocks_got(alloc, &met)?;
-    assert_root(rt, closed, &got, roots_of(&met), blocks, passes);
+    let roots = met.iter().filter(|met| **met == Met::Root).count();
+    assert_root(rt, closed, &got, roots, blocks, passes);
     Ok(())
 }
 

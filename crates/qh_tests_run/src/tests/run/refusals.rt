@@ -10,7 +10,7 @@ use qh_board::{BoardError, Mark};
 use qh_fixtures::ids::are;
 use qh_fixtures::points::{cube, octahedron, paraboloid, square};
 use qh_fixtures::{Host, again};
-use qh_model::{Cut, CutError, Hull, Id, Memory, POINT_LIMIT, Point};
+use qh_model::{Cut, CutError, Id, Memory, POINT_LIMIT, Point};
 use qh_plane::distinct;
 use qh_run::{RunError, run_hull};
 use std::alloc::{AllocError, Global};
@@ -23,16 +23,6 @@ const CUBE_HULL: [usize; 43] = [
     8, 8, 3, 12, 8, 0, 1, 2, 3, 4, 5, 6, 7, 4, 0, 1, 3, 2, 4, 0, 2, 6, 4, 4, 0, 4, 5, 1, 4, 1, 5,
     7, 3, 4, 2, 3, 7, 6, 4, 4, 6, 7, 5,
 ];
-
-/// Returns the hull. Repeats the call if an allocation failed.
-fn hull_again(
-    rt: &impl Host,
-    points: &[Point],
-    cut: &Cut,
-    workers: u32,
-) -> Result<Option<Hull>, RunError> {
-    again!(hull_by(rt, points, cut, workers), RunError::Memory)
-}
 
 /// Returns the even cut. Repeats the call if an allocation failed.
 fn cut_again(alloc: Global, m: u32, size: u32) -> Result<Cut, CutError>
@@ -55,7 +45,8 @@ fn comes_out_right(
     requires few { length points.now ≤ POINT_LIMIT }
 {
     let cut = cut_again(rt.alloc(), points.len() as u32, size)?;
-    let hull = hull_again(rt, points, &cut, workers)?.ok_or("another cut")?;
+    let hull = again!(hull_by(rt, points, &cut, workers), RunError::Memory)?;
+    let hull = hull.ok_or("another cut")?;
     let numbers = again!(numbers_of(rt.alloc(), &hull), AllocError)?;
     Ok(numbers.as_slice() == want)
 }
