@@ -8,6 +8,7 @@ use qh_run::Gate;
 use qh_serve::{Fault, Settings, SettingsError, answer, serve};
 use qh_write::{MemSink, Out};
 use std::alloc::{AllocError, Global};
+use std::test::Fail;
 
 /// The parts of settings, from which [`Asked::settings`] creates them.
 #[derive(Clone, Copy, Debug)]
@@ -57,6 +58,30 @@ impl Asked<'_> {
     pub fn settings(&self, alloc: Global) -> Result<Settings, SettingsError> {
         Settings::new(alloc, self.workers, self.block, self.outs, self.form)
     }
+
+    /// Returns the outcome of `answer` for an input. The gate observes the workers.
+    pub fn answered<G: Gate>(
+        &self,
+        rt: &impl Host,
+        input: &[u8],
+        gate: &G,
+    ) -> Result<Outcome, Fail> {
+        let settings = self.settings(rt.alloc())?;
+        match answer(rt, rt.alloc(), input, &settings, gate) {
+            Ok(text) => Ok(shown(rt.alloc(), &text)?),
+            Err(fault) => Ok(refusal(rt.alloc(), &fault)?),
+        }
+    }
+
+    /// Returns the outcome of `serve` for an input, with devices in memory. The gate observes the workers.
+    pub fn served<G: Gate>(&self, rt: &impl Host, input: &[u8], gate: &G) -> Result<Outcome, Fail> {
+        let settings = self.settings(rt.alloc())?;
+        let (mut source, mut sink) = (MemSource::new(input), MemSink::new(rt.alloc()));
+        match serve(rt, rt.alloc(), &mut source, &mut sink, &settings, gate) {
+            Ok(()) => Ok(shown(rt.alloc(), sink.bytes())?),
+            Err(fault) => Ok(refusal(rt.alloc(), &fault)?),
+        }
+    }
 }
 
 /// A text, or the line of a fault with its exit status.
@@ -97,43 +122,6 @@ pub fn shown(alloc: Global, bytes: &[u8]) -> Result<Outcome, AllocError> {
         error: String::new(alloc),
         status: 0,
     })
-}
-
-/// A call of `answer` or `serve`, observed by a gate.
-#[derive(Clone, Copy, Drop)]
-pub struct Call<'a, G> {
-    input: &'a [u8],
-    settings: &'a Settings,
-    gate: &'a G,
-}
-
-impl<'a, G: Gate> Call<'a, G> {
-    /// Returns the call for the bytes of an input with settings. The gate observes the workers.
-    pub fn new(input: &'a [u8], settings: &'a Settings, gate: &'a G) -> Call<'a, G> {
-        Call {
-            input,
-            settings,
-            gate,
-        }
-    }
-
-    /// Returns the outcome of `answer`.
-    pub fn answered(&self, rt: &impl Host, alloc: Global) -> Result<Outcome, AllocError> {
-        match answer(rt, alloc, self.input, self.settings, self.gate) {
-            Ok(text) => shown(alloc, &text),
-            Err(fault) => refusal(alloc, &fault),
-        }
-    }
-
-    /// Returns the outcome of `serve` with devices in memory.
-    pub fn served(&self, rt: &impl Host, alloc: Global) -> Result<Outcome, AllocError> {
-        let mut source = MemSource::new(self.input);
-        let mut sink = MemSink::new(alloc);
-        match serve(rt, alloc, &mut source, &mut sink, self.settings, self.gate) {
-            Ok(()) => shown(alloc, sink.bytes()),
-            Err(fault) => refusal(alloc, &fault),
-        }
-    }
 }
 
 /// Appends a point to the text of a point file, as a line.

@@ -12,7 +12,7 @@ mod refusals;
 mod rows;
 mod solids;
 
-use crate::tests::outcomes::{Asked, Call, Told};
+use crate::tests::outcomes::{Asked, Told};
 use qh_fixtures::Host;
 use qh_fixtures::faults::FaultRow;
 use qh_run::NoGate;
@@ -25,8 +25,7 @@ fn beginning(input: &[u8]) -> &str {
 
 /// Asserts the result of `answer` for an input and settings.
 fn assert_answered(rt: &impl Host, asked: Asked, input: &[u8], want: Told) -> Result<(), Fail> {
-    let settings = asked.settings(rt.alloc())?;
-    let answered = Call::new(input, &settings, &NoGate).answered(rt, rt.alloc())?;
+    let answered = asked.answered(rt, input, &NoGate)?;
     let begins = beginning(input);
     assert_eq!(rt; answered.told(), want, "answer at {asked:?}: {begins:?}");
     Ok(())
@@ -35,8 +34,7 @@ fn assert_answered(rt: &impl Host, asked: Asked, input: &[u8], want: Told) -> Re
 /// Asserts the results of `answer` and `serve` for an input and settings.
 fn assert_gives(rt: &impl Host, asked: Asked, input: &[u8], want: Told) -> Result<(), Fail> {
     assert_answered(rt, asked, input, want)?;
-    let settings = asked.settings(rt.alloc())?;
-    let served = Call::new(input, &settings, &NoGate).served(rt, rt.alloc())?;
+    let served = asked.served(rt, input, &NoGate)?;
     let begins = beginning(input);
     assert_eq!(rt; served.told(), want, "serve at {asked:?}: {begins:?}");
     Ok(())

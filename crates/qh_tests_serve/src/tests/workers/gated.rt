@@ -5,7 +5,7 @@
 ghost use Rattle.std.specs.Prelude.{◌≤◌, length};
 ghost use Rattle.qh_model.specs.declared.limits.TheConstants.{POINT_LIMIT};
 
-use crate::tests::outcomes::{Asked, Call, OFF, Outcome, refusal, shown};
+use crate::tests::outcomes::{Asked, OFF, Outcome, refusal, shown};
 use qh_fixtures::Host;
 use qh_fixtures::files::{OCTAHEDRON, OCTAHEDRON_OFF};
 use qh_fixtures::ids::are;
@@ -147,13 +147,10 @@ fn text_by<G: Gate>(
 }
 
 /// Returns the outcome of `run_hull`, observed by a gate.
-fn hulled_by<G: Gate>(
-    rt: &impl Host,
-    alloc: Global,
-    settings: &Settings,
-    gate: &G,
-) -> Result<Outcome, Fail> {
-    match text_by(rt, alloc, &octahedron(), settings, gate) {
+fn hulled_by<G: Gate>(rt: &impl Host, asked: Asked, gate: &G) -> Result<Outcome, Fail> {
+    let alloc = rt.alloc();
+    let settings = asked.settings(alloc)?;
+    match text_by(rt, alloc, &octahedron(), &settings, gate) {
         Ok(text) => Ok(shown(alloc, &text)?),
         Err(RunError::Memory) => Ok(refusal(alloc, &Fault::Read(ReadFault::Memory))?),
         Err(RunError::BadWorkers) => Err("the workers are in range".into()),
@@ -167,12 +164,10 @@ pub(super) fn outcome_by<G: Gate>(
     asked: Asked,
     gate: &G,
 ) -> Result<Outcome, Fail> {
-    let settings = asked.settings(rt.alloc())?;
-    let call = Call::new(OCTAHEDRON.as_bytes(), &settings, gate);
     match watched {
-        Watched::RunHull => hulled_by(rt, rt.alloc(), &settings, gate),
-        Watched::Answer => Ok(call.answered(rt, rt.alloc())?),
-        Watched::Serve => Ok(call.served(rt, rt.alloc())?),
+        Watched::RunHull => hulled_by(rt, asked, gate),
+        Watched::Answer => asked.answered(rt, OCTAHEDRON.as_bytes(), gate),
+        Watched::Serve => asked.served(rt, OCTAHEDRON.as_bytes(), gate),
     }
 }
 

@@ -1,7 +1,7 @@
 //! Runs in many small blocks: the tree joins the results of two blocks.
 use super::paraboloid::{OUTPUTS, points};
 use super::stored_points::STORED;
-use crate::tests::outcomes::{Asked, Call};
+use crate::tests::outcomes::Asked;
 use qh_fixtures::Host;
 use qh_model::{Body, Id, Memory, Point};
 use qh_run::{Gate, NoGate};
@@ -21,20 +21,11 @@ pub struct Joins {
 impl Joins {
     /// Returns a gate for a board with `blocks` blocks.
     pub fn of(alloc: Global, blocks: u32) -> Result<Joins, AllocError> {
-        let mut delivered = Vec::with_capacity(alloc, blocks as usize)?;
-        for _ in 0..blocks {
-            delivered.push(AtomicU64::new(0))?;
-        }
         Ok(Joins {
             blocks,
-            delivered,
+            delivered: (0..blocks).map(|_| AtomicU64::new(0)).collect(alloc)?,
             joins: AtomicU64::new(0),
         })
-    }
-
-    /// Returns the number of nodes.
-    pub fn joins(&self) -> u64 {
-        self.joins.load(Ordering::SeqCst)
     }
 }
 
@@ -58,12 +49,10 @@ impl Gate for Joins {
 /// Returns the number of nodes that joined the values of two blocks, in a run with an answer and this number of blocks.
 fn joins_of(rt: &impl Host, asked: Asked, input: &[u8], blocks: u32) -> Result<u64, Fail> {
     let gate = Joins::of(rt.alloc(), blocks)?;
-    let settings = asked.settings(rt.alloc())?;
-    let outcome = Call::new(input, &settings, &gate).answered(rt, rt.alloc())?;
-    if outcome.status != 0 {
+    if asked.answered(rt, input, &gate)?.status != 0 {
         return Err("the run answers".into());
     }
-    Ok(gate.joins())
+    Ok(gate.joins.load(Ordering::SeqCst))
 }
 
 #[test]

@@ -1,8 +1,7 @@
 //! The 20,000 points of a paraboloid, all of them extreme, with four settings, and 70,000 points whose hull is computed
 //! by several threads.
-use crate::tests::outcomes::{Asked, Call, OFFT, Outcome, SUMMARY, push_point};
-use qh_fixtures::Host;
-use qh_run::{Gate, NoGate};
+use crate::tests::outcomes::{Asked, OFFT, SUMMARY, push_point};
+use qh_run::NoGate;
 use qh_serve::Threaded;
 use qh_write::Out;
 use std::alloc::{AllocError, Global};
@@ -30,24 +29,17 @@ pub fn points(alloc: Global, count: u32) -> Result<String, AllocError> {
     Ok(text)
 }
 
-/// Returns the outcome of `answer` for an input with settings, observed by a gate.
-fn outcome_of<G: Gate>(
-    rt: &impl Host,
-    asked: Asked,
-    input: &[u8],
-    gate: &G,
-) -> Result<Outcome, Fail> {
-    let settings = asked.settings(rt.alloc())?;
-    Ok(Call::new(input, &settings, gate).answered(rt, rt.alloc())?)
-}
-
 #[test]
 fn has_one_text_in_all_settings(rt: HostRuntime) -> Result<(), Fail> {
     let input = points(rt.alloc(), 20000)?;
-    let first = outcome_of(&rt, OUTPUTS.by(1, 20000), input.as_bytes(), &NoGate)?;
+    let first = OUTPUTS
+        .by(1, 20000)
+        .answered(&rt, input.as_bytes(), &NoGate)?;
     assert!(rt; first.output.starts_with(BEGINNING));
     for (workers, block) in [(2, 4096), (7, 4), (64, 4096)] {
-        let outcome = outcome_of(&rt, OUTPUTS.by(workers, block), input.as_bytes(), &NoGate)?;
+        let outcome = OUTPUTS
+            .by(workers, block)
+            .answered(&rt, input.as_bytes(), &NoGate)?;
         assert!(rt; outcome.output == first.output, "{workers} workers");
     }
     Ok(())
@@ -59,7 +51,7 @@ const TRIANGLES: &str = "OFF\n20000 39996 59994\n";
 #[test]
 fn has_its_triangles(rt: HostRuntime) -> Result<(), Fail> {
     let input = points(rt.alloc(), 20000)?;
-    let outcome = outcome_of(&rt, OFFT, input.as_bytes(), &NoGate)?;
+    let outcome = OFFT.answered(&rt, input.as_bytes(), &NoGate)?;
     assert!(rt; outcome.output.starts_with(TRIANGLES));
     // Two lines of counts and one line for each vertex are skipped; all lines after them are triangles.
     let faces = outcome.output.lines().skip(2 + 20000);
@@ -75,12 +67,12 @@ const LARGE_BEGINNING: &str =
 fn has_the_same_text_by_parts(rt: HostRuntime) -> Result<(), Fail> {
     let input = points(rt.alloc(), 70000)?;
     let asked = OUTPUTS.by(4, 4096);
-    let whole = outcome_of(&rt, asked, input.as_bytes(), &NoGate)?;
+    let whole = asked.answered(&rt, input.as_bytes(), &NoGate)?;
     let gate = Threaded {
         rt: &rt,
         threads: 4,
     };
-    let by_parts = outcome_of(&rt, asked, input.as_bytes(), &gate)?;
+    let by_parts = asked.answered(&rt, input.as_bytes(), &gate)?;
     let holds = whole.output.starts_with(LARGE_BEGINNING) && by_parts.output == whole.output;
     assert!(rt; holds);
     Ok(())

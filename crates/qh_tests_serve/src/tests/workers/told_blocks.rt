@@ -36,13 +36,9 @@ struct Keeper {
 impl Keeper {
     /// Creates a recording gate for a run of a number of passes.
     fn new(alloc: Global, passes: u32) -> Result<Keeper, AllocError> {
-        let mut blocks = Vec::new(alloc);
-        for _ in 0..BLOCKS {
-            blocks.push(AtomicU64::new(FREE))?;
-        }
         Ok(Keeper {
             passes,
-            blocks,
+            blocks: (0..BLOCKS).map(|_| AtomicU64::new(FREE)).collect(alloc)?,
             wrong: AtomicU64::new(0),
         })
     }
