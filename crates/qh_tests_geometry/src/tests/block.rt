@@ -1,14 +1,12 @@
 //! Rows of sets in a point, a line and a plane.
-ghost use Rattle.std.specs.Prelude.{◌<◌, length};
-ghost use Rattle.qh_model.specs.contract.IdSets.{AreIndices};
 
+use super::distinct_ids;
 use qh_block::{extremes, hull};
 use qh_fixtures::faces::are_round;
 use qh_fixtures::ids::are;
 use qh_fixtures::points::{point, square, times};
 use qh_fixtures::{Host, points_at};
-use qh_model::{Body, Id, Memory, POINT_LIMIT, Point};
-use qh_plane::distinct;
+use qh_model::{Body, Id, Memory, Point};
 use std::alloc::Global;
 use std::test::Fail;
 
@@ -50,36 +48,19 @@ fn is(body: &Body, row: &Row) -> bool {
         && are_round(&body.polygons, row.faces)
 }
 
-/// Returns the hull of some ids, and their extreme ids.
-fn hull_and_extremes(alloc: Global, pts: &[Point], ids: &[Id]) -> Result<(Body, Vec<Id>), Memory>
-    requires some { 0 < length ids.now }
-    requires indices { AreIndices pts.now ids.now }
-{
-    let body = hull(alloc, pts, ids)?;
-    let corners = extremes(alloc, pts, ids)?;
-    Ok((body, corners))
-}
-
-/// Returns the hull of the distinct points of a list that is neither empty nor too long, and their extreme ids.
-fn hull_of(
-    rt: &impl Host,
-    alloc: Global,
-    pts: &[Point],
-) -> Result<Option<(Body, Vec<Id>)>, Memory> {
-    if pts.len() > POINT_LIMIT as usize {
-        return Ok(None);
-    }
-    let ids = distinct(rt, alloc, pts)?;
+/// Returns the hull of the distinct points of a list, and their extreme ids; `None` if there are no points.
+fn hull_of(alloc: Global, pts: &[Point]) -> Result<Option<(Body, Vec<Id>)>, Memory> {
+    let ids = distinct_ids(alloc, pts)?;
     if ids.is_empty() {
         return Ok(None);
     }
-    let found = hull_and_extremes(alloc, pts, &ids)?;
-    Ok(Some(found))
+    let body = hull(alloc, pts, &ids)?;
+    Ok(Some((body, extremes(alloc, pts, &ids)?)))
 }
 
 /// Asserts that the hull of the distinct points of a list, and their extreme ids, are those of a row.
 fn assert_hull(rt: &impl Host, pts: &[Point], row: &Row) -> Result<(), Fail> {
-    let (body, corners) = hull_of(rt, rt.alloc(), pts)?.ok_or("no points")?;
+    let (body, corners) = hull_of(rt.alloc(), pts)?.ok_or("no points")?;
     let holds = is(&body, row) && are(&corners, row.extremes);
     assert!(rt; holds, "{body:?} and {corners:?}");
     Ok(())

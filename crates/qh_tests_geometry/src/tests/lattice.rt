@@ -44,6 +44,11 @@ fn volume(points: &[Point], step: u16) -> Option<i128> {
     Some(vol(*a, *b, *c, *d))
 }
 
+/// Returns the ratio of the volumes of four images and of their points.
+fn volume_ratio(images: &[Point], points: &[Point], step: u16) -> Option<i128> {
+    volume(images, step)?.checked_div(volume(points, step)?)
+}
+
 #[test]
 fn a_rod_is_mapped(rt: HostRuntime) -> Result<(), Fail> {
     let [points, _, _] = sets(rt.alloc())?;
@@ -53,17 +58,8 @@ fn a_rod_is_mapped(rt: HostRuntime) -> Result<(), Fail> {
     assert!(rt; images.iter().any(|p| p.x() > far) && images.iter().any(|p| p.x() < -far));
     assert!(rt; images.iter().any(|p| p.y() > far) && images.iter().any(|p| p.y() < -far));
     assert!(rt; images.iter().any(|p| p.z() > far) && images.iter().any(|p| p.z() < -far));
-    let before = [volume(&points, 7), volume(&points, 1001)];
-    let after = [volume(&images, 7), volume(&images, 1001)];
-    let ratios = before
-        .iter()
-        .zip(after)
-        .map(|(one, two)| two?.checked_div((*one)?));
-    let mut first = None;
-    for ratio in ratios {
-        assert!(rt; ratio > Some(0) && (first.is_none() || first == ratio));
-        first = ratio;
-    }
+    let ratios = [7, 1001].map(|step| volume_ratio(&images, &points, step));
+    assert!(rt; ratios[0] > Some(0) && ratios[0] == ratios[1], "{ratios:?}");
     Ok(())
 }
 

@@ -30,22 +30,15 @@ fn triangle(mesh: &Mesh, f: FacetNo) -> Option<Triangle> {
     }
 }
 
-/// Returns the point with a number, or the origin if the number is past the end.
-fn point_of(pts: &[Point], number: u32) -> Point {
-    match pts.get(number as usize) {
-        Some(point) => *point,
-        None => Point::new(0, 0, 0),
-    }
-}
-
 /// Returns true if the triangle at a place strictly sees a point.
 fn sees(mesh: &Mesh, pts: &[Point], f: FacetNo, apex: u32) -> bool {
-    match triangle(mesh, f) {
-        Some((a, b, c)) => {
-            let [a, b, c, p] = [a, b, c, apex].map(|number| point_of(pts, number));
-            vol(a, b, c, p) > 0
-        }
-        None => false,
+    let Some((a, b, c)) = triangle(mesh, f) else {
+        return false;
+    };
+    let points = [a, b, c, apex].map(|number| pts.get(number as usize).copied());
+    match points {
+        [Some(a), Some(b), Some(c), Some(p)] => vol(a, b, c, p) > 0,
+        _ => false,
     }
 }
 
@@ -82,23 +75,15 @@ fn seen_by(alloc: Global, mesh: &Mesh, pts: &[Point], apex: u32) -> Result<Vec<F
 
 /// Returns the triangles of a list, sorted.
 fn triangles(alloc: Global, mesh: &Mesh, list: &[FacetNo]) -> Result<Vec<Triangle>, AllocError> {
-    let mut out = Vec::new(alloc);
-    for f in list {
-        if let Some(t) = triangle(mesh, *f) {
-            out.push(t)?;
-        }
-    }
+    let found = list.iter().filter_map(|f| triangle(mesh, *f));
+    let mut out = found.collect::<Vec<Triangle>>(alloc)?;
     out.sort()?;
     Ok(out)
 }
 
 /// Returns the live facets.
 fn live(alloc: Global, mesh: &Mesh) -> Result<Vec<FacetNo>, AllocError> {
-    let mut out = Vec::new(alloc);
-    for f in mesh.live() {
-        out.push(f)?;
-    }
-    Ok(out)
+    mesh.live().collect(alloc)
 }
 
 /// Returns true if the twin of each side of a facet runs in the opposite direction, and has the side as its twin.

@@ -2,7 +2,7 @@
 
 use qh_fixtures::Host;
 use qh_model::{BLOCK_LIMIT, Cut, CutError, POINT_LIMIT};
-use std::alloc::Global;
+use std::alloc::AllocError;
 
 mod refusals;
 
@@ -22,9 +22,8 @@ fn assert_cut(rt: &impl Host, cut: Result<Cut, CutError>, want: Answer, row: &[u
 }
 
 /// Returns the cut with these bounds.
-fn from(alloc: Global, bounds: &[u32]) -> Result<Cut, CutError> {
-    let bounds = Vec::from_slice(alloc, bounds).map_err(|_| CutError::Memory)?;
-    Cut::from_bounds(bounds)
+fn from(bounds: Result<Vec<u32>, AllocError>) -> Result<Cut, CutError> {
+    Cut::from_bounds(bounds.map_err(|_| CutError::Memory)?)
 }
 
 /// The number of points and the size of a block, with the result of the even cut.
@@ -56,19 +55,14 @@ const GIVEN: [(&[u32], Answer); 5] = [
 #[test]
 fn given_bounds(rt: HostRuntime) {
     for (bounds, want) in GIVEN {
-        assert_cut(&rt, from(rt.alloc(), bounds), want, bounds);
+        let cut = from(Vec::from_slice(rt.alloc(), bounds));
+        assert_cut(&rt, cut, want, bounds);
     }
-}
-
-/// Returns the cut whose bounds are the first `count` numbers from 0.
-fn unit_blocks(alloc: Global, count: u32) -> Result<Cut, CutError> {
-    let bounds = (0..count).collect::<Vec<u32>>(alloc);
-    Cut::from_bounds(bounds.map_err(|_| CutError::Memory)?)
 }
 
 #[test]
 fn too_many_bounds(rt: HostRuntime) {
-    let cut = unit_blocks(rt.alloc(), BLOCK_LIMIT + 2);
+    let cut = from((0..BLOCK_LIMIT + 2).collect(rt.alloc()));
     let want = Err(CutError::TooManyBlocks);
     assert_cut(&rt, cut, want, &[BLOCK_LIMIT + 2]);
 }

@@ -1,10 +1,10 @@
 //! Filters a set of few points and the lattice points of a cube, of which 8 are extreme, and extreme ids
 //! without a filter.
+use crate::tests::distinct_ids;
 use qh_block::{cull_interior, extremes_unculled};
 use qh_fixtures::Host;
 use qh_fixtures::points::grid;
-use qh_model::{Id, Memory, POINT_LIMIT, Point};
-use qh_plane::distinct_alone;
+use qh_model::{Id, Memory, Point};
 use std::alloc::Global;
 use std::test::Fail;
 
@@ -15,10 +15,7 @@ fn left_of(
     points: &[Point],
     threads: u32,
 ) -> Result<(Option<Vec<Id>>, Vec<Id>), Memory> {
-    if points.len() > POINT_LIMIT as usize {
-        return Err(Memory);
-    }
-    let ids = distinct_alone(alloc, points)?;
+    let ids = distinct_ids(alloc, points)?;
     if ids.is_empty() {
         return Err(Memory);
     }

@@ -21,7 +21,7 @@ fn prism(alloc: Global) -> Result<Vec<Point>, AllocError> {
 #[test]
 fn prism_of_many_sides(rt: HostRuntime) -> Result<(), Fail> {
     let pts = prism(rt.alloc())?;
-    let mesh = solid_surface(&rt, rt.alloc(), &pts)?.ok_or("a flat set")?;
+    let mesh = solid_surface(rt.alloc(), &pts)?.ok_or("a flat set")?;
     // By Euler's formula, of 96,002 corners.
     let count = triangles(rt.alloc(), &mesh)?.len();
     assert_eq!(rt; count, 192000usize);

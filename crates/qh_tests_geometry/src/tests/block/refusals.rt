@@ -3,16 +3,16 @@
 use super::solid_rows::{CUBE, OCTAHEDRON};
 use super::surfaces::{is_surface, solid_surface, triangles};
 use super::{Row, SQUARE, hull_of, is};
+use qh_fixtures::again;
 use qh_fixtures::ids::are;
 use qh_fixtures::points::{cube, octahedron, square};
-use qh_fixtures::{Host, again};
 use qh_model::{Memory, Point};
 use std::alloc::{AllocError, Global};
 use std::test::Fail;
 
 /// Returns true if the result is a surface; `None` if the points are flat. Repeats the call if an allocation failed.
-fn has_surface(rt: &impl Host, alloc: Global, pts: &[Point]) -> Result<Option<bool>, Memory> {
-    let mesh = again!(solid_surface(rt, alloc, pts), Memory);
+fn has_surface(alloc: Global, pts: &[Point]) -> Result<Option<bool>, Memory> {
+    let mesh = again!(solid_surface(alloc, pts), Memory);
     let Some(mesh) = mesh? else {
         return Ok(None);
     };
@@ -21,9 +21,9 @@ fn has_surface(rt: &impl Host, alloc: Global, pts: &[Point]) -> Result<Option<bo
 }
 
 /// Returns true if the hull, the extreme ids and the surface are those of a row. Repeats each call that fails.
-fn comes_out_right(rt: &impl Host, alloc: Global, pts: &[Point], row: &Row) -> Result<bool, Fail> {
-    let (body, corners) = again!(hull_of(rt, alloc, pts), Memory)?.ok_or("no points")?;
-    let surface = has_surface(rt, alloc, pts)?;
+fn comes_out_right(alloc: Global, pts: &[Point], row: &Row) -> Result<bool, Fail> {
+    let (body, corners) = again!(hull_of(alloc, pts), Memory)?.ok_or("no points")?;
+    let surface = has_surface(alloc, pts)?;
     let wanted = (row.dim == 3).then_some(true);
     Ok(is(&body, row) && are(&corners, row.extremes) && surface == wanted)
 }
@@ -36,7 +36,7 @@ fn tries_again(rt: HostRuntime) -> Result<(), Fail> {
         (cube.as_slice(), &CUBE),
         (octahedron.as_slice(), &OCTAHEDRON),
     ] {
-        let right = comes_out_right(&rt, rt.alloc(), pts, row)?;
+        let right = comes_out_right(rt.alloc(), pts, row)?;
         assert!(rt; right, "{} points", pts.len());
     }
     Ok(())

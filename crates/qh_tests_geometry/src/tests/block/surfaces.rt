@@ -1,13 +1,12 @@
 //! The surfaces of solid sets, checked by a simple checker: each edge has its opposite, each triangle supports all
 //! points, and the counts are Euler's.
-ghost use Rattle.qh_model.specs.contract.IdSets.{IsIdSet, AreIndices};
 
+use crate::tests::distinct_ids;
 use qh_block::surface;
 use qh_fixtures::Host;
 use qh_fixtures::points::{LIMIT, lattice, octahedron, paraboloid, tetrahedron};
 use qh_mesh::Mesh;
-use qh_model::{Id, Memory, POINT_LIMIT, Point};
-use qh_plane::distinct;
+use qh_model::{Memory, Point};
 use qh_polygon::{Shape, rank};
 use qh_pred::Plane;
 use std::alloc::{AllocError, Global};
@@ -16,27 +15,16 @@ use std::test::Fail;
 /// The corners of a triangle, counterclockwise seen from outside.
 type Triangle = (u32, u32, u32);
 
-/// Returns the surface of a set, if it is solid.
-fn surface_of_set(alloc: Global, pts: &[Point], ids: &[Id]) -> Result<Option<Mesh>, Memory>
-    requires indices { AreIndices pts.now ids.now }
-    requires set { IsIdSet pts.now ids.now }
-{
+/// Returns the surface of the distinct points of a list, if they are solid.
+pub fn solid_surface(alloc: Global, pts: &[Point]) -> Result<Option<Mesh>, Memory> {
+    let ids = distinct_ids(alloc, pts)?;
     if ids.is_empty() {
         return Ok(None);
     }
-    match rank(pts, ids) {
-        Shape::Solid(_, _, _, _) => Ok(Some(surface(alloc, pts, ids)?)),
+    match rank(pts, &ids) {
+        Shape::Solid(_, _, _, _) => Ok(Some(surface(alloc, pts, &ids)?)),
         _ => Ok(None),
     }
-}
-
-/// Returns the surface of the distinct points of a list, if they are solid.
-pub fn solid_surface(rt: &impl Host, alloc: Global, pts: &[Point]) -> Result<Option<Mesh>, Memory> {
-    if pts.len() > POINT_LIMIT as usize {
-        return Ok(None);
-    }
-    let ids = distinct(rt, alloc, pts)?;
-    surface_of_set(alloc, pts, ids.as_slice())
 }
 
 /// Returns the triangles of a mesh.
@@ -68,17 +56,12 @@ fn closes(alloc: Global, triangles: &[Triangle]) -> Result<bool, AllocError> {
 /// Returns true if a triangle strictly sees none of the points.
 fn supports(pts: &[Point], triangle: Triangle) -> bool {
     let (a, b, c) = triangle;
-    match (
-        pts.get(a as usize),
-        pts.get(b as usize),
-        pts.get(c as usize),
-    ) {
-        (Some(a), Some(b), Some(c)) => {
-            let plane = Plane::through(*a, *b, *c);
-            pts.iter().all(|p| !plane.sees(*p))
-        }
-        _ => false,
-    }
+    let points = [a, b, c].map(|corner| pts.get(corner as usize).copied());
+    let [Some(a), Some(b), Some(c)] = points else {
+        return false;
+    };
+    let plane = Plane::through(a, b, c);
+    pts.iter().all(|p| !plane.sees(*p))
 }
 
 /// Returns the number of different corners.
@@ -110,7 +93,7 @@ pub fn is_surface(
 
 /// Returns the numbers of triangles and of corners of the surface of a solid set, and asserts that it is a surface.
 fn counts_of(rt: &impl Host, pts: &[Point]) -> Result<(usize, usize), Fail> {
-    let mesh = solid_surface(rt, rt.alloc(), pts)?.ok_or("a flat set")?;
+    let mesh = solid_surface(rt.alloc(), pts)?.ok_or("a flat set")?;
     let triangles = triangles(rt.alloc(), &mesh)?;
     let counts = (triangles.len(), corner_count(rt.alloc(), &triangles)?);
     let is_sound = is_surface(rt.alloc(), pts, &triangles)?;

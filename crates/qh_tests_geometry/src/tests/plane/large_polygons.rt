@@ -1,6 +1,6 @@
 //! A large grid in planes across each axis and in a slanted one: its inner points are dropped before the sort.
+use crate::tests::distinct_ids;
 use qh_model::{Memory, Point, Polygon};
-use qh_plane::distinct_alone;
 use qh_polygon::{outer_ids, polygon};
 use qh_pred::{Normal, cross};
 use std::alloc::Global;
@@ -36,7 +36,7 @@ pub fn normal_of(grid: &Grid) -> Normal {
 
 /// Returns the number of ids that the interior filter leaves.
 fn left_of(alloc: Global, grid: &Grid, normal: &Normal) -> Result<usize, Memory> {
-    let ids = distinct_alone(alloc, grid)?;
+    let ids = distinct_ids(alloc, grid)?;
     match outer_ids(alloc, grid, normal, &ids)? {
         Some(outer) => Ok(outer.len()),
         None => Ok(ids.len()),
@@ -45,7 +45,7 @@ fn left_of(alloc: Global, grid: &Grid, normal: &Normal) -> Result<usize, Memory>
 
 /// Returns the polygon of a grid.
 pub fn polygon_of(alloc: Global, grid: &Grid, normal: &Normal) -> Result<Polygon, Memory> {
-    let ids = distinct_alone(alloc, grid)?;
+    let ids = distinct_ids(alloc, grid)?;
     polygon(alloc, grid, &ids, normal)
 }
 

@@ -2,7 +2,6 @@
 use qh_fixtures::Host;
 use qh_model::{Id, POINT_LIMIT, Point};
 use qh_plane::{distinct, distinct_alone, distinct_in_threads};
-use std::alloc::{AllocError, Global};
 use std::test::Fail;
 
 /// The number of places. They differ in x, and lie neither close together nor in order.
@@ -16,26 +15,13 @@ fn place(number: usize) -> Point {
     Point::new(x as i32, y as i32, z as i32)
 }
 
-/// Returns `count` points, which repeat all places in order.
-fn places(alloc: Global, count: usize) -> Result<Vec<Point>, AllocError> {
-    let mut pts = Vec::new(alloc);
-    for number in 0..count {
-        pts.push(place(number))?;
-    }
-    Ok(pts)
-}
-
 /// The number of places of the grid: 11 along each axis.
 const GRID_PLACES: usize = 1331;
 
-/// Returns `count` points of a grid, which repeat all its places in order.
-fn grid(alloc: Global, count: usize) -> Result<Vec<Point>, AllocError> {
-    let mut pts = Vec::new(alloc);
-    for number in 0..count {
-        let (x, y, z) = (number % 11, number / 11 % 11, number / 121 % 11);
-        pts.push(Point::new(x as i32, y as i32, z as i32))?;
-    }
-    Ok(pts)
+/// Returns the place of the grid with this number.
+fn grid_place(number: usize) -> Point {
+    let (x, y, z) = (number % 11, number / 11 % 11, number / 121 % 11);
+    Point::new(x as i32, y as i32, z as i32)
 }
 
 /// Asserts that the ids are those of the first points, one for each of `places` places.
@@ -69,12 +55,17 @@ fn assert_distinct(
 #[test]
 fn first_of_each_place(rt: HostRuntime) -> Result<(), Fail> {
     for count in [PLACES, PLACES + 40_000] {
-        assert_distinct(&rt, &places(rt.alloc(), count)?, &[0, 1, 2, 3, 4], PLACES)?;
+        // The points repeat all places in order.
+        let pts = (0..count).map(place).collect::<Vec<Point>>(rt.alloc())?;
+        assert_distinct(&rt, &pts, &[0, 1, 2, 3, 4], PLACES)?;
     }
     Ok(())
 }
 
 #[test]
 fn first_of_each_place_of_a_grid(rt: HostRuntime) -> Result<(), Fail> {
-    assert_distinct(&rt, &grid(rt.alloc(), 140_000)?, &[1, 2, 4], GRID_PLACES)
+    let pts = (0..140_000)
+        .map(grid_place)
+        .collect::<Vec<Point>>(rt.alloc())?;
+    assert_distinct(&rt, &pts, &[1, 2, 4], GRID_PLACES)
 }
