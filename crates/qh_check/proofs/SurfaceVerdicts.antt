@@ -1,7 +1,7 @@
 -- Verdicts on surfaces: polygons with a fault are no surface, and polygons without a fault are one.
-use Rattle.std.proofs.Common.{ℕ, ◌≡◌, ◌≢◌, ◌<◌, ◌≤◌, arith, refl, subst, inl, inr, ap, List, [], ◌∷◌, length, get_or, All}
+use Rattle.std.proofs.Common.{ℕ, ◌≢◌, ◌<◌, ◌≤◌, arith, refl, inl, inr, List, [], length, get_or, All}
 use Rattle.qh_model.specs.{contract.ClosedPolygons.AreClosed, contract.ClosedPolygons.step_count, contract.IdSets.IsIdSet, headline.Vector.Vector}
-use Rattle.qh_model.specs.headline.{Predicates.place, Sets.Members, Dimension.IsDimension, Polygons.ArePolygons}
+use Rattle.qh_model.specs.headline.{Predicates.place, Sets.Members, Dimension.IsDimension}
 use Rattle.qh_model.proofs.Members.{All-In, In-get_or}
 use Rattle.qh_check.specs.contract.Claims.{ArePolygonsOf}
 use Rattle.qh_check.specs.contract.Surfaces.{IsFaceSurface, IsHullSurface, IsSurfaceReason, IsSurfaceVerdictOf}
@@ -67,17 +67,3 @@ module _ (pts : List Vector) (ids : List ℕ) (qs : List (List ℕ)) (flat : ¬ 
       no_surface : IsHullSurface (place pts) (Members ids) qs → ⊥
       no_surface (inl h) = flat h.0
       no_surface (inr h) = n h.1
-
--- ---- no polygon at all
-pub none_at_all : (at : ℕ → Vector) (A : ℕ → Type 0) (qs : List (List ℕ)) → length qs ≡ 0 → ¬ (IsHullSurface at A qs)
-none_at_all at A qs e (inl h) = let l = h.1.some in omega (arith, e, l)
-none_at_all at A qs e (inr (flat, (dim, is, polygons))) = by polygons
-  where
-    no_one : (q : List ℕ) → qs ≡ q ∷ [] → ⊥
-    no_one q f = let one : length qs ≡ 1 = ap length f in omega (arith, e, one)
-
-    by : ArePolygons at A dim qs → ⊥
-    by (inl p) = flat (subst (λ k. IsDimension at A k) p.0 is)
-    by (inr (inl p)) = no_one p.1.0 p.1.2
-    by (inr (inr (inl p))) = no_one p.1.0 p.1.2
-    by (inr (inr (inr p))) = no_one p.1.0 p.1.2
