@@ -1,12 +1,12 @@
 """The texts of a hull for other programs."""
 from __future__ import annotations
 
-from typing import Any, Iterator, NamedTuple
+from typing import Any, NamedTuple
 
 import numpy as np
 from numpy.typing import NDArray
 
-from .commands.number_texts import GROUPS, LETTERS, RECORDS, SIZE_BITS, groups_of_digits, joined, pieces_of, text_of, words_at
+from .commands.number_texts import GROUPS, RECORDS, digit_groups, text_of
 
 
 class Drawn(NamedTuple):
@@ -59,39 +59,26 @@ def ply_text(drawn: Drawn) -> str:
 
 def stl_text(places: NDArray[Any], triangles: NDArray[np.intp], normals: NDArray[np.float64]) -> str:
     """STL, as text: the normal and the corners of each triangle, which are numbers of places."""
-    head, middle, foot = map(pieces_of, ("facet normal ", "\nouter loop\n", "endloop\nendfacet\n"))
-    lines, blocks = _pieces_of_lines(_rows("vertex %r %r %r\n", places).encode("ascii")), [b"solid hull\n"]
+    lines = np.array(_rows("vertex %r %r %r\n", places).encode("ascii").splitlines(keepends=True), "S")
+    blocks = [b"solid hull\n"]
     for start in range(0, len(triangles), RECORDS):
         chosen = triangles[start : start + RECORDS]
-        corners = [pieces.take(numbers) for numbers in chosen.T for pieces in lines]
-        blocks.append(text_of([*head, *_units(normals[start : start + RECORDS]), *middle, *corners, *foot], len(chosen)))
+        x, y, z = _units(normals[start : start + RECORDS].T)
+        texts = "facet normal ", x, " ", y, " ", z, "\nouter loop\n", *map(lines.take, chosen.T), "endloop\nendfacet\n"
+        blocks.append(text_of([np.array(text, "S") for text in texts], len(chosen)))
     return b"".join([*blocks, b"endsolid hull\n"]).decode("ascii")
 
 
-def _units(normals: NDArray[np.float64]) -> Iterator[Any]:
-    """The columns of pieces of unit normals as the nearest float32, by which they are read back: with twelve decimals, or nine digits."""
-    near = normals.T.astype(np.float32).astype(np.float64)
+def _units(normals: NDArray[np.float64]) -> NDArray[np.bytes_]:
+    """The texts of unit normals as the nearest float32, by which they are read back: with twelve decimals, or nine digits."""
+    near = normals.astype(np.float32).astype(np.float64)
     sizes = np.abs(near)
     digits = np.rint(sizes * 1e12).astype(np.int64)  # of the exact product, which has 24 bits and 28
-    high, low, groups = digits // 10**8, digits % 10**8, groups_of_digits()
-    firsts = joined(np.append(pieces_of("0."), pieces_of("-0.")).take((near < 0).astype(np.intp)), groups.take(high))
-    pieces = np.stack([firsts, groups.take(low // GROUPS), groups.take(low % GROUPS)])
-    pieces[:, (sizes == 0) | (sizes == 1)] = 0
-    for text, number in ("-1.0", -1), ("0.0", 0), ("1.0", 1):
-        pieces[0, near == number] = pieces_of(text)
-    for axis, place in np.argwhere((sizes < 2.0**-16) & (sizes != 0)).tolist():
-        pieces[:, axis, place] = [*pieces_of(f"{near[axis, place]:.8e}"), 0][:3]
-    for axis in range(3):
-        yield from [*(pieces_of(" ") if axis else []), *pieces[:, axis]]
-
-
-def _pieces_of_lines(text: bytes) -> Any:
-    """The pieces of the lines of a text, each with its end: a column for each line."""
-    letters = np.frombuffer(text.ljust(len(text) + 8), np.uint8)
-    ends = np.flatnonzero(letters == ord("\n")) + 1
-    starts = np.append(0, ends[:-1])
-    places = np.arange(0, int((ends - starts).max(initial=0)), LETTERS)[:, np.newaxis]
-    sizes = np.clip(ends - starts - places, 0, LETTERS)
-    words = words_at(letters)[np.minimum(starts + places, len(text))]
-    bits = (sizes << 3).view(np.uint64)
-    return words & (np.uint64(1) << bits) - np.uint64(1) | sizes.view(np.uint64) << np.uint64(SIZE_BITS)
+    groups = [GROUPS + digits // GROUPS**place % GROUPS for place in (2, 1, 0)]
+    heads = np.array([b"\0\0000.", b"\0-0."], "S4").view(np.uint32).take((near < 0).astype(np.intp))
+    texts: NDArray[np.bytes_] = np.stack([heads, *map(digit_groups(b"0").take, groups)], axis=-1).view("S16")[..., 0]
+    for number in -1.0, 0.0, 1.0:
+        texts[near == number] = repr(number)
+    tiny = (sizes < 2.0**-16) & (sizes != 0)
+    texts[tiny] = [f"{number:.8e}" for number in near[tiny].tolist()]
+    return texts

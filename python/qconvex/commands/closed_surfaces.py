@@ -1,11 +1,12 @@
 """Planes, neighbours and incidences of many faces by numpy, as the loops of `hullfacets` find them, where it is installed."""
 from __future__ import annotations
 
+from concurrent.futures import ThreadPoolExecutor
 from itertools import chain
 from typing import Any, List, NamedTuple, Optional, Sequence, Tuple
 
 from .._limits import COORDINATE_LIMIT, POINT_LIMIT
-from .number_texts import LOW, LOW_BITS, Wide, wide_of
+from .number_texts import PART, PART_BITS, wide_of
 from .vectors import Vector
 
 try:
@@ -42,12 +43,11 @@ class Surface(NamedTuple):
 
 
 class Sides(NamedTuple):
-    """The face that each side belongs to, and the sides before it, behind it, and along it in another face."""
+    """The face that each side belongs to, and the sides before it and behind it."""
 
     faces: Any
     before: Any
     behind: Any
-    twins: Any
 
 
 def arrays_of(points: Sequence[Vector], faces: Sequence[List[int]]) -> Optional[Arrays]:
@@ -65,21 +65,28 @@ def surface_of(arrays: Optional[Arrays]) -> Optional[Surface]:
     points, corners, offsets = arrays
     if len(points) > POINT_LIMIT or len(corners) >> PLACE_BITS:
         return None
-    sides = sides_of(corners, offsets, len(points))
-    around = sides and faces_around(corners, sides, len(points))
-    planes = planes_of(arrays, sides) if sides else None
-    if sides is None or around is None or planes is None:
+    sides = sides_of(offsets)
+    with ThreadPoolExecutor(1) as pool:  # numpy lets another thread run
+        planes = pool.submit(planes_of, arrays, sides)
+        twins = twins_of(corners, corners[sides.behind], len(points))
+        around = None if twins is None else faces_around(corners, sides, twins, len(points))
+    found = planes.result()
+    if around is None or found is None:
         return None
-    normals, levels, volume = planes
-    return Surface(points, corners, offsets, sides.faces[sides.twins], normals, levels, *around, volume)
+    normals, levels, volume = found
+    return Surface(points, corners, offsets, sides.faces[twins], normals, levels, *around, volume)
 
 
-def sides_of(starts: Any, offsets: Any, count: int) -> Optional[Sides]:
-    """The sides, if each lies along just one other that runs the other way."""
+def sides_of(offsets: Any) -> Sides:
+    """The sides of faces."""
     faces = np.repeat(np.arange(len(offsets) - 1), np.diff(offsets))
-    before, behind = np.arange(-1, len(starts) - 1), np.arange(1, len(starts) + 1)
+    before, behind = np.arange(-1, offsets[-1] - 1), np.arange(1, offsets[-1] + 1)
     before[offsets[:-1]], behind[offsets[1:] - 1] = offsets[1:] - 1, offsets[:-1]
-    ends = starts[behind]
+    return Sides(faces, before, behind)
+
+
+def twins_of(starts: Any, ends: Any, count: int) -> Optional[Any]:
+    """The side along each side in another face, if each lies along just one other that runs the other way."""
     one, other = (starts < ends).nonzero()[0], (starts > ends).nonzero()[0]
     if len(one) != len(other) or len(one) + len(other) != len(starts):  # a side that is open, or has no length
         return None
@@ -89,7 +96,7 @@ def sides_of(starts: Any, offsets: Any, count: int) -> Optional[Sides]:
         return None
     twins = np.empty_like(starts)
     twins[one], twins[other] = other, one
-    return Sides(faces, before, behind, twins)
+    return twins
 
 
 def sorted_with(keys: Any, places: Any) -> Tuple[Any, Any]:
@@ -101,7 +108,7 @@ def sorted_with(keys: Any, places: Any) -> Tuple[Any, Any]:
     return both >> PLACE_BITS, both & (1 << PLACE_BITS) - 1
 
 
-def faces_around(starts: Any, sides: Sides, count: int) -> Optional[Tuple[Any, Any]]:
+def faces_around(starts: Any, sides: Sides, twins: Any, count: int) -> Optional[Tuple[Any, Any]]:
     """The faces round each point, the lowest first, counterclockwise, if they close up round each, and where they begin."""
     degrees = np.bincount(starts, minlength=count)
     if len(degrees) != count or not degrees.all():
@@ -109,7 +116,7 @@ def faces_around(starts: Any, sides: Sides, count: int) -> Optional[Tuple[Any, A
     firsts = np.empty(count, np.int64)
     firsts[starts[::-1]] = np.arange(len(starts))[::-1]
     order = np.argsort(-degrees, kind="stable")
-    ends, found, following = np.append(0, degrees.cumsum()), np.empty(len(starts), np.int64), sides.twins.take(sides.before)
+    ends, found, following = np.append(0, degrees.cumsum()), np.empty(len(starts), np.int64), twins.take(sides.before)
     now, places = firsts.take(order), ends.take(order)
     for count in np.cumsum(np.bincount(degrees)[:0:-1])[::-1].tolist():  # the points that have more faces than were found
         found[places[:count]] = now[:count]
@@ -171,12 +178,12 @@ def dot(normals: Any, places: Any) -> Tuple[Any, Any]:
     """The scalar products of columns as high * 2^31 + low: normals are at most 2^62 in size, places 2^30, so no sum overflows."""
     if max(-int(normals.min()), int(normals.max())) * max(-int(places.min()), int(places.max())) < 1 << 61:
         products = np.einsum("ij,ij->j", normals, places)
-        return products >> LOW_BITS, products & LOW
-    high, low = normals >> LOW_BITS, normals & LOW
+        return products >> PART_BITS, products & PART
+    high, low = normals >> PART_BITS, normals & PART
     return (high * places).sum(axis=0), (low * places).sum(axis=0)
 
 
 def sum_of(high: Any, low: Any) -> int:
     """The sum of all high * 2^31 + low."""
     halves = [(int((part >> 32).sum()) << 32) + int((part & 0xFFFFFFFF).sum()) for part in (high, low)]
-    return (halves[0] << LOW_BITS) + halves[1]
+    return (halves[0] << PART_BITS) + halves[1]

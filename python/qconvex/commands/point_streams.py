@@ -7,8 +7,6 @@ from itertools import chain
 from typing import Any, BinaryIO, Iterator, Sequence, Tuple
 
 from .._limits import COORDINATE_LIMIT
-from .number_texts import blocks_of as blocks_of_records
-from .number_texts import rows
 from .part_lines import DATA_WORD_STARTS, Refused, header_of
 
 BLOCK_BYTES, BLOCK_ROWS = 1 << 20, 1 << 15
@@ -117,9 +115,11 @@ def points_of_npy(path: str) -> Counted:
 
 def lines_of(points: Any, path: str = "") -> bytes:
     """The lines of points in an array, which are in range."""
+    from . import number_texts
+
     if points.max() > COORDINATE_LIMIT or points.min() < -COORDINATE_LIMIT:
         raise Refused(f"{path}: a coordinate is not from {-COORDINATE_LIMIT} to {COORDINATE_LIMIT}")
-    return b"".join(blocks_of_records([rows("", " ", points.astype("int64"))], "\n"))
+    return b"".join(number_texts.blocks_of([number_texts.rows("", " ", points.astype("int64"))], "\n"))
 
 
 READERS = {".npy": points_of_npy, ".csv": points_of_csv}
