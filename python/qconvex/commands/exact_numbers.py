@@ -2,9 +2,9 @@
 from __future__ import annotations
 
 import re
-from decimal import Context, Decimal, InvalidOperation
+from decimal import Context, Decimal
 from itertools import chain
-from typing import List, NamedTuple, Sequence, Tuple, Union
+from typing import List, NamedTuple, Optional, Sequence, Tuple, Union
 
 from .off_files import Malformed, Row
 
@@ -12,6 +12,9 @@ from .off_files import Malformed, Row
 MOST_DECIMALS = 2000
 EXACT = Context(prec=10**6)
 DECIMAL = re.compile(r"[+-]?([0-9]+\.?[0-9]*|\.[0-9]+)([eE][+-]?[0-9]+)?")
+# Each digit as 0, and a decimal in such digits, whose exponent has three at most.
+ZEROS = bytes.maketrans(b"123456789", b"000000000")
+OF_ZEROS = re.compile(rb"[+-]?(0{1,999}\.?0{0,999}|\.0{1,999})([eE][+-]?0{1,3})?")
 
 
 class Vertices(NamedTuple):
@@ -27,18 +30,47 @@ def along_axes(numbers: List[int]) -> List[List[int]]:
     return [numbers[axis::3] for axis in range(3)]
 
 
+def of_lines(text: bytes, separator: Optional[bytes] = None) -> Optional[Vertices]:
+    """The vertices of lines of three decimals, with blanks or a separator between; None of other lines, and of very long numbers.
+
+    All lines with the same shape are looked at together.
+    """
+    shapes = [list(map(bytes.strip, shape.split(separator))) for shape in set(text[:-1].translate(ZEROS).split(b"\n"))]
+    if not all(len(words) == 3 and all(map(OF_ZEROS.fullmatch, words)) for words in shapes):
+        return None
+    text = text.replace(separator, b" ") if separator else text
+    decimals = {len(word.partition(b".")[2]) for word in chain.from_iterable(shapes)}
+    if len(decimals) == 1 and b"e" not in text and b"E" not in text:
+        numbers, most = list(map(int, text.replace(b".", b"").split())), decimals.pop()
+    else:
+        numbers, most = of_decimals(text.lower().decode("ascii").split())
+    return Vertices(along_axes(numbers), 10**most, 10)
+
+
+def of_decimals(words: List[str]) -> Tuple[List[int], int]:
+    """Decimals as whole numbers, and the greatest number of digits behind the point."""
+    exponents = {place: int(word.partition("e")[2]) for place, word in enumerate(words) if "e" in word}
+    for place in exponents:
+        words[place] = words[place].partition("e")[0]
+    behind = [len(word) - 1 - point if (point := word.find(".")) >= 0 else 0 for word in words]
+    for place, exponent in exponents.items():
+        behind[place] -= exponent
+    most = max(0, max(behind))
+    powers = [10**power for power in range(most - min(behind) + 1)]
+    numbers = map(int, " ".join(words).replace(".", "").split())
+    return [number * powers[most - size] for number, size in zip(numbers, behind)], most
+
+
 def of_words(rows: Sequence[Row]) -> Vertices:
     """The vertices of rows of three decimal words."""
+    are_three = all(len(words) == 3 for _, words in rows)
+    found = of_lines("".join(",".join(words) + "\n" for _, words in rows).encode(), b",") if are_three else None
+    if found:
+        return found
     words = list(chain.from_iterable(words for _, words in rows))
-    joined = "".join(words)
-    odd = not joined.isascii() or any(part in joined for part in ("_", ".+", ".-"))  # what int() and Decimal() take as well
-    try:
-        if any(len(words) != 3 for _, words in rows) or odd and not all(map(DECIMAL.fullmatch, words)):
-            raise ValueError
-        plain = not any(letter in joined for letter in "eEnN")
-        numbers, decimals = (of_plain_words if plain else of_any_words)(words)
-    except (ValueError, InvalidOperation):
-        raise Malformed(fault_of(rows)) from None
+    if not are_three or not all(map(DECIMAL.fullmatch, words)):
+        raise Malformed(fault_of(rows))
+    numbers, decimals = of_any_words(words)
     return Vertices(along_axes(numbers), 10**decimals, 10)
 
 
@@ -51,20 +83,10 @@ def fault_of(rows: Sequence[Row]) -> str:
     raise AssertionError("all rows are right")
 
 
-def of_plain_words(words: List[str]) -> Tuple[List[int], int]:
-    """Decimals without exponents, as whole numbers, and the greatest number of digits behind the point."""
-    parts = [word.partition(".") for word in words]
-    decimals = max((len(behind) for _, _, behind in parts), default=0)
-    powers = [10**power for power in range(decimals + 1)]
-    return [int(before + behind) * powers[decimals - len(behind)] for before, _, behind in parts], decimals
-
-
 def of_any_words(words: List[str]) -> Tuple[List[int], int]:
-    """The same of any decimals."""
+    """The same of any decimals, which may be too long."""
     numbers = list(map(Decimal, words))
-    if not all(map(Decimal.is_finite, numbers)):
-        raise ValueError
-    decimals = max(0, *(-int(number.as_tuple().exponent) for number in numbers))
+    decimals = max([0, *(-int(number.as_tuple().exponent) for number in numbers)])
     if decimals > MOST_DECIMALS or any(number.adjusted() > MOST_DECIMALS for number in numbers):
         raise Malformed(f"a coordinate has more than {MOST_DECIMALS} digits before or behind the point")
     return [int(number.scaleb(decimals, EXACT)) for number in numbers], decimals

@@ -6,7 +6,6 @@ on, or below 1 where only that has room. Else they are rounded to the finest gri
 """
 from __future__ import annotations
 
-from dataclasses import dataclass
 from fractions import Fraction
 from itertools import chain
 from math import floor, gcd
@@ -25,13 +24,17 @@ class Map(NamedTuple):
     centre: Fractions
 
 
-@dataclass(frozen=True)
-class Rounded:
-    """The whole points of vertices, how many coordinates were rounded, and by how much at most."""
+class Rounded(NamedTuple):
+    """The whole points of vertices along each axis, how many coordinates were rounded, and by how much at most."""
 
-    points: List[Tuple[int, ...]]
-    count: int
+    axes: List[List[int]]
+    changed: int
     most: Fraction
+
+    @property
+    def points(self) -> List[Tuple[int, ...]]:
+        """The whole points."""
+        return list(zip(*self.axes))
 
 
 class Box:
@@ -99,6 +102,10 @@ def along_axis(numbers: Sequence[int], divisor: int, offset: Fraction, scale: Fr
     offset -= shift
     bottom = divisor * offset.denominator * scale.denominator
     top, start = offset.denominator * scale.numerator, offset.numerator * divisor * scale.denominator
+    common = gcd(bottom, top, start)
+    bottom, top, start = bottom // common, top // common, start // common
+    if bottom == 1:
+        return [number * top - start - shift for number in numbers], 0, Fraction(0)
     whole: List[int] = []
     count = most = 0
     for number in numbers:
@@ -107,7 +114,8 @@ def along_axis(numbers: Sequence[int], divisor: int, offset: Fraction, scale: Fr
             count += 1
             up = 2 * left > bottom or 2 * left == bottom and quotient % 2
             quotient, left = (quotient + 1, bottom - left) if up else (quotient, left)
-            most = max(most, left)
+            if left > most:
+                most = left
         whole.append(quotient - shift)
     return whole, count, Fraction(most, bottom)
 
@@ -116,7 +124,7 @@ def rounded(vertices: Vertices, by: Map) -> Rounded:
     """The whole points of the vertices."""
     axes = [along_axis(part, vertices.divisor, middle * by.scale, by.scale) for part, middle in zip(vertices.axes, by.centre)]
     wholes, counts, mosts = zip(*axes)
-    return Rounded(list(zip(*wholes)), sum(counts), max(mosts) / abs(by.scale))
+    return Rounded(list(wholes), sum(counts), max(mosts) / abs(by.scale))
 
 
 def decimals_of(size: Fraction) -> str:

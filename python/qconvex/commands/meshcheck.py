@@ -19,15 +19,16 @@ memory is out, and 5 where a file can't be read, or its points have more digits 
 from __future__ import annotations
 
 import argparse
+import gc
 import signal
 import sys
 from math import lcm
-from typing import List, Optional, Tuple
+from typing import Any, List, Optional, Tuple
 
 from .exact_faces import fault_of
 from .exact_numbers import Vertices
 from .grids import map_of_vertices, rounded
-from .mesh_faces import FACES
+from .mesh_faces import FACES, Faces, lists_of
 from .meshes import faces_of_mesh, vertices_of_mesh
 from .meshpoints import report
 from .off_files import Malformed
@@ -46,34 +47,36 @@ def places_among(points: Vertices, vertices: Vertices) -> List[int]:
     return [positions.get(point, len(mine)) for point in theirs]
 
 
-def points_and_faces(mesh: str, points: Optional[str]) -> Tuple[Vertices, List[List[int]]]:
+def points_and_faces(mesh: str, points: Optional[str]) -> Tuple[Vertices, Faces]:
     """The points to judge by, and the faces of a mesh by the positions of these."""
     vertices, faces = vertices_of_mesh(mesh), faces_of_mesh(mesh)
     if points is None:
         return vertices, faces
     given = vertices_of_mesh(points)
     places = places_among(given, vertices)
-    return given, [[places[corner] for corner in face] for face in faces]
+    return given, [[places[corner] for corner in face] for face in lists_of(faces)]
 
 
-def reason_of(vertices: Vertices, faces: List[List[int]], may_round: bool) -> str:
+def reason_of(vertices: Vertices, faces: Faces, may_round: bool) -> str:
     """What is wrong with faces, or that all is right."""
     found = rounded(vertices, map_of_vertices(vertices))
-    if found.count and not may_round:
-        return fault_of([(x, y, z) for x, y, z in zip(*vertices.axes)], faces) or RIGHT
-    if found.count:
+    if found.changed and not may_round:
+        return fault_of([(x, y, z) for x, y, z in zip(*vertices.axes)], lists_of(faces)) or RIGHT
+    if found.changed:
         report(found)
-    return reason_of_library([list(point) for point in found.points], faces)
+    return reason_of_library(found.axes, faces)
 
 
-def reason_of_library(points: List[List[int]], faces: List[List[int]]) -> str:
+def reason_of_library(axes: List[List[int]], faces: Any) -> str:
     """What the library says. It is Malformed that there is none."""
     try:
+        import numpy
+
         from .._checks import check
     except (ImportError, OSError) as missing:
         raise Malformed(f"meshcheck: numpy and the library are needed: {missing}") from None
     try:
-        return check(points, faces).reason
+        return check(numpy.array(axes).T, faces).reason
     except ValueError as refused:
         raise Malformed(f"meshcheck: {refused}") from None
 
@@ -92,9 +95,10 @@ def main() -> int:
     """Writes the verdict, and returns the status."""
     options = arguments()
     signal.signal(signal.SIGPIPE, signal.SIG_DFL)
+    gc.disable()  # what is made stays to the end
     try:
         vertices, faces = points_and_faces(options.mesh, options.points)
-        reason = reason_of(vertices, [face[::-1] for face in faces] if options.clockwise else faces, options.rounded)
+        reason = reason_of(vertices, [face[::-1] for face in lists_of(faces)] if options.clockwise else faces, options.rounded)
     except Malformed as wrong:
         print(wrong, file=sys.stderr)
         return UNREAD

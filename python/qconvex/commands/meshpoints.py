@@ -20,6 +20,7 @@ and slanted fall into triangles, and of corners that are mirror images one may b
 from __future__ import annotations
 
 import argparse
+import gc
 import re
 import signal
 import sys
@@ -28,6 +29,7 @@ from fractions import Fraction
 from .._limits import COORDINATE_LIMIT, POINT_LIMIT
 from . import contents, off_files
 from .grids import Fractions, Map, Rounded, decimals_of, map_of_vertices, rounded
+from .mesh_faces import lists_of
 from .meshes import READERS, faces_of_mesh, vertices_of_mesh
 from .off_files import Malformed, Number, off_text, read_off_file
 
@@ -36,20 +38,20 @@ NOTE = re.compile(r"scale (\S+) centre (\S+) (\S+) (\S+)")
 
 def write_points(found: Rounded, by: Map) -> None:
     """Writes the point file."""
-    if max(abs(part) for point in found.points for part in point) > COORDINATE_LIMIT:
+    if max(max(max(axis), -min(axis)) for axis in found.axes) > COORDINATE_LIMIT:
         sys.exit(f"meshpoints: with this scale a coordinate is beyond {COORDINATE_LIMIT}")
     print(3, "scale", by.scale, "centre", *by.centre)
-    print(len(found.points))
-    sys.stdout.writelines("%d %d %d\n" % point for point in found.points)
+    print(len(found.axes[0]))
+    sys.stdout.write("".join(map("%d %d %d\n".__mod__, zip(*found.axes))))
     report(found)
-    if len(found.points) > POINT_LIMIT:
+    if len(found.axes[0]) > POINT_LIMIT:
         print(f"more than {POINT_LIMIT} points: hullmany takes them", file=sys.stderr)
 
 
 def report(found: Rounded) -> None:
     """Says how many coordinates were rounded, and by how much at most."""
-    rounding = f"{found.count} of {3 * len(found.points)} coordinates were rounded, by at most {decimals_of(found.most)}"
-    print(rounding if found.count else "exact: no coordinate was rounded", file=sys.stderr)
+    rounding = f"{found.changed} of {3 * len(found.axes[0])} coordinates were rounded, by at most {decimals_of(found.most)}"
+    print(rounding if found.changed else "exact: no coordinate was rounded", file=sys.stderr)
 
 
 def number(word: str) -> Fraction:
@@ -95,7 +97,7 @@ def write_back(by: Map) -> None:
 def write_faces(path: str, by: Map) -> None:
     """Writes the faces of a mesh as OFF, with its vertices on a grid."""
     found = rounded(vertices_of_mesh(path), by)
-    sys.stdout.write(off_text(found.points, faces_of_mesh(path)))
+    sys.stdout.write(off_text(found.points, lists_of(faces_of_mesh(path))))
     report(found)
 
 
@@ -116,6 +118,7 @@ def main() -> None:
     parser.add_argument("mesh", nargs="?", metavar="MESH", help="a file whose name ends with one of " + " ".join(READERS))
     options = parser.parse_args()
     signal.signal(signal.SIGPIPE, signal.SIG_DFL)
+    gc.disable()  # what is made stays to the end
     if options.back:
         write_back(map_of(options.back))
         return

@@ -7,6 +7,7 @@ from fractions import Fraction
 from typing import Any, List, NamedTuple, Optional, Sequence, Tuple, Union
 
 from . import contents
+from .part_lines import end_of_line
 
 # A whole number where it is whole.
 Number = Union[int, Fraction]
@@ -20,6 +21,9 @@ EXPONENT = re.compile(r"[eE]([-+]?\d[\d_]*)$")
 # What may stand before OFF: texture, colours and normals behind the three coordinates.
 KEYWORD = re.compile(r"(ST)?C?N?OFF", re.IGNORECASE)
 COUNT = re.compile("[0-9]+")
+# How programs begin a text that has nothing but numbers then.
+OF_NUMBERS = b"0123456789+-.eE \n"
+PLAIN = re.compile(rb"OFF\n([0-9]{1,9}) ([0-9]{1,9})( [0-9]{1,9})?\n")
 
 
 class Faces(NamedTuple):
@@ -62,6 +66,27 @@ def rows_of(text: str) -> List[Row]:
             raise Malformed(f"line {line}: of OFF texts, those with three coordinates are read")
         return [(line, rest), *rows[1:]] if rest else rows[1:]
     return rows[1:] if rows[0][1] == ["3"] else rows
+
+
+def text_of_numbers(body: bytes, count: int) -> Optional[bytes]:
+    """A text with a line end at its end, if it has so many lines, none of them empty, of the letters of numbers; else None."""
+    text = body if body.endswith(b"\n") else body + b"\n"
+    if text.count(b"\n") != count or text.translate(None, OF_NUMBERS) or text[:1] in b" \n" or b"\n " in text or b"\n\n" in text:
+        return None
+    return text
+
+
+def lines_at(text: bytes, start: int, count: int) -> bytes:
+    """Some lines of a text from one on."""
+    return text[end_of_line(text, start) if start else 0 : end_of_line(text, start + count) if count else 0]
+
+
+def plain_parts(data: bytes) -> Optional[Tuple[bytes, bytes]]:
+    """The lines of the points and of the faces of a text of numbers; None where `rows_of` has to look."""
+    head = PLAIN.match(data)
+    points, faces = map(int, head.groups()[:2]) if head else (0, 0)
+    text = text_of_numbers(data[head.end() :], points + faces) if head else None
+    return (lines_at(text, 0, points), lines_at(text, points, faces)) if text else None
 
 
 def parts_of(rows: List[Row]) -> Tuple[List[Row], List[Row]]:

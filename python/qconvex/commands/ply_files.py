@@ -2,12 +2,11 @@
 from __future__ import annotations
 
 import struct
-from dataclasses import dataclass
 from itertools import chain
-from typing import List, Tuple
+from typing import List, NamedTuple, Tuple
 
-from .exact_numbers import Vertices, of_numbers, of_words
-from .off_files import COUNT, Malformed, Row, lines_of
+from .exact_numbers import Vertices, of_lines, of_numbers, of_words
+from .off_files import COUNT, Malformed, Row, lines_at, lines_of, text_of_numbers
 
 # The types of ply, by struct's letters.
 TYPES = dict(zip("char uchar short ushort int uint float double".split(), "bBhHiIfd"))
@@ -15,12 +14,11 @@ TYPES.update(zip("int8 uint8 int16 uint16 int32 uint32 float32 float64".split(),
 ORDERS = {"binary_little_endian": "<", "binary_big_endian": ">", "ascii": ""}
 
 
-@dataclass(frozen=True)
-class Element:
-    """An element of a ply file: its name, its count, and the words of each of its properties."""
+class Element(NamedTuple):
+    """An element of a ply file: its name, how many rows it has, and the words of each of its properties."""
 
     name: str
-    count: int
+    rows: int
     properties: List[List[str]]
 
     def has_list(self) -> bool:
@@ -28,14 +26,17 @@ class Element:
         return any(words[0] == "list" for words in self.properties)
 
 
-@dataclass(frozen=True)
-class Header:
+class Header(NamedTuple):
     """The header of a ply file."""
 
     elements: List[Element]
     order: str  # of the bytes; none for text
     lines: int
     end: int  # where the body begins
+
+    def rows(self) -> int:
+        """The rows of all elements."""
+        return sum(element.rows for element in self.elements)
 
     def vertex(self) -> Tuple[List[Element], Element]:
         """The elements before the vertices, and that of the vertices, which has x, y and z."""
@@ -101,7 +102,7 @@ def ply_rows(body: bytes, header: Header) -> List[Row]:
     """The rows of a text, one for each that its header counts."""
     split = ((line, text.split()) for line, text in enumerate(lines_of(body.decode("utf-8", "replace")), header.lines + 1))
     rows = [row for row in split if row[1] and row[1][0] != "comment"]
-    wanted = sum(element.count for element in header.elements)
+    wanted = header.rows()
     if len(rows) != wanted:
         raise Malformed(f"the header of the ply file counts {wanted} rows, and {len(rows)} rows follow line {header.lines}")
     return rows
@@ -111,8 +112,12 @@ def of_ply_text(body: bytes, header: Header) -> Vertices:
     """The vertices of a text, behind the rows of the elements before."""
     before, element = header.vertex()
     places = [[words[-1] for words in element.properties].index(axis) for axis in "xyz"]
-    first = sum(other.count for other in before)
-    found = ply_rows(body, header)[first : first + element.count]
+    first = sum(other.rows for other in before)
+    text = text_of_numbers(body, header.rows()) if places == [0, 1, 2] else None
+    plain = of_lines(lines_at(text, first, element.rows)) if text else None
+    if plain:
+        return plain
+    found = ply_rows(body, header)[first : first + element.rows]
     for line, words in found:
         if len(words) != len(element.properties):
             raise Malformed(f"line {line}: a vertex has {len(words)} numbers; its properties are {len(element.properties)}")
@@ -125,8 +130,8 @@ def of_ply_bytes(body: bytes, header: Header) -> Vertices:
     names = [words[-1] for words in element.properties]
     x, y, z = map(names.index, "xyz")
     row = layout_of(element, header.order)
-    first = sum(other.count * layout_of(other, header.order).size for other in before)
-    end = first + element.count * row.size
+    first = sum(other.rows * layout_of(other, header.order).size for other in before)
+    end = first + element.rows * row.size
     if len(body) < end:
         raise Malformed(f"the ply file has {len(body)} bytes behind its header; its vertices end at byte {end}")
     rows = row.iter_unpack(body[first:end])

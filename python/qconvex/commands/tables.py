@@ -2,14 +2,18 @@
 from __future__ import annotations
 
 import io
-from typing import List
+import re
+from typing import List, Optional
 
-from .exact_numbers import Vertices, of_numbers, of_words
-from .off_files import COUNT, Malformed, Row, lines_of
+from .exact_numbers import Vertices, of_lines, of_numbers, of_words
+from .off_files import COUNT, Malformed, Row, lines_of, text_of_numbers
 
 SEPARATORS = ";,\t"
 AXES = ["x", "y", "z"]
 NUMBER_STARTS = "0123456789+-."
+# The header of a point file, with a comment behind the 3, and a row of names.
+HEAD = re.compile(rb"3(?: +[^-+.0-9 \t\v\f\r\n][^\r\n]*)?\n([0-9]{1,9})\n")
+NAMES = re.compile(rb"x([ ;,\t])y\1z\n")
 
 
 def rows_of_table(data: bytes) -> List[Row]:
@@ -20,8 +24,20 @@ def rows_of_table(data: bytes) -> List[Row]:
     return [(place, [word.strip(" \"'") for word in text.split(separator)]) for place, text in numbered]
 
 
+def of_plain_table(data: bytes) -> Optional[Vertices]:
+    """The points of a table of three columns of decimals, with x, y and z above them or not; None of any other."""
+    names = NAMES.match(data)
+    body = (data[names.end() :] if names else data).rstrip(b"\n") + b"\n"
+    first = data[: data.find(b"\n")]
+    separator = next((bytes([sign]) for sign in SEPARATORS.encode() if sign in first), None)
+    return of_lines(body, separator) if text_of_numbers(body.replace(separator or b" ", b" "), body.count(b"\n")) else None
+
+
 def of_table(data: bytes) -> Vertices:
     """The points of a table: its columns x, y and z where its first row names them, else the first three."""
+    plain = of_plain_table(data)
+    if plain:
+        return plain
     rows = rows_of_table(data)
     if not rows:
         raise Malformed("there are no points")
@@ -41,6 +57,11 @@ def of_table(data: bytes) -> Vertices:
 
 def of_point_text(data: bytes) -> Vertices:
     """The points of a point file, of decimals, too, as rbox writes them; of a text without its header those of its rows."""
+    head = HEAD.match(data)
+    text = text_of_numbers(data[head.end() :], int(head[1])) if head else None
+    plain = of_lines(text) if text else None
+    if plain:
+        return plain
     rows = [(line, numbers_of(text)) for line, text in enumerate(lines_of(data.decode("utf-8", "replace")), 1)]
     rows = [row for row in rows if row[1]]
     if rows and len(rows[0][1]) == 3:
