@@ -203,5 +203,5 @@ class Ends(unittest.TestCase):
         runs = part_runs.Runs(["command"], 1, 3)
         with mock.patch.object(part_runs, "attempt", side_effect=OSError("no space")):
             with self.assertRaises(OSError):
-                runs.extremes(Part(b"1 2 3\n", 1, 2))
+                runs.answer(Part(b"1 2 3\n", 1, 2))
         self.assertEqual(runs.free, ["command"])

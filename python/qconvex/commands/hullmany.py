@@ -10,7 +10,8 @@ extreme points as ever. Of equal points the lowest index stands for all. Points 
 by word, which is slower.
 
 Each part is given to a shell command on its standard input, `COMMAND Fx off`, whose standard output is read. By itself that
-is the program that was built where this command stands in its repository, else `qconvex-exact` or `qconvex` as installed;
+is the program that was built where this command stands in its repository, else `qconvex-exact` or `qconvex` as installed,
+which is given at once as many points as it takes, with --jobs workers;
 other machines, or a job runner, are named by --run, once each. Every command works at --jobs parts at a time, and takes
 the next part as soon as it is free. A part that a command fails at is tried again, by another
 command if there is one:
@@ -34,6 +35,7 @@ status is 0, or 1 with a line that says what was wrong.
 from __future__ import annotations
 
 import argparse
+import os
 import shlex
 import shutil
 import sys
@@ -41,12 +43,11 @@ import time
 from collections import deque
 from concurrent.futures import Future, ThreadPoolExecutor
 from contextlib import contextmanager
-from pathlib import Path
-from typing import TYPE_CHECKING, BinaryIO, Deque, Iterable, Iterator, List, Optional, Tuple
+from typing import TYPE_CHECKING, BinaryIO, Deque, Iterable, Iterator, List, NamedTuple, Optional, Tuple
 
 from .._limits import POINT_LIMIT
 from .part_lines import LineParts, Part, Refused, header_of, part_of_points, word_parts
-from .part_runs import Extremes, Irregular, Runs
+from .part_runs import Answer, Irregular, Runs
 from .point_streams import are_one_text, opened
 
 if TYPE_CHECKING:
@@ -54,14 +55,15 @@ if TYPE_CHECKING:
 
 # A point as its index and its line.
 Indexed = Tuple[int, bytes]
-Pending = Deque[Tuple[Part, "Future[Extremes]"]]
+Pending = Deque[Tuple[Part, "Future[Answer]"]]
 
 OUTPUTS = ["Fx", "off"]
-BUILT = Path(__file__).resolve().parents[3] / "crates" / "qconvex" / "out" / "qconvex"
+BUILT = os.path.join(os.path.realpath(__file__).rsplit(os.sep, 4)[0], "crates", "qconvex", "out", "qconvex")
 # The number of lines before a part that are not those of one file.
 NO_LINES = -(1 << 62)
 # With no --part, the first round has about PARTS_EACH parts for each that is worked at at a time, of LEAST_PART points at least.
 PARTS_EACH, LEAST_PART = 6, 1 << 16
+MOST_WORKERS = 64  # of the program
 
 
 class Progress:
@@ -100,10 +102,10 @@ def threads_for(runs: Runs) -> Iterator[ThreadPoolExecutor]:
             raise
 
 
-def in_order(parts: Iterable[Part], runs: Runs, pool: ThreadPoolExecutor, pending: Pending) -> Iterator[Tuple[Part, Extremes]]:
+def in_order(parts: Iterable[Part], runs: Runs, pool: ThreadPoolExecutor, pending: Pending) -> Iterator[Tuple[Part, Answer]]:
     """Each part with its extreme points, in order; those that are worked at stand in `pending`, twice as many as there are runs."""
     for part in parts:
-        pending.append((part, pool.submit(runs.extremes, part)))
+        pending.append((part, pool.submit(runs.answer, part)))
         if len(pending) == 2 * runs.count:
             yield pending[0][0], pending[0][1].result()
             pending.popleft()
@@ -112,8 +114,15 @@ def in_order(parts: Iterable[Part], runs: Runs, pool: ThreadPoolExecutor, pendin
         pending.popleft()
 
 
-def first_round(parts: LineParts, runs: Runs, progress: Progress) -> Tuple[List[Indexed], int]:
-    """The extreme points of parts of lines, each as its index and its line, and the number of all points."""
+class Left(NamedTuple):
+    """Points among which all extreme points are, and what the program answers of all where they were one part."""
+
+    points: List[Indexed]
+    answer: Optional[Answer] = None
+
+
+def first_round(parts: LineParts, runs: Runs, progress: Progress) -> Left:
+    """The extreme points of parts of lines, each as its index and its line."""
     kept: List[Indexed] = []
     pending: Pending = deque()
     first = 0
@@ -121,11 +130,11 @@ def first_round(parts: LineParts, runs: Runs, progress: Progress) -> Tuple[List[
         answers = in_order(parts, runs, pool, pending)
         while True:
             try:
-                for part, (places, points) in answers:
-                    kept += zip((first + place for place in places), points)
+                for part, found in answers:
+                    kept += zip((first + place for place in found.places), found.points)
                     first += part.count
-                    progress.done(part, len(places))
-                return kept, first
+                    progress.done(part, len(found.places))
+                return Left(kept, found if progress.parts == 1 else None)
             except Irregular:
                 held = [part for part, _ in pending]
                 pending.clear()
@@ -139,24 +148,26 @@ def next_round(points: List[Indexed], size: int, runs: Runs, progress: Progress)
     kept: List[Indexed] = []
     with threads_for(runs) as pool:
         parts = [part_of_points(point for _, point in part) for part in dealt]
-        for part, (of_part, (places, _)) in zip(dealt, in_order(parts, runs, pool, deque())):
-            kept += (part[place] for place in places)
-            progress.done(of_part, len(places))
+        for part, (of_part, found) in zip(dealt, in_order(parts, runs, pool, deque())):
+            kept += (part[place] for place in found.places)
+            progress.done(of_part, len(found.places))
     return sorted(kept)
 
 
-def survivors(source: BinaryIO, is_file: bool, options: argparse.Namespace, runs: Runs) -> List[Indexed]:
+def survivors(source: BinaryIO, is_file: bool, options: argparse.Namespace, runs: Runs) -> Left:
     """Points among which all extreme points are, in the order of their indices, as many as fit one part."""
     header = header_of(source)
     before = header.lines - bool(header.rest) if is_file else NO_LINES
     size = options.part or min(POINT_LIMIT, max(LEAST_PART, -(-header.count // (PARTS_EACH * runs.count))))
+    if header.count <= POINT_LIMIT and not (options.part or options.run):  # the program takes them at once
+        size, runs = POINT_LIMIT, Runs([own_command(min(runs.count, MOST_WORKERS))], 1, options.retries)
     progress = Progress(1, header.count, not options.quiet)
     parts = LineParts(source, size, header.rest, before)
-    points, found = first_round(parts, runs, progress)
+    left = first_round(parts, runs, progress)
     progress.tell()
-    if found != header.count:
-        raise Refused(f"the input has {found} points; the header counts {header.count}")
-    return fewer(points, options, runs)
+    if progress.points != header.count:
+        raise Refused(f"the input has {progress.points} points; the header counts {header.count}")
+    return left if left.answer else Left(fewer(left.points, options, runs))
 
 
 def fewer(points: List[Indexed], options: argparse.Namespace, runs: Runs) -> List[Indexed]:
@@ -174,7 +185,7 @@ def fewer(points: List[Indexed], options: argparse.Namespace, runs: Runs) -> Lis
     return points
 
 
-def by_dask(options: argparse.Namespace) -> Tuple[List[Indexed], Optional[Snapped]]:
+def by_dask(options: argparse.Namespace) -> Tuple[Left, Optional[Snapped]]:
     """The extreme points of files, by the workers of a Dask scheduler, and the grid of floats."""
     try:
         from ..dask import extremes
@@ -183,10 +194,10 @@ def by_dask(options: argparse.Namespace) -> Tuple[List[Indexed], Optional[Snappe
     except (ImportError, OSError, TypeError, ValueError) as why:
         raise Refused(f"{options.engine}: {why}") from None
     points = found.grid.points if found.grid else found.points
-    return [(index, b"%d %d %d" % tuple(point)) for index, point in zip(found.indices.tolist(), points.tolist())], found.grid
+    return Left([(index, b"%d %d %d" % tuple(point)) for index, point in zip(found.indices.tolist(), points.tolist())]), found.grid
 
 
-def by_runs(options: argparse.Namespace, runs: Runs) -> Tuple[List[Indexed], Optional[Snapped]]:
+def by_runs(options: argparse.Namespace, runs: Runs) -> Tuple[Left, Optional[Snapped]]:
     """The same by the commands."""
     if options.bits is None:
         with opened(options.file) if options.file else sys.stdin.buffer as source:
@@ -201,27 +212,28 @@ def by_runs(options: argparse.Namespace, runs: Runs) -> Tuple[List[Indexed], Opt
         raise Refused(str(why)) from None
 
 
-def answer(points: List[Indexed], grid: Optional[Snapped], runs: Runs, outputs: List[str]) -> bytes:
+def texts_of(left: Left, grid: Optional[Snapped], runs: Runs, outputs: List[str]) -> List[bytes]:
     """The texts of the outputs for the whole input."""
-    text = runs.answer(part_of_points(point for _, point in points))
-    head, _, off = text.partition(b"OFF\n")
-    indices = [points[int(place)][0] for place in head.split()[1:]]
+    found = left.answer or runs.answer(part_of_points(point for _, point in left.points))
+    indices, off = found.indices, found.off
+    if not left.answer:
+        indices = b"".join(b"%d\n" % number for number in [len(found.places), *(left.points[place][0] for place in found.places)])
     if grid:
         from .float_streams import in_units, told
 
         print(told(grid), file=sys.stderr)
         off = in_units(off, grid)
-    texts = {"Fx": b"".join(b"%d\n" % number for number in [len(indices), *indices]), "off": b"OFF\n" + off}
-    return b"".join(texts[output] for output in outputs)
+    texts = {"Fx": [indices], "off": [b"OFF\n", off]}
+    return [text for output in outputs for text in texts[output]]
 
 
-def own_command() -> str:
-    """The program with one worker: that of this repository where it was built, else one that is installed."""
+def own_command(workers: int = 1) -> str:
+    """The program with some workers: that of this repository where it was built, else one that is installed."""
     installed = shutil.which("qconvex-exact") or shutil.which("qconvex")
-    program = str(BUILT) if BUILT.exists() else installed
+    program = BUILT if os.path.exists(BUILT) else installed
     if not program:
         raise Refused("the program is not installed: name one by --run")
-    return f"{shlex.quote(program)} --workers 1"
+    return f"{shlex.quote(program)} --workers {workers}"
 
 
 def arguments() -> argparse.Namespace:
@@ -251,10 +263,10 @@ def main() -> None:
     options = arguments()
     try:
         runs = Runs(options.run or [own_command()], options.jobs, options.retries)
-        points, grid = by_dask(options) if options.engine else by_runs(options, runs)
-        if not points:
+        left, grid = by_dask(options) if options.engine else by_runs(options, runs)
+        if not left.points:
             raise Refused("there are no points")
-        sys.stdout.buffer.write(answer(points, grid, runs, options.outputs))
+        sys.stdout.buffer.writelines(texts_of(left, grid, runs, options.outputs))
     except (Refused, OSError) as why:
         sys.exit(f"hullmany: {why}")
     except KeyboardInterrupt:

@@ -1,9 +1,8 @@
 """A point file in parts of whole lines, and word by word where points do not stand a line each."""
 from __future__ import annotations
 
-from dataclasses import dataclass
 from itertools import chain, islice
-from typing import BinaryIO, Iterable, Iterator, List
+from typing import BinaryIO, Iterable, Iterator, List, NamedTuple
 
 # A data word begins with one of these bytes; any other word begins a comment.
 DATA_WORD_STARTS = b"0123456789+-."
@@ -14,20 +13,18 @@ class Refused(Exception):
     """Why there is no answer."""
 
 
-@dataclass(frozen=True)
-class Part:
+class Part(NamedTuple):
     """Points in turn, as a text of lines."""
 
     text: bytes
-    count: int  # of the lines, which is that of the points where each has one
+    count: int  # type: ignore[assignment]  # of the lines, which is that of the points where each has one
     line: int  # the number of lines of the file before it; below 0 where the lines are not the file's
 
 
-@dataclass(frozen=True)
-class Header:
+class Header(NamedTuple):
     """What stands before the points."""
 
-    count: int
+    count: int  # type: ignore[assignment]
     lines: int  # how many lines it takes
     rest: bytes  # the words of its last line that are points
 

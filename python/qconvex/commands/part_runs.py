@@ -5,14 +5,10 @@ import os
 import re
 import subprocess
 import sys
-import tempfile
 import threading
-from typing import IO, List, Optional, Tuple
+from typing import IO, List, NamedTuple, Optional
 
 from .part_lines import Part, Refused
-
-# The places of extreme points, and their lines.
-Extremes = Tuple[List[int], List[bytes]]
 
 # What the program says on standard error where it refuses the points: a number, a name, and mostly a line.
 REFUSAL = re.compile(r"qconvex: (\d+): (\w+)(?: at line (\d+))?\s*$")
@@ -22,6 +18,16 @@ HEADER_LINES = 2
 FAILURES = 4
 # Seconds before a part is tried again, in which an interrupt that ended its command ends the whole.
 PAUSE = 0.1
+
+
+class Answer(NamedTuple):
+    """What the program answers of a part to `Fx off`: the first text, the second behind its first line, the places of the extreme
+    points, and their lines."""
+
+    indices: bytes
+    off: bytes
+    places: List[int]
+    points: List[bytes]
 
 
 class Irregular(Exception):
@@ -34,7 +40,11 @@ class Failed(Exception):
 
 def unnamed_file() -> IO[bytes]:
     """A file in memory where the system has such."""
-    return os.fdopen(os.memfd_create("part"), "w+b") if hasattr(os, "memfd_create") else tempfile.TemporaryFile()
+    if hasattr(os, "memfd_create"):
+        return os.fdopen(os.memfd_create("part"), "w+b")
+    from tempfile import TemporaryFile
+
+    return TemporaryFile()
 
 
 def attempt(command: str, part: Part) -> bytes:
@@ -64,18 +74,18 @@ def place_of(part: Part, line: Optional[str]) -> str:
     return f"line {part.line + int(line) - HEADER_LINES}"
 
 
-def extremes_in(answer: bytes) -> Extremes:
-    """The places of the extreme points that `Fx off` tells, and their lines."""
+def answer_in(text: bytes) -> Answer:
+    """The answer that a text is."""
     try:
-        head, _, rest = answer.partition(b"OFF\n")
+        head, _, rest = text.partition(b"OFF\n")
         count, *places = map(int, head.split())
         counts, *lines = rest.split(b"\n", count + 1)[: count + 1]
         corners, faces, _ = map(int, counts.split())
     except ValueError:
         raise Failed("what it answers is not what Fx off writes") from None
-    if not count == corners == len(places) == len(lines) or answer.count(b"\n", len(head)) != corners + faces + 2:
+    if not count == corners == len(places) == len(lines) or text.count(b"\n", len(head)) != corners + faces + 2:
         raise Failed("its answer is cut off")
-    return places, lines
+    return Answer(head, rest, places, lines)
 
 
 class Runs:
@@ -93,22 +103,13 @@ class Runs:
         """From now on no part is tried again."""
         self.stopped.set()
 
-    def answer(self, part: Part) -> bytes:
-        """What a free command answers of a part to `Fx off`."""
-        return self.tried(part)[0]
-
-    def extremes(self, part: Part) -> Extremes:
-        """The places of a part's extreme points, and their lines."""
-        return self.tried(part)[1]
-
-    def tried(self, part: Part) -> Tuple[bytes, Extremes]:
-        """The answer of a part as text and as places and lines, after as many tries as it takes."""
+    def answer(self, part: Part) -> Answer:
+        """What a free command answers of a part, after as many tries as it takes."""
         failed: List[str] = []
         while True:
             command = self.taken(failed)
             try:
-                answer = attempt(command, part)
-                told = answer, extremes_in(answer)
+                told = answer_in(attempt(command, part))
                 self.given_back(command, 0)
                 return told
             except Failed as why:
