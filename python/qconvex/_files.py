@@ -11,18 +11,13 @@ from typing import Any, BinaryIO
 import numpy as np
 from numpy.typing import NDArray
 
+from .commands.point_files import KINDS, SIGNS_AMISS
 from .commands.point_streams import BLANKS
 
 _DATA_WORD = re.compile(rb"[+-]?[0-9]+")
 _DECIMAL = re.compile(rb"[+-]?([0-9]+\.?[0-9]*|\.[0-9]+)([eE][+-]?[0-9]+)?")
 _OF_DECIMALS = b"0123456789+-.eE \t\r\n\v\f"  # what float() takes of these alone is a decimal
 _DATA_WORD_STARTS = b"0123456789+-."  # any other word begins a comment, up to the end of its line
-# Digits, signs and blanks, each as one byte, and anything else as another.
-_KINDS = bytes(
-    ord("0") if byte in b"0123456789" else ord("-") if byte in b"+-" else ord(" ") if byte in b" \t\r\n\v\f" else ord("?")
-    for byte in range(256)
-)
-_SIGNS_AMISS = (b"?", b"0-", b"--", b"- ")
 
 
 @dataclass(frozen=True)
@@ -96,8 +91,8 @@ def _next_line(source: BinaryIO, offset: int) -> int:
 
 def _numbers_of(text: bytes, path: str | Path, begin: int) -> NDArray[np.int64]:
     """The numbers of some lines. Those past 64 bits are read as the last number that has 64, so they stay out of range."""
-    kinds = text.translate(_KINDS)
-    if not any(amiss in kinds for amiss in _SIGNS_AMISS) and not kinds.endswith(b"-"):
+    kinds = text.translate(KINDS)
+    if not any(amiss in kinds for amiss in SIGNS_AMISS) and not kinds.endswith(b"-"):
         return np.fromstring(text, np.int64, sep=" ") if kinds.strip() else np.empty(0, np.int64)
     words, limit = _words_of(text, _DATA_WORD, f"{path}: the word {{}} behind byte {begin} is no whole number"), 1 << 62
     return np.array([min(max(int(word), -limit), limit) for word in words], np.int64)

@@ -25,13 +25,12 @@ from .._limits import BYTE_LIMIT, COORDINATE_LIMIT, POINT_LIMIT
 from .command_lines import explanation_of, mistake_in
 from .contents import bytes_of
 from .file_kinds import kind_of
-from .point_files import Fault, Reading, Word, message, plain_points, read, value_of
+from .point_files import Fault, Reading, Word, message, plain_count, read, value_of
 
 BYTE_ORDER_MARK = b"\xef\xbb\xbf"
 # Of how many comments the text is shown, and how much of each.
 COMMENTS = 10
 COMMENT_LENGTH = 40
-COMMENT = re.compile(rb"[^0-9+. \t\r\n\v\f-]")
 AXES = "xyz"
 
 
@@ -208,9 +207,9 @@ def explain_words(words: List[str]) -> int:
 def explain_file(path: str, everything: bool) -> int:
     """Explains a file; returns 1 if the program refuses it."""
     data = bytes_of(path)
-    points = None if len(data) > BYTE_LIMIT or COMMENT.search(data) else plain_points(data)
-    if points is not None:
-        print(f"No fault: {len(points)} points.\nNo word was taken as a comment.")
+    count = None if len(data) > BYTE_LIMIT else plain_count(data)
+    if count is not None:
+        print(f"No fault: {count} points.\nNo word was taken as a comment.")
         return 0
     reading = read(data)
     print("\n".join(explanation(data, reading, reading.fault, everything) if reading.fault else whole(reading, everything)))

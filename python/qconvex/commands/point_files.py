@@ -4,7 +4,6 @@ from __future__ import annotations
 import re
 import sys
 from bisect import bisect_left
-from dataclasses import dataclass
 from itertools import islice
 from typing import Iterable, List, NamedTuple, Optional, Sequence, Tuple
 
@@ -31,12 +30,11 @@ class Fault(NamedTuple):
     word: Optional[Word]
 
 
-@dataclass(frozen=True)
-class Reading:
+class Reading(NamedTuple):
     """What a point file has: its header's two words, the count, its numbers so far, the first fault or None, and the line of each word."""
 
     header: List[Word]
-    count: Optional[int]
+    count: Optional[int]  # type: ignore[assignment]
     numbers: List[int]
     fault: Optional[Fault]
     lines: List[int]
@@ -49,6 +47,13 @@ WORD = re.compile(rb"[^\x09\x0b\x0c\x0d\x20]+")
 DATA_LETTERS = b"0123456789+-."
 BLANKS = b" \t\r\v\f"
 NUMBER = re.compile(rb"[+-]?[0-9]+")
+# Digits, signs and blanks, each as one byte, and anything else as another; and where signs are wrong.
+KINDS = bytes(
+    ord("0") if byte in b"0123456789" else ord("-") if byte in b"+-" else ord(" ") if byte in b" \t\r\n\v\f" else ord("?")
+    for byte in range(256)
+)
+SIGNS_AMISS = (b"?", b"0-", b"--", b"- ")
+LONG = len(str(COORDINATE_LIMIT))  # the digits of a number that may be out of range
 
 
 def value_of(text: bytes) -> int:
@@ -171,6 +176,21 @@ def plain_points(data: bytes) -> Optional[List[Point]]:
         return None
     in_range = numbers and -COORDINATE_LIMIT <= min(numbers) and max(numbers) <= COORDINATE_LIMIT
     return triples(numbers) if in_range and len(numbers) == 3 * count_of(words.header()) else None
+
+
+def plain_count(data: bytes) -> Optional[int]:
+    """The number of points of a file that has nothing but right numbers after its first two lines; None for any other."""
+    head, _, rest = data.partition(b"\n")
+    second, mark, rest = rest.partition(b"\n")
+    words = Words(head + b"\n" + second)
+    if len(words.texts) != 2 or words.comments or header_fault(words.header()):
+        return None
+    kinds, count = (mark + rest).translate(KINDS), count_of(words.header())
+    if kinds.endswith(b"-") or any(amiss in kinds for amiss in SIGNS_AMISS):
+        return None
+    if b"0" * LONG in kinds and max(map(value_of, re.findall(rb"[0-9]{%d,}" % LONG, rest))) > COORDINATE_LIMIT:
+        return None
+    return count if kinds.count(b" 0") + kinds.count(b" -") == 3 * count else None
 
 
 def points_of_file(path: str) -> List[Point]:
