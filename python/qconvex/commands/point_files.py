@@ -163,21 +163,6 @@ def triples(numbers: Sequence[int]) -> List[Point]:
     return list(zip(numbers[0::3], numbers[1::3], numbers[2::3]))
 
 
-def plain_points(data: bytes) -> Optional[List[Point]]:
-    """The points of a file that has nothing but right numbers after its first two lines; None for any other."""
-    head, _, rest = data.partition(b"\n")
-    second, _, rest = rest.partition(b"\n")
-    words = Words(head + b"\n" + second)
-    if len(words.texts) != 2 or header_fault(words.header()) or b"_" in rest:
-        return None
-    try:
-        numbers = list(map(int, rest.split()))
-    except ValueError:
-        return None
-    in_range = numbers and -COORDINATE_LIMIT <= min(numbers) and max(numbers) <= COORDINATE_LIMIT
-    return triples(numbers) if in_range and len(numbers) == 3 * count_of(words.header()) else None
-
-
 def plain_count(data: bytes) -> Optional[int]:
     """The number of points of a file that has nothing but right numbers after its first two lines; None for any other."""
     head, _, rest = data.partition(b"\n")
@@ -196,9 +181,8 @@ def plain_count(data: bytes) -> Optional[int]:
 def points_of_file(path: str) -> List[Point]:
     """The points of a file; a file that has a fault ends the script."""
     data = bytes_of(path)
-    points = plain_points(data)
-    if points is not None:
-        return points
+    if plain_count(data) is not None:
+        return triples(list(map(int, data.split(b"\n", 2)[2].split())))
     reading = read(data)
     if reading.fault:
         sys.exit(f"{path}: {message(reading.fault)}; hullexplain {path} shows where")
