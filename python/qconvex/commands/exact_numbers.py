@@ -84,7 +84,7 @@ def fault_of(rows: Sequence[Row]) -> str:
 
 
 def of_any_words(words: List[str]) -> Tuple[List[int], int]:
-    """The same of any decimals, which may be too long."""
+    """Decimals as `of_decimals` has them, of any length; those with very many digits are refused."""
     numbers = list(map(Decimal, words))
     decimals = max([0, *(-int(number.as_tuple().exponent) for number in numbers)])
     if decimals > MOST_DECIMALS or any(number.adjusted() > MOST_DECIMALS for number in numbers):

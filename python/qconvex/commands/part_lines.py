@@ -4,9 +4,12 @@ from __future__ import annotations
 from itertools import chain, islice
 from typing import BinaryIO, Iterable, Iterator, List, NamedTuple
 
+from .._limits import BYTE_LIMIT
+
 # A data word begins with one of these bytes; any other word begins a comment.
 DATA_WORD_STARTS = b"0123456789+-."
-LEAST_READ = 1 << 16
+# How much is read at a time, and from how many bytes on a part ends before its size, so that the program can read it.
+LEAST_READ, LONGEST = 1 << 16, BYTE_LIMIT // 2
 
 
 class Refused(Exception):
@@ -70,6 +73,8 @@ class LineParts:
             count, end = min(found, self.size), len(self.rest)
             if found >= self.size:
                 end = end_of_line(self.rest, self.size)
+            elif found and end >= LONGEST:
+                end = self.rest.rfind(b"\n") + 1
             text, self.rest = self.rest[:end], self.rest[end:]
             if not text.endswith(b"\n"):
                 text, count = text + b"\n", count + 1
@@ -77,10 +82,10 @@ class LineParts:
             self.lines, self.width = self.lines + count, len(text) / count
 
     def filled(self) -> int:
-        """Reads until there are lines for a part, or no more; how many line ends there are."""
+        """Reads until there are lines or bytes for a part, or no more; how many line ends there are."""
         found = self.rest.count(b"\n")
-        while found < self.size:
-            more = self.source.read(max(LEAST_READ, round((self.size - found) * self.width * 1.02)))
+        while found < self.size and not (found and len(self.rest) >= LONGEST):
+            more = self.source.read(min(LONGEST, max(LEAST_READ, round((self.size - found) * self.width * 1.02))))
             if not more:
                 break
             self.rest += more
