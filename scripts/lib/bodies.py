@@ -89,5 +89,5 @@ TURNED = [
     (r"assert_eq!(\(rt; outcome\.told\(\), \(OCTAHEDRON_OFF)", r"assert_ne!\1"),
     (r"assert!\(rt; (text\.is_ok_and\()", r"assert!(rt; !\1"),
     (r"if !(answers\()", r"if \1"),
-    (r"if outcome\.status != 0", "if outcome.status == 0"),
+    (r"\.status != 0", ".status == 0"),
 ]
