@@ -55,6 +55,16 @@ const SMALL: [Sizes; 6] = table![
     Sizes { start: 0, batch: 4096, segments: 4, threads: 3 };
 ];
 
+/// Returns these sizes.
+fn sizes(start: u32, batch: usize, segments: usize, threads: usize) -> Sizes {
+    Sizes {
+        start,
+        batch,
+        segments,
+        threads,
+    }
+}
+
 /// Returns true if a reading gave what is expected.
 fn gave(outcome: &Result<Vec<Point>, ReadFault>, want: Wanted) -> bool {
     match (outcome, want) {

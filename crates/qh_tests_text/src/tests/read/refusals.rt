@@ -1,11 +1,11 @@
 //! Readings during which one allocation fails: the points are right, or the call is out of memory and returns the right
 //! points when it is repeated. `scripts/trials/refusals.py` makes each allocation fail in turn.
-use super::{Place, Way, assert_gave, read};
+use super::{Place, Way, assert_gave, read, sizes};
 use qh_fixtures::again;
 use qh_fixtures::files::{CUBE, OCTAHEDRON, SQUARE};
 use qh_fixtures::points::{cube, octahedron, square};
 use qh_model::{Form, Point};
-use qh_read::{FeedFault, ReadFault, Reader, Sizes};
+use qh_read::{FeedFault, ReadFault, Reader};
 use std::alloc::Global;
 
 /// Feeds each byte separately. Repeats a call that fails.
@@ -30,14 +30,6 @@ fn place(point: Point) -> Place {
     (point.x(), point.y(), point.z())
 }
 
-/// Batches of a few bytes.
-const BATCHES: Way = Way::Threads(Sizes {
-    start: 8,
-    batch: 40,
-    segments: 2,
-    threads: 3,
-});
-
 #[test]
 fn tries_again(rt: HostRuntime) {
     let (square, cube) = (square().map(place), cube(0, 1).map(place));
@@ -47,7 +39,7 @@ fn tries_again(rt: HostRuntime) {
         (OCTAHEDRON, octahedron().map(place).as_slice()),
     ] {
         let bytes = text.as_bytes();
-        for way in [Way::Whole, Way::Source, BATCHES] {
+        for way in [Way::Whole, Way::Source, Way::Threads(sizes(8, 40, 2, 3))] {
             let outcome = again!(read(&rt, Form::Qhull, bytes, way), ReadFault::Memory);
             assert_gave(&rt, outcome, Ok(places), text, way);
         }

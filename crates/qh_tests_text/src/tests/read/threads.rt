@@ -2,52 +2,42 @@
 //!
 //! A segment contains points only after the end of its first line, and only from numbers that are followed by eleven
 //! bytes, so these texts are longer than those of the other rows.
-use super::{Place, SMALL, Wanted, Way, assert_gave, assert_read, assert_read_in_sizes, joined};
-use qh_fixtures::Host;
+use super::{
+    Place, SMALL, Wanted, Way, assert_gave, assert_read, assert_read_in_sizes, joined, sizes,
+};
+use qh_fixtures::{Host, table};
 use qh_model::Form;
 use qh_read::fakes::FailSource;
-use qh_read::{MemSource, ReadFault, Sizes, Source, read_form_sizes, read_form_threads};
+use qh_read::{MemSource, ReadFault, Source, read_form_sizes, read_form_threads};
 use std::alloc::{AllocError, Global};
 use std::test::Fail;
 
 /// Lines in every layout, each with its point.
-const LINES: [(&str, Place); 24] = [
-    ("0 -1 0\n", (0, -1, 0)),
-    ("-8\t-7  8\n", (-8, -7, 8)),
-    ("  -75 -6 50 \n", (-75, -6, 50)),
-    ("-878368 907787 64169\n", (-878368, 907787, 64169)),
-    (
-        "-151620148 -912699176 -704601254\r\n",
-        (-151620148, -912699176, -704601254),
-    ),
-    ("0\x0b0\x0c-1\n", (0, 0, -1)),
-    ("-2 -7 8 # 1 2 3\n", (-2, -7, 8)),
-    ("00000000009 -84 45\n", (9, -84, 45)),
-    ("-740369 986946 -531834\n", (-740369, 986946, -531834)),
-    (
-        "-808046351\t629987860  -860757348\n",
-        (-808046351, 629987860, -860757348),
-    ),
-    ("  -1 -1 1 \n", (-1, -1, 1)),
-    ("-5 0 4\n", (-5, 0, 4)),
-    ("-63 39 -69\r\n", (-63, 39, -69)),
-    ("197292\x0b-353067\x0c174944\n", (197292, -353067, 174944)),
-    (
-        "-297527925 -631120926 -266841915 # 1 2 3\n",
-        (-297527925, -631120926, -266841915),
-    ),
-    ("00000000000 -1 1\n", (0, -1, 1)),
-    ("-7 9 -8\n", (-7, 9, -8)),
-    ("59\t-47  28\n", (59, -47, 28)),
-    ("  426902 115098 -103274 \n", (426902, 115098, -103274)),
-    (
-        "+275509999 926002960 872670256\n",
-        (275509999, 926002960, 872670256),
-    ),
-    ("0 0 -1\r\n", (0, 0, -1)),
-    ("-4\x0b-2\x0c-7\n", (-4, -2, -7)),
-    ("48 -23 35 # 1 2 3\n", (48, -23, 35)),
-    ("00000038334 835296 -279680\n", (38334, 835296, -279680)),
+const LINES: [(&str, Place); 24] = table![
+    ("0 -1 0\n", (0, -1, 0));
+    ("-8\t-7  8\n", (-8, -7, 8));
+    ("  -75 -6 50 \n", (-75, -6, 50));
+    ("-878368 907787 64169\n", (-878368, 907787, 64169));
+    ("-151620148 -912699176 -704601254\r\n", (-151620148, -912699176, -704601254));
+    ("0\x0b0\x0c-1\n", (0, 0, -1));
+    ("-2 -7 8 # 1 2 3\n", (-2, -7, 8));
+    ("00000000009 -84 45\n", (9, -84, 45));
+    ("-740369 986946 -531834\n", (-740369, 986946, -531834));
+    ("-808046351\t629987860  -860757348\n", (-808046351, 629987860, -860757348));
+    ("  -1 -1 1 \n", (-1, -1, 1));
+    ("-5 0 4\n", (-5, 0, 4));
+    ("-63 39 -69\r\n", (-63, 39, -69));
+    ("197292\x0b-353067\x0c174944\n", (197292, -353067, 174944));
+    ("-297527925 -631120926 -266841915 # 1 2 3\n", (-297527925, -631120926, -266841915));
+    ("00000000000 -1 1\n", (0, -1, 1));
+    ("-7 9 -8\n", (-7, 9, -8));
+    ("59\t-47  28\n", (59, -47, 28));
+    ("  426902 115098 -103274 \n", (426902, 115098, -103274));
+    ("+275509999 926002960 872670256\n", (275509999, 926002960, 872670256));
+    ("0 0 -1\r\n", (0, 0, -1));
+    ("-4\x0b-2\x0c-7\n", (-4, -2, -7));
+    ("48 -23 35 # 1 2 3\n", (48, -23, 35));
+    ("00000038334 835296 -279680\n", (38334, 835296, -279680));
 ];
 
 /// Returns the points of these lines.
@@ -84,13 +74,8 @@ fn reads_lines_cut_anywhere(rt: HostRuntime) -> Result<(), Fail> {
     for (form, header) in HEADERS {
         let bytes = with_line(rt.alloc(), header, 24, "")?;
         for batch in 90..130 {
-            let sizes = Sizes {
-                start: 0,
-                batch,
-                segments: 2,
-                threads: 4,
-            };
-            assert_read(&rt, form, &bytes, Way::Threads(sizes), Ok(&places()));
+            let way = Way::Threads(sizes(0, batch, 2, 4));
+            assert_read(&rt, form, &bytes, way, Ok(&places()));
         }
     }
     Ok(())
@@ -149,14 +134,6 @@ fn reads_no_comment_and_no_face(rt: HostRuntime) -> Result<(), Fail> {
     Ok(())
 }
 
-/// Batches of four bytes.
-const FOURS: Sizes = Sizes {
-    start: 2,
-    batch: 4,
-    segments: 2,
-    threads: 3,
-};
-
 #[test]
 fn tells_failing_reads(rt: HostRuntime) {
     for fails_at in 1..13 {
@@ -166,7 +143,8 @@ fn tells_failing_reads(rt: HostRuntime) {
             _ => (Err(ReadFault::Device), 1),
         };
         let mut source = FailSource::new(b"3\n1\n5 5 5\n", 1, Some(fails_at));
-        let outcome = read_form_sizes(&rt, rt.alloc(), Form::Qhull, &mut source, FOURS);
+        let fours = sizes(2, 4, 2, 3);
+        let outcome = read_form_sizes(&rt, rt.alloc(), Form::Qhull, &mut source, fours);
         let way = Way::FailingRead(fails_at);
         assert_gave(&rt, outcome, want, "one point", way);
         assert_eq!(rt; source.failures(), failures, "{way:?}");

@@ -76,38 +76,12 @@ impl Write for Counting<'_> {
     }
 }
 
-fn takes(greatest_piece: usize) -> Manner {
-    Manner {
-        greatest_piece,
-        write_error: None,
-        flush_error: None,
-    }
-}
-
-fn fails_to_write(kind: ErrorKind) -> Manner {
-    Manner {
-        write_error: Some(kind),
-        ..takes(100)
-    }
-}
-
-fn fails_to_flush(kind: ErrorKind) -> Manner {
-    Manner {
-        flush_error: Some(kind),
-        ..takes(100)
-    }
-}
-
-/// Returns the result of sending bytes to a writer, the failures of the sink, and the calls of the writer.
-fn calls_of(manner: Manner, bytes: &[u8]) -> (Result<(), SendFault>, u64, [u64; 4]) {
-    let calls = Calls::none();
-    let mut sink = StdSink::new(Counting {
-        calls: &calls,
-        manner,
-    });
-    let answer = send(&mut sink, bytes);
-    (answer, sink.failures(), calls.counts())
-}
+/// A writer that accepts all bytes, and never fails.
+const TAKES_ALL: Manner = Manner {
+    greatest_piece: 100,
+    write_error: None,
+    flush_error: None,
+};
 
 /// Asserts the result of sending bytes to a writer, and the calls that the writer received.
 fn assert_calls(
@@ -117,27 +91,29 @@ fn assert_calls(
     want: Result<(), SendFault>,
     counts: [u64; 4],
 ) {
+    let calls = Calls::none();
+    let mut sink = StdSink::new(Counting {
+        calls: &calls,
+        manner,
+    });
+    let found = (send(&mut sink, bytes), sink.failures(), calls.counts());
     let failures = u64::from(want.is_err());
-    assert_eq!(rt;
-        calls_of(manner, bytes),
-        (want, failures, counts),
-        "{manner:?}"
-    );
+    assert_eq!(rt; found, (want, failures, counts), "{manner:?}");
 }
 
 #[test]
 fn flushes_once_and_calls_no_writer_that_failed(rt: HostRuntime) {
     // A writer, the result of sending 10 bytes, and the calls that the writer received.
     let rows = table![
-        (takes(100), Ok(()), [1, 10, 1, 10]);
-        (takes(10), Ok(()), [1, 10, 1, 10]);
-        (takes(3), Ok(()), [4, 10, 1, 10]);
-        (takes(1), Ok(()), [10, 10, 1, 10]);
-        (takes(0), Err(SendFault), [1, 0, 0, 0]);
-        (fails_to_write(ErrorKind::Other), Err(SendFault), [1, 0, 0, 0]);
-        (fails_to_write(ErrorKind::Interrupted), Err(SendFault), [1, 0, 0, 0]);
-        (fails_to_flush(ErrorKind::Other), Err(SendFault), [1, 10, 1, 10]);
-        (fails_to_flush(ErrorKind::Interrupted), Err(SendFault), [1, 10, 1, 10]);
+        (TAKES_ALL, Ok(()), [1, 10, 1, 10]);
+        (Manner { greatest_piece: 10, ..TAKES_ALL }, Ok(()), [1, 10, 1, 10]);
+        (Manner { greatest_piece: 3, ..TAKES_ALL }, Ok(()), [4, 10, 1, 10]);
+        (Manner { greatest_piece: 1, ..TAKES_ALL }, Ok(()), [10, 10, 1, 10]);
+        (Manner { greatest_piece: 0, ..TAKES_ALL }, Err(SendFault), [1, 0, 0, 0]);
+        (Manner { write_error: Some(ErrorKind::Other), ..TAKES_ALL }, Err(SendFault), [1, 0, 0, 0]);
+        (Manner { write_error: Some(ErrorKind::Interrupted), ..TAKES_ALL }, Err(SendFault), [1, 0, 0, 0]);
+        (Manner { flush_error: Some(ErrorKind::Other), ..TAKES_ALL }, Err(SendFault), [1, 10, 1, 10]);
+        (Manner { flush_error: Some(ErrorKind::Interrupted), ..TAKES_ALL }, Err(SendFault), [1, 10, 1, 10]);
     ];
     for (manner, want, counts) in rows {
         assert_calls(&rt, manner, b"OFF\n1 1 0\n", want, counts);
@@ -146,5 +122,5 @@ fn flushes_once_and_calls_no_writer_that_failed(rt: HostRuntime) {
 
 #[test]
 fn flushes_where_nothing_is_sent(rt: HostRuntime) {
-    assert_calls(&rt, takes(100), b"", Ok(()), [0, 0, 1, 0]);
+    assert_calls(&rt, TAKES_ALL, b"", Ok(()), [0, 0, 1, 0]);
 }
