@@ -6,7 +6,7 @@ ghost use Rattle.qh_model.specs.headline.DistinctIds.{AreDistinctIds};
 use qh_board::{Board, BoardError, Closed, Mark};
 use qh_fixtures::Host;
 use qh_fixtures::points::{doubled_cube, grid, octahedron, paraboloid};
-use qh_model::{Cut, CutError, Hull, Id, POINT_LIMIT, Point};
+use qh_model::{Cut, Hull, Id, POINT_LIMIT, Point};
 use qh_plane::distinct;
 use qh_run::{Job, NoGate, RunError, run_hull, work};
 use std::alloc::{AllocError, Global};
@@ -28,18 +28,16 @@ const CUBE_HULL: [usize; 43] = [
 ];
 
 /// Returns cuts of more than 6 positions: even ones, the last of which may have one block, and an uneven one.
-fn cuts_of(alloc: Global, count: u32) -> Result<Vec<Cut>, CutError> {
+fn cuts_of(alloc: Global, count: u32) -> Result<Vec<Cut>, Fail> {
     if count <= 6 || count > POINT_LIMIT {
-        return Err(CutError::BadBounds);
+        return Err("a count out of range".into());
     }
     let mut cuts = Vec::new(alloc);
     for size in [1, 3, 4, 18] {
-        cuts.push(Cut::even(alloc, count, size)?)
-            .map_err(|_| CutError::Memory)?;
+        cuts.push(Cut::even(alloc, count, size)?)?;
     }
-    let bounds = Vec::from_slice(alloc, &[0, 1, 6, count]).map_err(|_| CutError::Memory)?;
-    cuts.push(Cut::from_bounds(bounds)?)
-        .map_err(|_| CutError::Memory)?;
+    let bounds = Vec::from_slice(alloc, &[0, 1, 6, count])?;
+    cuts.push(Cut::from_bounds(bounds)?)?;
     Ok(cuts)
 }
 
@@ -135,27 +133,23 @@ fn one_pass_reduces_all_blocks(rt: HostRuntime) -> Result<(), Fail> {
 }
 
 /// Returns how one pass ends on 2,048 points in blocks of one size: the number of claims, and the mark.
-fn end_of(rt: &impl Host, points: &[Point], size: u32) -> Result<Option<(u64, Mark)>, BoardError> {
+fn end_of(rt: &impl Host, points: &[Point], size: u32) -> Result<(u64, Mark), Fail> {
     let alloc = rt.alloc();
     if points.len() > POINT_LIMIT as usize {
-        return Ok(None);
+        return Err("too many points".into());
     }
-    let ids = distinct(rt, alloc, points).map_err(|_| BoardError::Memory)?;
-    let Ok(cut) = Cut::even(alloc, 2048, size) else {
-        return Ok(None);
-    };
-    let Some(job) = job(points, &ids, &cut) else {
-        return Ok(None);
-    };
+    let ids = distinct(rt, alloc, points)?;
+    let cut = Cut::even(alloc, 2048, size)?;
+    let job = job(points, &ids, &cut).ok_or("another cut")?;
     let closed = worked_by_one(alloc, job)?;
-    Ok(Some((closed.claims(), closed.mark(0))))
+    Ok((closed.claims(), closed.mark(0)))
 }
 
 /// Asserts how one pass ends on 2,048 points in blocks of each size.
 fn assert_ends(rt: &impl Host, points: &[Point], rows: &[(u32, u64, Mark)]) -> Result<(), Fail> {
     for (size, claims, mark) in rows {
         let end = end_of(rt, points, *size)?;
-        assert_eq!(rt; end, Some((*claims, *mark)), "blocks of {size}");
+        assert_eq!(rt; end, (*claims, *mark), "blocks of {size}");
     }
     Ok(())
 }
@@ -182,32 +176,26 @@ fn gives_up_where_the_tree_does_not_pay(rt: HostRuntime) -> Result<(), Fail> {
     assert_ends(&rt, &grid(rt.alloc(), [16, 16, 8])?, &LATTICE_ENDS)
 }
 
-/// Asserts the hull of a list of points by a cut, for every number of workers.
-fn assert_hull(rt: &impl Host, points: &[Point], cut: &Cut, want: &[usize]) -> Result<(), Fail> {
-    for workers in [1, 2, 7, 64] {
-        let hull = hull_by(rt, points, cut, workers)?.ok_or("another cut")?;
-        let numbers = numbers_of(rt.alloc(), &hull)?;
-        assert_eq!(rt; numbers.as_slice(), want, "{workers} workers, {cut:?}");
+/// Asserts the hull of a list of points, `count` of which are distinct, by each cut and for every number of workers.
+fn assert_hull(rt: &impl Host, points: &[Point], count: u32, want: &[usize]) -> Result<(), Fail> {
+    for cut in &cuts_of(rt.alloc(), count)? {
+        for workers in [1, 2, 7, 64] {
+            let hull = hull_by(rt, points, cut, workers)?.ok_or("another cut")?;
+            let numbers = numbers_of(rt.alloc(), &hull)?;
+            assert_eq!(rt; numbers.as_slice(), want, "{workers} workers, {cut:?}");
+        }
     }
     Ok(())
 }
 
 #[test]
 fn has_one_hull_of_an_octahedron(rt: HostRuntime) -> Result<(), Fail> {
-    let points = octahedron();
-    for cut in &cuts_of(rt.alloc(), 18)? {
-        assert_hull(&rt, &points, cut, &OCTAHEDRON_HULL)?;
-    }
-    Ok(())
+    assert_hull(&rt, &octahedron(), 18, &OCTAHEDRON_HULL)
 }
 
 #[test]
 fn has_one_hull_of_a_doubled_cube(rt: HostRuntime) -> Result<(), Fail> {
-    let points = doubled_cube(rt.alloc())?;
-    for cut in &cuts_of(rt.alloc(), 8)? {
-        assert_hull(&rt, &points, cut, &CUBE_HULL)?;
-    }
-    Ok(())
+    assert_hull(&rt, &doubled_cube(rt.alloc())?, 8, &CUBE_HULL)
 }
 
 #[test]
@@ -216,11 +204,8 @@ fn refuses_no_workers_and_too_many(rt: HostRuntime) -> Result<(), Fail> {
     for cut in &cuts_of(rt.alloc(), 18)? {
         for workers in [0, 65, 4294967295] {
             let refused = hull_by(&rt, &points, cut, workers).err();
-            assert_eq!(rt;
-                refused,
-                Some(RunError::BadWorkers),
-                "{workers} workers, {cut:?}"
-            );
+            let want = Some(RunError::BadWorkers);
+            assert_eq!(rt; refused, want, "{workers} workers, {cut:?}");
         }
     }
     Ok(())
