@@ -67,20 +67,18 @@ impl Asked<'_> {
         gate: &G,
     ) -> Result<Outcome, Fail> {
         let settings = self.settings(rt.alloc())?;
-        match answer(rt, rt.alloc(), input, &settings, gate) {
-            Ok(text) => Ok(shown(rt.alloc(), &text)?),
-            Err(fault) => Ok(refusal(rt.alloc(), &fault)?),
-        }
+        let text = answer(rt, rt.alloc(), input, &settings, gate);
+        let text = text.as_ref().map(|text| text.as_slice());
+        Ok(Outcome::of(rt.alloc(), text)?)
     }
 
     /// Returns the outcome of `serve` for an input, with devices in memory. The gate observes the workers.
     pub fn served<G: Gate>(&self, rt: &impl Host, input: &[u8], gate: &G) -> Result<Outcome, Fail> {
         let settings = self.settings(rt.alloc())?;
         let (mut source, mut sink) = (MemSource::new(input), MemSink::new(rt.alloc()));
-        match serve(rt, rt.alloc(), &mut source, &mut sink, &settings, gate) {
-            Ok(()) => Ok(shown(rt.alloc(), sink.bytes())?),
-            Err(fault) => Ok(refusal(rt.alloc(), &fault)?),
-        }
+        let sent = serve(rt, rt.alloc(), &mut source, &mut sink, &settings, gate);
+        let text = sent.as_ref().map(|_| sink.bytes());
+        Ok(Outcome::of(rt.alloc(), text)?)
     }
 }
 
@@ -99,29 +97,26 @@ pub struct Outcome {
 pub type Told<'a> = (&'a str, &'a str, u8);
 
 impl Outcome {
+    /// Returns the outcome of a call; bytes that are not a text are shown as `not text`.
+    pub fn of(alloc: Global, told: Result<&[u8], &Fault>) -> Result<Outcome, AllocError> {
+        Ok(match told {
+            Ok(bytes) => Outcome {
+                output: String::from_str(alloc, str::from_utf8(bytes).unwrap_or("not text"))?,
+                error: String::new(alloc),
+                status: 0,
+            },
+            Err(fault) => Outcome {
+                output: String::new(alloc),
+                error: fault.to_string(alloc)?,
+                status: fault.status(),
+            },
+        })
+    }
+
     /// Returns the outcome as texts and a number.
     pub fn told(&self) -> Told<'_> {
         (self.output.as_str(), self.error.as_str(), self.status)
     }
-}
-
-/// Returns the outcome of a fault.
-pub fn refusal(alloc: Global, fault: &Fault) -> Result<Outcome, AllocError> {
-    Ok(Outcome {
-        output: String::new(alloc),
-        error: fault.to_string(alloc)?,
-        status: fault.status(),
-    })
-}
-
-/// Returns the outcome of a text; bytes that are not a text are shown as `not text`.
-pub fn shown(alloc: Global, bytes: &[u8]) -> Result<Outcome, AllocError> {
-    let text = str::from_utf8(bytes).unwrap_or("not text");
-    Ok(Outcome {
-        output: String::from_str(alloc, text)?,
-        error: String::new(alloc),
-        status: 0,
-    })
 }
 
 /// Appends a point to the text of a point file, as a line.

@@ -1,13 +1,11 @@
 //! The worked rows: the results of `answer` and `serve` for settings and an input.
 
 mod devices;
-mod fans;
 mod faults;
 mod hostile;
 mod limits;
 mod near_flat_sets;
 mod off_files;
-mod ranks;
 mod refusals;
 mod rows;
 mod solids;

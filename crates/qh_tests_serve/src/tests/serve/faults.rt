@@ -1,6 +1,6 @@
 //! Files with faults, and the lines that report them.
 use super::assert_faults;
-use crate::tests::outcomes::{OFF, RANK, refusal};
+use crate::tests::outcomes::{OFF, Outcome, RANK};
 use qh_fixtures::faults::OF_POINT_FILES;
 use qh_fixtures::table;
 use qh_read::ReadFault;
@@ -33,7 +33,7 @@ const LINES: [(Fault, &str, u8); 13] = table![
 #[test]
 fn each_fault_has_its_line_and_status(rt: HostRuntime) -> Result<(), Fail> {
     for (fault, line, status) in LINES {
-        let refusal = refusal(rt.alloc(), &fault)?;
+        let refusal = Outcome::of(rt.alloc(), Err(&fault))?;
         assert_eq!(rt; refusal.told(), ("", line, status));
     }
     Ok(())

@@ -50,18 +50,17 @@ fn row_product(row: [i64; 3], p: [i64; 3], factor: i64) -> i64 {
     sum.wrapping_add(c.wrapping_mul(z)).wrapping_mul(factor)
 }
 
-/// Returns the lattice points of a ball of radius 3, mapped by a matrix of determinant 1 and scaled by a factor.
+/// A matrix of determinant 1.
+const MATRIX: [[i64; 3]; 3] = [[1, 166, 147], [-176, -29215, -26084], [47, 7991, -33158]];
+
+/// Returns the lattice points of a ball of radius 3, mapped by the matrix and scaled by a factor.
 fn basis(alloc: Global, factor: i64) -> Result<String, AllocError> {
     let mut text = String::from_str(alloc, "3\n123\n")?;
     for x in -3..=3i64 {
         for y in -3..=3i64 {
             for z in -3..=3i64 {
                 if row_product([x, y, z], [x, y, z], 1) <= 9 {
-                    let image = [
-                        row_product([1, 166, 147], [x, y, z], factor),
-                        row_product([-176, -29215, -26084], [x, y, z], factor),
-                        row_product([47, 7991, -33158], [x, y, z], factor),
-                    ];
+                    let image = MATRIX.map(|row| row_product(row, [x, y, z], factor));
                     push_point(&mut text, alloc, image)?;
                 }
             }
@@ -79,34 +78,30 @@ const BOWL: &str =
 const BASIS: &str =
     "Convex hull of 123 points in 3-d:\n  dimension: 3\n  distinct points: 123\n  extreme points: 30\n  facets: 56\n  edges: 84\n";
 
-/// Asserts the summary of a set.
-fn assert_summary(rt: &impl Host, text: &str, summary: &str) -> Result<(), Fail> {
-    for asked in [SUMMARY, SUMMARY.by(3, 5)] {
-        assert_answered(rt, asked, text.as_bytes(), (summary, "", 0))?;
+/// Asserts the summary of each set.
+fn assert_summaries(rt: &impl Host, texts: [String; 2], summary: &str) -> Result<(), Fail> {
+    for text in &texts {
+        for asked in [SUMMARY, SUMMARY.by(3, 5)] {
+            assert_answered(rt, asked, text.as_bytes(), (summary, "", 0))?;
+        }
     }
     Ok(())
 }
 
 #[test]
 fn keeps_all_corners_of_a_roof(rt: HostRuntime) -> Result<(), Fail> {
-    for size in [300_000, 357_913_941] {
-        assert_summary(&rt, roof(rt.alloc(), size)?.as_str(), ROOF)?;
-    }
-    Ok(())
+    let (small, great) = (roof(rt.alloc(), 300_000)?, roof(rt.alloc(), 357_913_941)?);
+    assert_summaries(&rt, [small, great], ROOF)
 }
 
 #[test]
 fn keeps_all_corners_of_a_bowl(rt: HostRuntime) -> Result<(), Fail> {
-    for size in [100_000, 107_374_172] {
-        assert_summary(&rt, bowl(rt.alloc(), size)?.as_str(), BOWL)?;
-    }
-    Ok(())
+    let (small, great) = (bowl(rt.alloc(), 100_000)?, bowl(rt.alloc(), 107_374_172)?);
+    assert_summaries(&rt, [small, great], BOWL)
 }
 
 #[test]
 fn keeps_all_corners_of_a_basis(rt: HostRuntime) -> Result<(), Fail> {
-    for factor in [1, 9_693] {
-        assert_summary(&rt, basis(rt.alloc(), factor)?.as_str(), BASIS)?;
-    }
-    Ok(())
+    let (small, great) = (basis(rt.alloc(), 1)?, basis(rt.alloc(), 9_693)?);
+    assert_summaries(&rt, [small, great], BASIS)
 }

@@ -34,13 +34,14 @@ const OCTAHEDRON_SUMMARY: &str =
     "Convex hull of 18 points in 3-d:\n  dimension: 3\n  distinct points: 18\n  extreme points: 6\n  facets: 8\n  edges: 12\n";
 
 /// Four points far apart, with coordinates up to 2^20, whose volume is -1.
-const NEAR_FLAT: &str = "3\n4\n0 0 0\n1048576 1048575 0\n1048575 1048574 0\n1048576 1048576 1\n";
+pub(super) const NEAR_FLAT: &str =
+    "3\n4\n0 0 0\n1048576 1048575 0\n1048575 1048574 0\n1048576 1048576 1\n";
 
 const NEAR_FLAT_OFF: &str =
     "OFF\n4 4 6\n0 0 0\n1048576 1048575 0\n1048575 1048574 0\n1048576 1048576 1\n3 0 1 2\n3 0 2 3\n3 0 3 1\n3 1 3 2\n";
 
 /// Four points far apart, with coordinates up to the limit, whose volume is -1.
-const LIMIT_NEAR_FLAT: &str =
+pub(super) const LIMIT_NEAR_FLAT: &str =
     "3\n4\n0 0 0\n1073741824 1073741823 0\n1073741823 1073741822 0\n1073741824 1073741824 1\n";
 
 const LIMIT_NEAR_FLAT_OFF: &str =

@@ -5,7 +5,7 @@
 ghost use Rattle.std.specs.Prelude.{◌≤◌, length};
 ghost use Rattle.qh_model.specs.declared.limits.TheConstants.{POINT_LIMIT};
 
-use crate::tests::outcomes::{Asked, OFF, Outcome, refusal, shown};
+use crate::tests::outcomes::{Asked, OFF, Outcome};
 use qh_fixtures::Host;
 use qh_fixtures::files::{OCTAHEDRON, OCTAHEDRON_OFF};
 use qh_fixtures::ids::are;
@@ -151,8 +151,8 @@ fn hulled_by<G: Gate>(rt: &impl Host, asked: Asked, gate: &G) -> Result<Outcome,
     let alloc = rt.alloc();
     let settings = asked.settings(alloc)?;
     match text_by(rt, alloc, &octahedron(), &settings, gate) {
-        Ok(text) => Ok(shown(alloc, &text)?),
-        Err(RunError::Memory) => Ok(refusal(alloc, &Fault::Read(ReadFault::Memory))?),
+        Ok(text) => Ok(Outcome::of(alloc, Ok(&text))?),
+        Err(RunError::Memory) => Ok(Outcome::of(alloc, Err(&Fault::Read(ReadFault::Memory)))?),
         Err(RunError::BadWorkers) => Err("the workers are in range".into()),
     }
 }
