@@ -1,6 +1,4 @@
 //! Sets of points that the tests of several libraries use.
-ghost use Rattle.qh_model.specs.headline.Limits.{IsCoordinate};
-
 use qh_model::{COORDINATE_LIMIT, Point};
 use std::alloc::{AllocError, Global};
 
@@ -41,20 +39,17 @@ pub fn tetrahedron() -> [Point; 4] {
     points_at![0 0 0, 1 0 0, 0 1 0, 0 0 1]
 }
 
-/// Returns the corners of a cube along the axes, in rising order of their coordinates.
-pub fn cube(low: i32, high: i32) -> [Point; 8]
-    requires low { IsCoordinate low }
-    requires high { IsCoordinate high }
-{
+/// Returns the corners of a cube along the axes, in rising order of their coordinates, each clamped to the limit.
+pub fn cube(low: i32, high: i32) -> [Point; 8] {
     [
-        Point::new(low, low, low),
-        Point::new(low, low, high),
-        Point::new(low, high, low),
-        Point::new(low, high, high),
-        Point::new(high, low, low),
-        Point::new(high, low, high),
-        Point::new(high, high, low),
-        Point::new(high, high, high),
+        point(low, low, low),
+        point(low, low, high),
+        point(low, high, low),
+        point(low, high, high),
+        point(high, low, low),
+        point(high, low, high),
+        point(high, high, low),
+        point(high, high, high),
     ]
 }
 
@@ -64,26 +59,6 @@ pub fn octahedron() -> [Point; 18] {
         2 0 0, 1 1 0, 0 2 0, -2 0 0, -1 -1 0, 0 -2 0, 0 0 2, 1 0 1, 0 1 1,
         0 0 -2, -1 0 -1, 0 -1 -1, 1 -1 0, -1 1 0, -1 0 1, 1 0 -1, 0 -1 1, 0 1 -1
     ]
-}
-
-/// Returns all points whose x, y and z are among these coordinates, in the order of the coordinates in the list; the
-/// whole sequence is repeated `times` times.
-///
-/// # Errors
-///
-/// `AllocError` if an allocation fails.
-pub fn lattice(alloc: Global, coordinates: &[i32], times: usize) -> Result<Vec<Point>, AllocError> {
-    let mut pts = Vec::new(alloc);
-    for _ in 0..times {
-        for x in coordinates {
-            for y in coordinates {
-                for z in coordinates {
-                    pts.push(point(*x, *y, *z))?;
-                }
-            }
-        }
-    }
-    Ok(pts)
 }
 
 /// Returns the corners of the unit cube, each twice in a row.

@@ -81,11 +81,6 @@ fn triangles(alloc: Global, mesh: &Mesh, list: &[FacetNo]) -> Result<Vec<Triangl
     Ok(out)
 }
 
-/// Returns the live facets.
-fn live(alloc: Global, mesh: &Mesh) -> Result<Vec<FacetNo>, AllocError> {
-    mesh.live().collect(alloc)
-}
-
 /// Returns true if the twin of each side of a facet runs in the opposite direction, and has the side as its twin.
 fn has_twins(mesh: &Mesh, f: FacetNo) -> bool {
     for side in 0..3 {
@@ -157,7 +152,7 @@ fn assert_counts(
     places: usize,
     apex: u32,
 ) -> Result<(), Fail> {
-    let all = live(rt.alloc(), mesh)?;
+    let all = mesh.live().collect::<Vec<FacetNo>>(rt.alloc())?;
     let have_twins = all.iter().all(|f| has_twins(mesh, *f));
     let found = (all.len(), mesh.places(), have_twins);
     assert_eq!(rt; found, (facets, places, true), "{apex}");
@@ -177,7 +172,7 @@ fn step(rt: &impl Host, mesh: &mut Mesh, pts: &[Point], row: Row) -> Result<Vec<
 
 /// Asserts the triangles of all live facets after the step to an apex, in any order.
 fn assert_live(rt: &impl Host, mesh: &Mesh, want: &[Triangle], apex: u32) -> Result<(), Fail> {
-    let all = live(rt.alloc(), mesh)?;
+    let all = mesh.live().collect::<Vec<FacetNo>>(rt.alloc())?;
     assert_triangles(rt, mesh, &all, want, apex)
 }
 

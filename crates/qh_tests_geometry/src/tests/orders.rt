@@ -7,22 +7,19 @@ use qh_surface::starts::{ends_of, morton_order};
 use std::alloc::Global;
 use std::test::Fail;
 
-/// Returns the ends of some of the points along the axes; `None` if there are no points.
-fn ends_among(alloc: Global, pts: &[Point], numbers: &[u32]) -> Result<Option<[Id; 6]>, Memory> {
+/// Returns the ends of some of the points along the axes, and their order along the curve; `None` if there are no points.
+fn ends_and_order(
+    alloc: Global,
+    pts: &[Point],
+    numbers: &[u32],
+) -> Result<Option<([Id; 6], Vec<Id>)>, Memory> {
     let ids = ids_of(alloc, pts, numbers)?;
     if ids.is_empty() {
         return Ok(None);
     }
-    Ok(Some(ends_of(pts, &ids)))
-}
-
-/// Returns some of the points in their order along the curve.
-fn ordered(alloc: Global, pts: &[Point], numbers: &[u32]) -> Result<Vec<Id>, Memory> {
-    let ids = ids_of(alloc, pts, numbers)?;
-    if ids.is_empty() {
-        return Ok(ids);
-    }
-    morton_order(alloc, pts, &ids, &ends_of(pts, &ids))
+    let ends = ends_of(pts, &ids);
+    let order = morton_order(alloc, pts, &ids, &ends)?;
+    Ok(Some((ends, order)))
 }
 
 /// Places on axes. Along the curve, the opposite point comes first, the middle of both second, and the place last.
@@ -36,7 +33,7 @@ fn ends_are_least_and_greatest(rt: HostRuntime) -> Result<(), Fail> {
     for (x, y, z) in ON_AXES {
         let opposite = point(x.wrapping_neg(), y.wrapping_neg(), z.wrapping_neg());
         let pts = [point(x, y, z), opposite, point(0, 0, 0)];
-        let order = ordered(rt.alloc(), &pts, &[0, 1, 2])?;
+        let (_, order) = ends_and_order(rt.alloc(), &pts, &[0, 1, 2])?.ok_or("no points")?;
         assert!(rt; are(&order, &[1, 2, 0]), "{pts:?}");
     }
     Ok(())
@@ -55,7 +52,7 @@ fn ends_are_first_ids_of_least_and_greatest(rt: HostRuntime) -> Result<(), Fail>
         ([0, 1, 2, 3, 4, 5].as_slice(), [1, 2, 4, 3, 5, 4]),
         (&[3], [3; 6]),
     ] {
-        let ends = ends_among(rt.alloc(), &pts, numbers)?.ok_or("no points")?;
+        let (ends, _) = ends_and_order(rt.alloc(), &pts, numbers)?.ok_or("no points")?;
         assert!(rt; are(&ends, &wanted), "{ends:?}");
     }
     Ok(())

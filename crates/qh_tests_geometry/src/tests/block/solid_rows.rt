@@ -3,7 +3,7 @@
 use super::{Row, assert_hull};
 use qh_fixtures::faces::CUBE_FACES;
 use qh_fixtures::faces_of;
-use qh_fixtures::points::{LIMIT, cube, doubled_cube, lattice, octahedron, point, tetrahedron};
+use qh_fixtures::points::{LIMIT, cube, doubled_cube, grid, octahedron, point, tetrahedron};
 use qh_model::Point;
 use std::alloc::{AllocError, Global};
 use std::test::Fail;
@@ -56,7 +56,7 @@ const GREATEST_AND_LEAST: Row<'static> = Row {
 fn few_points(rt: HostRuntime) -> Result<(), Fail> {
     let (tetrahedron, octahedron) = (tetrahedron(), octahedron());
     let doubled = doubled_cube(rt.alloc())?;
-    let lattice = lattice(rt.alloc(), &[0, 1, 2], 1)?;
+    let lattice = grid(rt.alloc(), [3; 3])?;
     let (unit, wide, widest) = (cube(0, 1), cube(-1048576, 1048576), cube(-LIMIT, LIMIT));
     for (pts, row) in [
         (tetrahedron.as_slice(), &TETRAHEDRON),

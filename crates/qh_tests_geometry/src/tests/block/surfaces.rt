@@ -4,7 +4,7 @@
 use crate::tests::distinct_ids;
 use qh_block::surface;
 use qh_fixtures::Host;
-use qh_fixtures::points::{LIMIT, lattice, octahedron, paraboloid, tetrahedron};
+use qh_fixtures::points::{LIMIT, cube, grid, octahedron, paraboloid, tetrahedron};
 use qh_mesh::Mesh;
 use qh_model::{Memory, Point};
 use qh_polygon::{Shape, rank};
@@ -115,7 +115,11 @@ fn cubes(rt: HostRuntime) -> Result<(), Fail> {
         (-1048576, 1048576, 1),
         (-LIMIT, LIMIT, 1),
     ] {
-        let counts = counts_of(&rt, &lattice(rt.alloc(), &[low, high], times)?)?;
+        let mut pts = Vec::new(rt.alloc());
+        for _ in 0..times {
+            pts.extend_from_slice(&cube(low, high))?;
+        }
+        let counts = counts_of(&rt, &pts)?;
         assert_eq!(rt;
             counts,
             (12, 8),
@@ -127,7 +131,7 @@ fn cubes(rt: HostRuntime) -> Result<(), Fail> {
 
 #[test]
 fn points_within_faces(rt: HostRuntime) -> Result<(), Fail> {
-    let (_, of_lattice) = counts_of(&rt, &lattice(rt.alloc(), &[0, 1, 2], 1)?)?;
+    let (_, of_lattice) = counts_of(&rt, &grid(rt.alloc(), [3; 3])?)?;
     assert!(rt; of_lattice >= 8);
     let (_, of_octahedron) = counts_of(&rt, &octahedron())?;
     assert!(rt; of_octahedron >= 6);
