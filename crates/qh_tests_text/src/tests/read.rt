@@ -2,7 +2,6 @@
 ghost use Rattle.std.specs.Prelude.{◌-◌, ◌^◌, ◌<◌};
 
 mod numbers;
-mod off;
 mod pieces;
 mod readers;
 mod refusals;

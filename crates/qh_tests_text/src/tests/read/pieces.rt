@@ -1,7 +1,7 @@
 //! The same bytes in pieces.
 use super::{TETRAHEDRON, Way, assert_full, assert_gave, assert_read, feed_times};
 use qh_fixtures::files::COMMENTED_TETRAHEDRON;
-use qh_model::Form;
+use qh_model::{BYTE_LIMIT, Form};
 use qh_read::{FeedFault, ReadFault, Reader};
 use std::alloc::{AllocError, Global};
 use std::test::Fail;
@@ -60,5 +60,16 @@ fn takes_just_the_greatest_length(rt: HostRuntime) -> Result<(), Fail> {
     assert_full(&rt, &mut reader);
     let way = Way::Pieces(65536);
     assert_gave(&rt, reader.finish(), Ok(&[(5, 5, 5)]), "full", way);
+    Ok(())
+}
+
+#[test]
+fn takes_just_the_greatest_length_of_an_off_file(rt: HostRuntime) -> Result<(), Fail> {
+    let blanks = Vec::from_elem(rt.alloc(), b' ', BYTE_LIMIT as usize)?;
+    let mut reader = Reader::new_off(rt.alloc());
+    reader.feed(&blanks)?;
+    assert_full(&rt, &mut reader);
+    let (way, want) = (Way::Pieces(blanks.len()), Err(ReadFault::NoHeader));
+    assert_gave(&rt, reader.finish(), want, "blanks", way);
     Ok(())
 }

@@ -1,7 +1,7 @@
-//! Whole texts.
+//! Whole texts of both forms.
 
 use super::{Place, TETRAHEDRON, Way, assert_read, assert_read_in_all_ways, joined};
-use qh_fixtures::faults::OF_POINT_FILES;
+use qh_fixtures::faults::{OF_OFF_FILES, OF_POINT_FILES};
 use qh_fixtures::files::{COMMENTED_TETRAHEDRON, CUBE};
 use qh_fixtures::table;
 use qh_model::Form;
@@ -30,6 +30,24 @@ const READ: [(&str, &[Place]); 18] = table![
     ("3\n1\n0 0 0 \0 9", &[(0, 0, 0)]);
 ];
 
+/// OFF files with their vertices. Source: the rows of texts, comments and ignored faces.
+const READ_OFF: [(&str, &[Place]); 14] = table![
+    ("OFF\n1 1 0\n5 5 5\n1 0\n", &[(5, 5, 5)]);
+    ("OFF\n2 1 1\n0 0 0\n2 2 2\n2 0 1\n", &[(0, 0, 0), (2, 2, 2)]);
+    ("OFF\n4 1 4\n0 0 0\n2 0 0\n2 2 0\n0 2 0\n4 0 1 2 3\n", &[(0, 0, 0), (2, 0, 0), (2, 2, 0), (0, 2, 0)]);
+    ("OFF 1 0 0 # one\n5 5 5", &[(5, 5, 5)]);
+    ("OFF\n1 1 0\n5 5 5\n1 zero\n", &[(5, 5, 5)]);
+    ("OFF\n1 0 0\n5 5 5 9 9 9\n", &[(5, 5, 5)]);
+    ("#OFF 2\nOFF#1\n1#7 7\n0 0\n5#.5\n5 5", &[(5, 5, 5)]);
+    ("OFF\n2 0 0\n1 2 3 # 4 5 6\n7 8 9\n", &[(1, 2, 3), (7, 8, 9)]);
+    ("OFF 1 0 0 5\r5\x0b5", &[(5, 5, 5)]);
+    ("OFF +1 -7 99999999999 -0 +0 0005", &[(0, 0, 5)]);
+    ("OFF\n1 0 0\n-1073741824 1073741824 -1\n", &[(-1073741824, 1073741824, -1)]);
+    ("OFF 1 0 0 1 2 3 4 x (", &[(1, 2, 3)]);
+    ("\n\n  OFF\t1 0 0 1 2 3#", &[(1, 2, 3)]);
+    ("OFF 1 0 0 1 2 3#4", &[(1, 2, 3)]);
+];
+
 /// Words that are not numbers, although they begin as numbers.
 const NO_NUMBERS: [&str; 12] = [
     "7.", ".7", "7e0", "2nd", "+", "-", "--7", "+-7", "0.5", "5/", "5:", "1,5",
@@ -39,6 +57,9 @@ const NO_NUMBERS: [&str; 12] = [
 fn reads_files(rt: HostRuntime) {
     for (text, places) in READ {
         assert_read_in_all_ways(&rt, Form::Qhull, text, Ok(places));
+    }
+    for (text, places) in READ_OFF {
+        assert_read_in_all_ways(&rt, Form::Off, text, Ok(places));
     }
 }
 
@@ -53,6 +74,11 @@ fn finds_first_faults(rt: HostRuntime) {
     for (fault, _, texts) in OF_POINT_FILES {
         for text in texts {
             assert_read_in_all_ways(&rt, Form::Qhull, text, Err(fault));
+        }
+    }
+    for (fault, _, texts) in OF_OFF_FILES {
+        for text in texts {
+            assert_read_in_all_ways(&rt, Form::Off, text, Err(fault));
         }
     }
 }

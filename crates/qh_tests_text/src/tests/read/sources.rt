@@ -1,5 +1,5 @@
 //! Bytes from a source.
-use super::{TETRAHEDRON, Way, assert_gave};
+use super::{TETRAHEDRON, Wanted, Way, assert_gave, assert_read};
 use qh_fixtures::files::{COMMENTED_TETRAHEDRON, CUBE};
 use qh_model::Form;
 use qh_read::fakes::{FailSource, Spaces};
@@ -46,5 +46,18 @@ fn stops_at_the_limit(rt: HostRuntime) {
     ] {
         let want = Err(ReadFault::Big);
         assert_gave(&rt, outcome, want, "without end", Way::Source);
+    }
+}
+
+#[test]
+fn tells_a_failing_read_of_an_off_file(rt: HostRuntime) {
+    let bytes = b"OFF\n1 0 0\n5 5 5\n";
+    for fails_at in 1..19 {
+        // The 16 bytes and the end are 17 reads.
+        let want: Wanted = match fails_at {
+            18 => Ok(&[(5, 5, 5)]),
+            _ => Err(ReadFault::Device),
+        };
+        assert_read(&rt, Form::Off, bytes, Way::FailingRead(fails_at), want);
     }
 }
