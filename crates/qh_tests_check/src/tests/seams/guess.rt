@@ -1,12 +1,11 @@
 //! The guesses for the cube.
-use super::halves_of;
+use super::{first_marks, halves_of};
 use qh_fixtures::faces::{CUBE_FACES, polygons_of};
 use qh_fixtures::ids::{EIGHT, ids_of};
 use qh_fixtures::points::cube;
 use qh_model::{Memory, Polygon};
 use qh_parts_guess::curve::{along_curve, shared_ids};
 use qh_parts_guess::gap::{border_of, bridge_over};
-use qh_parts_guess::{is_worth, marks_of, outline_of};
 use qh_parts_join::{Divided, Run};
 use qh_polygon::rising_ids;
 use std::alloc::{AllocError, Global};
@@ -35,12 +34,11 @@ fn first_part(alloc: Global) -> Result<Option<Found>, Memory> {
         parts: &halves.parts,
         shared: &halves.shared,
     };
-    let outlines = [outline_of(alloc, set, 0)?, outline_of(alloc, set, 1)?];
-    let marks = marks_of(alloc, set, &outlines, 0)?;
+    let (marks, is_worth) = first_marks(alloc, set)?;
     let staying = marks.stay.iter().filter(|stays| **stays).count();
     let witnessed = count(&marks.runs);
     let beside = rising_ids(alloc, &marks.seam)?.len();
-    Ok(Some((staying, witnessed, beside, is_worth(set, &outlines))))
+    Ok(Some((staying, witnessed, beside, is_worth)))
 }
 
 #[test]
