@@ -1,9 +1,9 @@
 //! Slots for points that lie close together, as in lattices and grids, or in one line: one slot for each place of the
 //! box around them, or for each place along the line.
-ghost use Rattle.std.specs.Prelude.{◌≡◌, ◌≤◌, ◌<◌, ◌↔◌, IsTrue, length};
+ghost use Rattle.std.specs.Prelude.{◌≡◌, ◌<◌, ◌↔◌, IsTrue};
 ghost use Rattle.qh_plane.specs.steps.CloseBoxes.{slot_of};
 
-use qh_model::{POINT_LIMIT, Point};
+use qh_model::Point;
 use qh_polygon::biased;
 use qh_pred::in_line;
 
@@ -78,11 +78,7 @@ impl CoordinateRange {
 impl BoundingBox {
     /// Returns the ranges of the coordinates of points.
     fn of(pts: &[Point]) -> BoundingBox {
-        let (mut x, mut y, mut z) = (
-            CoordinateRange::none(),
-            CoordinateRange::none(),
-            CoordinateRange::none(),
-        );
+        let [mut x, mut y, mut z] = [CoordinateRange::none(); 3];
         for point in pts {
             x = x.with(biased(point.x()));
             y = y.with(biased(point.y()));
@@ -126,33 +122,23 @@ impl BoundingBox {
 
     /// Returns slots for the places of the box or for those along its longest axis, if they are few for `count` points.
     fn slots_for(&self, count: u64) -> Option<CloseBox> {
-        if let Some(full) = self.full() {
-            if full.slots / SLOTS_FOR_EACH <= count {
-                return Some(full);
-            }
+        let full = self.full();
+        if full.is_some_and(|full| full.slots / SLOTS_FOR_EACH <= count) {
+            return full;
         }
         let line = self.along_axis();
-        if line.slots / LINE_SLOTS_FOR_EACH <= count {
-            Some(line)
-        } else {
-            None
-        }
+        (line.slots / LINE_SLOTS_FOR_EACH <= count).then_some(line)
     }
 }
 
 /// Returns true if points appear to lie in one line, judged by a few points spread over the list.
-fn seem_in_line(pts: &[Point]) -> bool
-    requires { length pts.now ≤ POINT_LIMIT }
-{
+fn seem_in_line(pts: &[Point]) -> bool {
     let Some(&first) = pts.first() else {
         return true;
     };
     let step = pts.len() / LOOKED_AT + 1;
     let mut other = first;
-    for number in 0..LOOKED_AT {
-        let Some(&point) = pts.get(number * step) else {
-            return true;
-        };
+    for &point in pts.iter().step_by(step) {
         if same_point(first, other) {
             other = point;
         }
@@ -166,9 +152,7 @@ fn seem_in_line(pts: &[Point]) -> bool
 impl CloseBox {
     /// Returns slots for the box around some of the points if they are few for all points, or for the line in which all
     /// points appear to lie.
-    fn around_some(pts: &[Point], some: &[Point]) -> Option<CloseBox>
-        requires { length pts.now ≤ POINT_LIMIT }
-    {
+    fn around_some(pts: &[Point], some: &[Point]) -> Option<CloseBox> {
         let slots = BoundingBox::of(some).slots_for(pts.len() as u64)?;
         if slots.is_line() && !seem_in_line(pts) {
             return None;
@@ -177,18 +161,14 @@ impl CloseBox {
     }
 
     /// Returns slots as [`around`](CloseBox::around) does, for the box around the first points of the list.
-    pub fn around_first(pts: &[Point]) -> Option<CloseBox>
-        requires { length pts.now ≤ POINT_LIMIT }
-    {
+    pub fn around_first(pts: &[Point]) -> Option<CloseBox> {
         let (first, _) = pts.split_at(pts.len().min(FIRST_POINTS));
         CloseBox::around_some(pts, first)
     }
 
     /// Returns slots for points that lie close together, or appear to lie in one line, if the slots are few for the
     /// number of points.
-    pub fn around(pts: &[Point]) -> Option<CloseBox>
-        requires { length pts.now ≤ POINT_LIMIT }
-    {
+    pub fn around(pts: &[Point]) -> Option<CloseBox> {
         CloseBox::around_some(pts, pts)
     }
 
