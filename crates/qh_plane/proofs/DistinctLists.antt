@@ -1,5 +1,5 @@
 -- The distinct ids by marks, and the repeats among sorted keys of points, for any numbers that determine the places.
-use Rattle.std.proofs.Common.{◌≡◌, ℕ, ◌+◌, ◌-◌, ◌*◌, ◌%◌, ◌/◌, ◌<◌, ◌≤◌, List, length, get_or, map, arith, ap, sym, subst, ◌∙◌, refl, ◌↔◌, ◌⊎◌, inl, inr}
+use Rattle.std.proofs.Common.{◌≡◌, ℕ, ◌+◌, ◌-◌, ◌*◌, ◌%◌, ◌/◌, ◌<◌, ◌≤◌, List, length, get_or, map, arith, ap, sym, subst, ◌∙◌, ◌↔◌, ◌⊎◌, inl, inr}
 use Rattle.std.proofs.Common.{⊎_elim, true, false, Bool}
 use Rattle.std.proofs.lemmas.{Bool.cases_lt, Bool.Decides.nat_tests, Nat.div-add-mod', Nat.div-mul-add, Nat.mod-mul-add}
 use Rattle.std.specs.{List.All, List.Sorted.IsStrictlyIncreasing, List.Sorted.IsNonDecreasing, Prelude.IsPermutation}
@@ -106,10 +106,6 @@ module _ (pts : List Vector) (room : ℕ) (code : ℕ → ℕ) (keys : List ℕ)
   -- the ids in the keys are indices
   pub all_within : All (λ x. x % room < length pts) keys
   all_within = All-of (λ x. x % room < length pts) keys index_in
-
-  -- each key is that of its id
-  pub stands : (n : ℕ) → n < length keys → StandsAt room code keys (get_or keys n 0 % room) n
-  stands n h = record { within = h; place_told = code_told (get_or keys n 0) (In-get_or keys n 0 h); id_told = refl }
 
   -- the key of each of the ids has a position
   pub position : (i : ℕ) → In i k.ids → (n : ℕ) × StandsAt room code keys i n
