@@ -26,23 +26,16 @@ pub(crate) struct FaceTable {
     positions: Vec<usize>,
 }
 
-/// Appends a number until there is an entry at an index.
-fn extend_to(numbers: &mut Vec<u32>, index: usize, number: u32) -> Result<(), AllocError> {
-    for _ in numbers.len()..index.saturating_add(1) {
-        numbers.push(number)?;
-    }
-    Ok(())
-}
-
 /// Returns for each id below a count the number of faces that begin with a lower id, and then the number of all faces.
 fn starts_of(alloc: Global, faces: &[Polygon], count: usize) -> Result<Vec<u32>, AllocError> {
     let mut starts = Vec::with_capacity(alloc, count.saturating_add(1))?;
-    for position in 0..faces.len() {
-        if let Some(first) = faces[position].ids().first() {
-            extend_to(&mut starts, first.index().min(count), narrow(position))?;
+    for (position, face) in faces.iter().enumerate() {
+        if let Some(first) = face.ids().first() {
+            let behind = first.index().min(count).saturating_add(1);
+            starts.resize(behind.max(starts.len()), narrow(position))?;
         }
     }
-    extend_to(&mut starts, count, narrow(faces.len()))?;
+    starts.resize(count.saturating_add(1), narrow(faces.len()))?;
     Ok(starts)
 }
 

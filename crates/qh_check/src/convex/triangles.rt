@@ -35,18 +35,11 @@ impl Triangle {
     fn of(polygon: &Polygon, count: usize) -> Option<Triangle>
         ensures { IfSome result (λ t. (polygon.now ≡ corners t) × IsBelow count t) }
     {
-        let [i, j, k] = polygon.ids() else {
+        let &[i, j, k] = polygon.ids() else {
             return None;
         };
-        if i.index() < count && j.index() < count && k.index() < count {
-            Some(Triangle {
-                i: *i,
-                j: *j,
-                k: *k,
-            })
-        } else {
-            None
-        }
+        let are_below = i.index() < count && j.index() < count && k.index() < count;
+        are_below.then_some(Triangle { i, j, k })
     }
 
     /// Returns the first corner.
