@@ -51,10 +51,7 @@ fn scaled(component: i64, greatest: u64) -> i16 {
 
 /// Returns the direction of the sum of outward directions.
 pub(crate) fn direction_of(ways: &[Outward]) -> Direction {
-    let mut sum = Outward::NONE;
-    for way in ways {
-        sum = sum.plus(*way);
-    }
+    let sum = ways.iter().fold(Outward::NONE, |sum, way| sum.plus(*way));
     let flat = sum.x.unsigned_abs().max(sum.y.unsigned_abs());
     let greatest = flat.max(sum.z.unsigned_abs());
     Direction {
