@@ -50,25 +50,14 @@ impl CurveCell {
 
     /// Returns the cell after the turns that a bit of its places requires. `below` has the bits below it.
     fn turned_below(self, bit: u32, below: u32) -> CurveCell {
-        let mut cell = self;
-        if cell.x & bit != 0 {
-            cell.x ^= below;
-        }
-        if cell.y & bit != 0 {
-            cell.x ^= below;
+        let x = if self.x & bit != 0 {
+            self.x ^ below
         } else {
-            let change = (cell.x ^ cell.y) & below;
-            cell.x ^= change;
-            cell.y ^= change;
-        }
-        if cell.z & bit != 0 {
-            cell.x ^= below;
-        } else {
-            let change = (cell.x ^ cell.z) & below;
-            cell.x ^= change;
-            cell.z ^= change;
-        }
-        cell
+            self.x
+        };
+        let (x, y) = turned_pair(x, self.y, bit, below);
+        let (x, z) = turned_pair(x, self.z, bit, below);
+        CurveCell { x, y, z }
     }
 
     /// Returns the cell whose number in Morton's order is the number of this larger cell in Hilbert's order.
@@ -87,6 +76,15 @@ impl CurveCell {
             z: cell.z ^ change,
         }
     }
+}
+
+/// Returns the place along the first axis and another one after the turn that a bit of the other one requires.
+fn turned_pair(x: u32, other: u32, bit: u32, below: u32) -> (u32, u32) {
+    if other & bit != 0 {
+        return (x ^ below, other);
+    }
+    let change = (x ^ other) & below;
+    (x ^ change, other ^ change)
 }
 
 /// Returns for each bit of a larger place whether the number of bits set above it is odd.
@@ -125,10 +123,7 @@ impl CellTable {
     /// Returns the number of a cell along the curve.
     pub fn number(&self, cell: CurveCell) -> u32 {
         let number = cell.interleaved();
-        let large = match self.turned.get((number >> INNER_BITS) as usize) {
-            Some(turned) => *turned,
-            None => 0,
-        };
-        large << INNER_BITS | number & (LARGE_CELLS - 1)
+        let large = self.turned.get((number >> INNER_BITS) as usize);
+        large.copied().unwrap_or(0) << INNER_BITS | number & (LARGE_CELLS - 1)
     }
 }
