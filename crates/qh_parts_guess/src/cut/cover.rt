@@ -59,14 +59,6 @@ impl<'a> Cover<'a> {
         Ok(f)
     }
 
-    /// Returns the witness for a point.
-    fn witness(&mut self, cutting: &mut Cutting, point: Point) -> Result<FacetNo, AllocError> {
-        match self.recent.under(point) {
-            Some(f) => Ok(f),
-            None => self.met(cutting, point),
-        }
-    }
-
     /// Returns a removed facet that is below all points of a block, if one is found. `own` has the points.
     fn witness_of_all(
         &mut self,
@@ -91,7 +83,11 @@ impl<'a> Cover<'a> {
         runs: &mut Vec<Run>,
     ) -> Result<(), AllocError> {
         for point in own {
-            add(runs, self.witness(cutting, *point)?, 1)?;
+            let f = match self.recent.under(*point) {
+                Some(f) => f,
+                None => self.met(cutting, *point)?,
+            };
+            add(runs, f, 1)?;
         }
         Ok(())
     }

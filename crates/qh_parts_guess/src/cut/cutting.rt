@@ -37,7 +37,7 @@ pub(crate) struct Cutting<'a> {
     others: Others<'a>,
     states: Vec<State>,
     /// The facets that are removed.
-    gone: Vec<FacetNo>,
+    pub gone: Vec<FacetNo>,
     /// Neighbours of removed facets, still to be tested.
     waiting: Vec<FacetNo>,
     /// The facets of a plane.
@@ -50,12 +50,8 @@ impl Others<'_> {
     /// Returns true if the corners of all other parts are strictly below a plane. Also returns false if the budget is
     /// exhausted.
     pub fn are_below(&self, sight: &Sight, budget: &mut Budget) -> bool {
-        for other in 0..self.outlines.len() {
-            if other != self.number && !self.outlines[other].is_below(sight, budget) {
-                return false;
-            }
-        }
-        true
+        let mut outlines = self.outlines.iter().enumerate();
+        outlines.all(|(other, outline)| other == self.number || outline.is_below(sight, budget))
     }
 }
 
@@ -79,15 +75,8 @@ impl<'a> Cutting<'a> {
 
     /// Returns the state of a facet.
     pub fn state(&self, f: FacetNo) -> State {
-        match self.states.get(f.index()) {
-            Some(state) => *state,
-            None => State::Unasked,
-        }
-    }
-
-    /// Returns the removed facets.
-    pub fn gone(&self) -> &[FacetNo] {
-        &self.gone
+        let state = self.states.get(f.index());
+        state.copied().unwrap_or(State::Unasked)
     }
 
     /// Sets the state of a facet, and adds it to the facets of the plane.
@@ -180,10 +169,8 @@ impl<'a> Cutting<'a> {
     /// Returns a mark for each place: true if a facet stays there.
     pub fn marks(&self, alloc: Global) -> Result<Vec<bool>, AllocError> {
         let mut stay = Vec::with_capacity(alloc, self.states.len())?;
-        for place in 0..self.states.len() {
-            let f = FacetNo::new(place);
-            let stays = self.states[place] != State::Goes && self.facets.is_live(f);
-            stay.push(stays)?;
+        for (place, state) in self.states.iter().enumerate() {
+            stay.push(*state != State::Goes && self.facets.is_live(FacetNo::new(place)))?;
         }
         Ok(stay)
     }

@@ -40,43 +40,31 @@ impl<'a> Facets<'a> {
 
     /// Returns the first facet at or after a place.
     pub fn first_from(self, place: usize) -> Option<FacetNo> {
-        for place in place..self.places() {
-            let f = FacetNo::new(place);
-            if self.is_live(f) {
-                return Some(f);
-            }
-        }
-        None
+        let mut places = (place..self.places()).map(|place| FacetNo::new(place));
+        places.find(|f| self.is_live(*f))
     }
 
-    /// Returns the positions of a facet's corners among the points of the mesh.
-    pub fn positions(self, f: FacetNo) -> Option<[Id; 3]> {
+    /// Returns what a list has at the positions of a facet's corners among the points of the mesh.
+    pub fn at_corners<T: Copy>(self, f: FacetNo, items: &[T]) -> Option<[T; 3]> {
         if !self.is_live(f) {
             return None;
         }
-        Some(self.surface.mesh.facet(f))
+        let [a, b, c] = self.surface.mesh.facet(f);
+        Some([
+            *items.get(a.index())?,
+            *items.get(b.index())?,
+            *items.get(c.index())?,
+        ])
     }
 
     /// Returns the points of a facet's corners.
     pub fn corners(self, f: FacetNo) -> Option<[Point; 3]> {
-        let [a, b, c] = self.positions(f)?;
-        let points = &self.surface.points;
-        Some([
-            *points.get(a.index())?,
-            *points.get(b.index())?,
-            *points.get(c.index())?,
-        ])
+        self.at_corners(f, &self.surface.points)
     }
 
     /// Returns the ids of a facet's corners.
     pub fn ids(self, f: FacetNo) -> Option<[Id; 3]> {
-        let [a, b, c] = self.positions(f)?;
-        let ids = &self.surface.ids;
-        Some([
-            *ids.get(a.index())?,
-            *ids.get(b.index())?,
-            *ids.get(c.index())?,
-        ])
+        self.at_corners(f, &self.surface.ids)
     }
 
     /// Returns the plane of a facet.

@@ -3,7 +3,7 @@ use crate::cut::cover::Cover;
 use crate::cut::cutting::{Cutting, Others};
 use crate::cut::facets::Facets;
 use crate::cut::rays::Rays;
-use crate::outlines::{FACING_TOGETHER, Outline, piece};
+use crate::outlines::{FACING_TOGETHER, Outline};
 use crate::vector::Vector;
 use qh_mesh::FacetNo;
 use qh_model::{Id, Memory, Point};
@@ -35,34 +35,13 @@ impl Marks {
             seam: Vec::new(alloc),
         }
     }
-
-    /// Returns the marks of facets that were tested, with the witnesses that were found.
-    fn made(
-        alloc: Global,
-        facets: Facets,
-        cutting: &Cutting,
-        runs: Vec<Vec<Run>>,
-    ) -> Result<Marks, AllocError> {
-        let stay = cutting.marks(alloc)?;
-        let seam = corners_of(alloc, facets, cutting.gone())?;
-        Ok(Marks { stay, runs, seam })
-    }
 }
 
 /// Returns the points of ids. An id without a point is skipped.
 fn points_of(alloc: Global, pts: &[Point], ids: &[Id]) -> Result<Vec<Point>, AllocError> {
     let mut points = Vec::with_capacity(alloc, ids.len())?;
-    for id in ids {
-        if let Some(point) = pts.get(id.index()) {
-            points.push(*point)?;
-        }
-    }
+    points.extend(ids.iter().filter_map(|id| pts.get(id.index()).copied()))?;
     Ok(points)
-}
-
-/// Returns the point of an id, if it has one.
-fn point_of(pts: &[Point], id: Id) -> Option<Point> {
-    pts.get(id.index()).copied()
 }
 
 /// Returns the points of the first four shared ids. Their middle is inside every part.
@@ -70,9 +49,8 @@ fn four_of(set: Divided) -> Option<[Point; 4]> {
     let [i, j, k, l, ..] = set.shared else {
         return None;
     };
-    let (a, b) = (point_of(set.pts, *i)?, point_of(set.pts, *j)?);
-    let (c, d) = (point_of(set.pts, *k)?, point_of(set.pts, *l)?);
-    Some([a, b, c, d])
+    let point_of = |id: &Id| set.pts.get(id.index()).copied();
+    Some([point_of(i)?, point_of(j)?, point_of(k)?, point_of(l)?])
 }
 
 /// Returns, for each `FACING_TOGETHER` points, the direction in which the surface faces at the middle one.
@@ -87,16 +65,9 @@ fn ways_out(
     let Some(mut rays) = Rays::from_middle(facets, four) else {
         return Ok(ways);
     };
-    for number in 0..points.len() {
-        let own = piece(points, FACING_TOGETHER, number);
-        let Some(point) = own.get(own.len() / 2) else {
-            break;
-        };
-        let way = match facets.sight(rays.leaves(*point, &mut budget)) {
-            Some(sight) => sight.way(),
-            None => Vector::NONE,
-        };
-        ways.push(way)?;
+    for own in points.chunks(FACING_TOGETHER) {
+        let sight = facets.sight(rays.leaves(own[own.len() / 2], &mut budget));
+        ways.push(sight.map_or(Vector::NONE, |sight| sight.way()))?;
     }
     Ok(ways)
 }
@@ -118,32 +89,6 @@ pub fn outline_of(alloc: Global, set: Divided, number: usize) -> Result<Outline,
     Ok(Outline::over(alloc, points, &ways)?)
 }
 
-/// Returns, for each of some ids, true if it is shared.
-fn marks_of_shared(alloc: Global, ids: &[Id], shared: &[Id]) -> Result<Vec<bool>, AllocError> {
-    let mut marks = Vec::with_capacity(alloc, ids.len())?;
-    for id in ids {
-        marks.push(shared.contains(id))?;
-    }
-    Ok(marks)
-}
-
-/// Returns true if a position is marked.
-fn is_marked_at(marks: &[bool], position: Id) -> bool {
-    match marks.get(position.index()) {
-        Some(mark) => *mark,
-        None => false,
-    }
-}
-
-/// Returns true if all corners of a facet are marked.
-fn is_marked(facets: Facets, marks: &[bool], f: FacetNo) -> bool {
-    let Some(positions) = facets.positions(f) else {
-        return false;
-    };
-    let [a, b, c] = positions;
-    is_marked_at(marks, a) && is_marked_at(marks, b) && is_marked_at(marks, c)
-}
-
 /// Removes the facets whose corners are all shared, since every part may have them.
 fn drop_shared(
     alloc: Global,
@@ -152,10 +97,13 @@ fn drop_shared(
     cutting: &mut Cutting,
 ) -> Result<(), AllocError> {
     let facets = Facets::of(&part.surface);
-    let marks = marks_of_shared(alloc, &part.surface.ids, shared)?;
+    let ids = part.surface.ids.iter();
+    let marks = ids
+        .map(|id| shared.contains(id))
+        .collect::<Vec<bool>>(alloc)?;
     for place in 0..facets.places() {
         let f = FacetNo::new(place);
-        if is_marked(facets, &marks, f) {
+        if facets.at_corners(f, &marks) == Some([true; 3]) {
             cutting.drop_facet(f)?;
         }
     }
@@ -174,11 +122,11 @@ fn all_witnesses(
     let Some(mut cover) = Cover::start(alloc, facets, four) else {
         return Ok(runs);
     };
-    for other in 0..others.outlines.len() {
+    for (other, outline) in others.outlines.iter().enumerate() {
         let own = if other == others.number {
             Vec::new(alloc)
         } else {
-            cover.witnesses(cutting, &others.outlines[other])?
+            cover.witnesses(cutting, outline)?
         };
         runs.push(own)?;
     }
@@ -213,7 +161,11 @@ fn marks_against<'a>(
     if cutting.budget.is_spent() {
         return Ok(Marks::none(alloc));
     }
-    Marks::made(alloc, facets, &cutting, runs)
+    Ok(Marks {
+        stay: cutting.marks(alloc)?,
+        runs,
+        seam: corners_of(alloc, facets, &cutting.gone)?,
+    })
 }
 
 /// Guesses what stays of the part with this number in the presence of the corners of the other parts. `outlines` has

@@ -54,11 +54,9 @@ impl<'a> Rays<'a> {
     pub fn from_middle(facets: Facets<'a>, four: [Point; 4]) -> Option<Rays<'a>> {
         let mut sum = Way { x: 0, y: 0, z: 0 };
         for point in four {
-            sum = Way {
-                x: sum.x.wrapping_add(i64::from(point.x())),
-                y: sum.y.wrapping_add(i64::from(point.y())),
-                z: sum.z.wrapping_add(i64::from(point.z())),
-            };
+            sum.x = sum.x.wrapping_add(i64::from(point.x()));
+            sum.y = sum.y.wrapping_add(i64::from(point.y()));
+            sum.z = sum.z.wrapping_add(i64::from(point.z()));
         }
         Some(Rays {
             facets,
@@ -93,13 +91,8 @@ impl<'a> Rays<'a> {
 
     /// Returns the facet through which a ray leaves, by a search among all facets.
     fn sought(&self, way: Way) -> Option<FacetNo> {
-        for place in 0..self.facets.places() {
-            let f = FacetNo::new(place);
-            if self.facets.is_live(f) && self.side_beyond(f, way).is_none() {
-                return Some(f);
-            }
-        }
-        None
+        let mut places = (0..self.facets.places()).map(|place| FacetNo::new(place));
+        places.find(|f| self.facets.is_live(*f) && self.side_beyond(*f, way).is_none())
     }
 
     /// Walks from the last facet towards the one through which a ray leaves. Returns true if the walk reached it. The

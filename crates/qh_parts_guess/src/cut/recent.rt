@@ -8,17 +8,10 @@ use std::alloc::{AllocError, Global};
 /// The greatest number of facets that are kept.
 const KEPT: usize = 4;
 
-/// A facet with its plane.
-#[derive(Clone, Copy, Drop)]
-struct Seeing {
-    facet: FacetNo,
-    sight: Sight,
-}
-
-/// A few removed facets, the most recent one first.
+/// A few removed facets with their planes, the most recent one first.
 #[derive(Drop)]
 pub(crate) struct Recent {
-    seeing: Vec<Seeing>,
+    seeing: Vec<(FacetNo, Sight)>,
 }
 
 impl Recent {
@@ -32,14 +25,13 @@ impl Recent {
     /// Inserts a facet at the front.
     pub fn put(&mut self, facet: FacetNo, sight: Sight) -> Result<(), AllocError> {
         self.seeing.truncate(KEPT - 1);
-        self.seeing.insert(0, Seeing { facet, sight })?;
-        Ok(())
+        Ok(self.seeing.insert(0, (facet, sight))?)
     }
 
     /// Swaps the facet at a position with the one before it, and returns its number; `None` if the position is past
     /// the end.
     fn moved_up(&mut self, position: usize) -> Option<FacetNo> {
-        let facet = self.seeing.get(position)?.facet;
+        let (facet, _) = *self.seeing.get(position)?;
         if position > 0 && position < self.seeing.len() {
             self.seeing.swap(position, position - 1);
         }
@@ -48,13 +40,16 @@ impl Recent {
 
     /// Returns a facet that is below a point.
     pub fn under(&mut self, point: Point) -> Option<FacetNo> {
-        let position = self.seeing.iter().position(|s| s.sight.sees(point))?;
+        let position = self.seeing.iter().position(|(_, sight)| sight.sees(point))?;
         self.moved_up(position)
     }
 
     /// Returns a facet that is below all points of a block.
     pub fn under_all(&mut self, block: &BoundingVolume) -> Option<FacetNo> {
-        let position = self.seeing.iter().position(|s| s.sight.sees_all(block))?;
+        let position = self
+            .seeing
+            .iter()
+            .position(|(_, sight)| sight.sees_all(block))?;
         self.moved_up(position)
     }
 }
