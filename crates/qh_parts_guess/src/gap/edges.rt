@@ -17,14 +17,7 @@ pub struct Border {
     /// The edges of removed faces, sorted.
     edges: Vec<Packed>,
     /// True if no face stays.
-    is_empty: bool,
-}
-
-impl Border {
-    /// Returns true if no face stays.
-    pub(crate) fn is_empty(&self) -> bool {
-        self.is_empty
-    }
+    pub(crate) is_empty: bool,
 }
 
 /// Returns the border between the faces of a part that stay and those that are removed. `stay` has a mark for each

@@ -26,9 +26,9 @@ impl EdgeIndex {
     fn of(alloc: Global, polygons: &[Polygon]) -> Result<EdgeIndex, AllocError> {
         let mut keys = Vec::new(alloc);
         let mut edges = Vec::new(alloc);
-        for position in 0..polygons.len() {
+        for (position, polygon) in polygons.iter().enumerate() {
             edges.clear();
-            list_edges(&polygons[position], &mut edges)?;
+            list_edges(polygon, &mut edges)?;
             for edge in &edges {
                 keys.push(side_key(*edge, position as u64))?;
             }
@@ -42,11 +42,7 @@ impl EdgeIndex {
         let least = side_key(edge, 0);
         let place = self.keys.partition_point(|key| *key < least);
         let key = *self.keys.get(place)?;
-        if key >> 64 == least >> 64 {
-            Some((key % POSITION_ROOM) as usize)
-        } else {
-            None
-        }
+        (key >> 64 == least >> 64).then_some((key % POSITION_ROOM) as usize)
     }
 }
 
@@ -67,7 +63,8 @@ impl Flood<'_> {
     /// Takes the polygon at a position, unless it is taken already. The opposites of its edges become wanted, except
     /// for edges that are open.
     fn take(&mut self, position: usize, edges: &mut Vec<Packed>) -> Result<(), AllocError> {
-        let Some(taken) = self.taken.get_mut(position) else {
+        let polygon = self.polygons.get(position);
+        let (Some(polygon), Some(taken)) = (polygon, self.taken.get_mut(position)) else {
             return Ok(());
         };
         if *taken {
@@ -75,9 +72,6 @@ impl Flood<'_> {
         }
         *taken = true;
         self.order.push(position)?;
-        let Some(polygon) = self.polygons.get(position) else {
-            return Ok(());
-        };
         edges.clear();
         list_edges(polygon, edges)?;
         for edge in &*edges {
@@ -165,7 +159,7 @@ pub fn bridge_over(
     polygons: Vec<Polygon>,
     borders: &[Border],
 ) -> Result<Option<Vec<Polygon>>, AllocError> {
-    if borders.iter().all(|border| border.is_empty()) {
+    if borders.iter().all(|border| border.is_empty) {
         return Ok(Some(polygons));
     }
     let open = open_edges(alloc, borders)?;

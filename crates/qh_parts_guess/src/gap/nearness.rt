@@ -17,26 +17,16 @@ const ASKED: usize = 128;
 /// near most.
 const NEAR_SHARE: usize = 3;
 
-/// The first three corners of a polygon.
-#[derive(Clone, Copy, Drop)]
-struct ThreeCorners {
-    a: Point,
-    b: Point,
-    c: Point,
-}
-
-impl ThreeCorners {
-    /// Returns the first three corners of a polygon, if it has three and all are indices of points.
-    fn of(pts: &[Point], polygon: &Polygon) -> Option<ThreeCorners> {
-        let [i, j, k, ..] = polygon.ids() else {
-            return None;
-        };
-        Some(ThreeCorners {
-            a: *pts.get(i.index())?,
-            b: *pts.get(j.index())?,
-            c: *pts.get(k.index())?,
-        })
-    }
+/// Returns the points of the first three corners of a polygon, if it has three and all are indices of points.
+fn three_corners(pts: &[Point], polygon: &Polygon) -> Option<[Point; 3]> {
+    let [i, j, k, ..] = polygon.ids() else {
+        return None;
+    };
+    Some([
+        *pts.get(i.index())?,
+        *pts.get(j.index())?,
+        *pts.get(k.index())?,
+    ])
 }
 
 /// Returns the outward direction at each id of a rising list, by the polygons that begin with it.
@@ -52,8 +42,9 @@ pub(crate) fn ways_out(
             continue;
         };
         let place = rising.partition_point(|other| other.number() < first.number());
-        if let (Some(way), Some(corners)) = (ways.get_mut(place), ThreeCorners::of(pts, polygon)) {
-            *way = way.plus(Outward::of_triangle(corners.a, corners.b, corners.c));
+        if let (Some(way), Some(corners)) = (ways.get_mut(place), three_corners(pts, polygon)) {
+            let [a, b, c] = corners;
+            *way = way.plus(Outward::of_triangle(a, b, c));
         }
     }
     Ok(ways)
@@ -77,13 +68,10 @@ pub(crate) fn come_near_few(
     let places = Places::in_order(alloc, pts, ids, outward)?;
     let step = polygons.len() / ASKED + 1;
     let (mut asked, mut cost) = (0usize, 0usize);
-    for number in 0..polygons.len() / step {
-        let Some(polygon) = polygons.get(step.saturating_mul(number)) else {
-            break;
-        };
-        if let Some(corners) = ThreeCorners::of(pts, polygon) {
-            let plane = Plane::through(corners.a, corners.b, corners.c);
-            let near = places.near_planes(alloc, corners.a, &[plane])?;
+    for polygon in polygons.iter().step_by(step).take(polygons.len() / step) {
+        if let Some(corners) = three_corners(pts, polygon) {
+            let [a, b, c] = corners;
+            let near = places.near_planes(alloc, a, &[Plane::through(a, b, c)])?;
             asked = asked.saturating_add(1);
             cost = cost.saturating_add(near.cost(1));
         }

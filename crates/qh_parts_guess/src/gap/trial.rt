@@ -11,7 +11,6 @@ use crate::gap::flood::indices_among;
 use crate::gap::nearness::{come_near_few, ways_out};
 use qh_model::keys::Packed;
 use qh_model::{Body, Id, Memory, Point, Polygon};
-use qh_places::Outward;
 use qh_polygon::rising_ids;
 use qh_surface::starts::{Axes, ends_of};
 use std::alloc::{AllocError, Global};
@@ -73,17 +72,6 @@ fn keys_by_cell(
     Ok(keys)
 }
 
-/// Returns the ids of a sample along a curve, by sorted keys of their places.
-fn along_keys(alloc: Global, ids: &[Id], keys: &[Packed]) -> Result<Vec<Id>, AllocError> {
-    let mut listed = Vec::with_capacity(alloc, keys.len())?;
-    for key in keys {
-        if let Some(id) = ids.get(key.low() as usize) {
-            listed.push(*id)?;
-        }
-    }
-    Ok(listed)
-}
-
 /// Returns true if the planes of the faces of a sample come near few of its points. `keys` has its ids along a curve.
 fn are_planes_apart(
     alloc: Global,
@@ -93,12 +81,15 @@ fn are_planes_apart(
     polygons: &[Polygon],
 ) -> Result<bool, Memory> {
     let ways = ways_out(alloc, pts, sampled, polygons)?;
+    let mut listed = Vec::with_capacity(alloc, keys.len())?;
     let mut outward = Vec::with_capacity(alloc, keys.len())?;
     for key in keys {
-        let way = ways.get(key.low() as usize);
-        outward.push(*way.unwrap_or(&Outward::NONE))?;
+        let place = key.low() as usize;
+        if let (Some(id), Some(way)) = (sampled.get(place), ways.get(place)) {
+            listed.push(*id)?;
+            outward.push(*way)?;
+        }
     }
-    let listed = along_keys(alloc, sampled, keys)?;
     let ids = indices_among(alloc, pts, &listed)?;
     come_near_few(alloc, pts, &ids, &outward, polygons)
 }
