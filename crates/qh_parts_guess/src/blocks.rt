@@ -12,45 +12,36 @@ pub(crate) struct BoundingVolume {
     pub reach: f64,
 }
 
-/// The corners of a box: the least and the greatest coordinates of points.
-#[derive(Clone, Copy, Drop)]
-struct BoxCorners {
-    low: Vector,
-    high: Vector,
-}
-
-impl BoxCorners {
-    /// Returns the bounds of points.
-    fn around(points: &[Point]) -> BoxCorners {
-        let [mut west, mut south, mut bottom] = [i32::MAX; 3];
-        let [mut east, mut north, mut top] = [i32::MIN; 3];
-        for point in points {
-            west = west.min(point.x());
-            east = east.max(point.x());
-            south = south.min(point.y());
-            north = north.max(point.y());
-            bottom = bottom.min(point.z());
-            top = top.max(point.z());
-        }
-        BoxCorners {
-            low: Vector::of(west, south, bottom),
-            high: Vector::of(east, north, top),
-        }
+/// Returns the least coordinates of points, and the greatest.
+fn bounds_of(points: &[Point]) -> (Vector, Vector) {
+    let [mut west, mut south, mut bottom] = [i32::MAX; 3];
+    let [mut east, mut north, mut top] = [i32::MIN; 3];
+    for point in points {
+        west = west.min(point.x());
+        east = east.max(point.x());
+        south = south.min(point.y());
+        north = north.max(point.y());
+        bottom = bottom.min(point.z());
+        top = top.max(point.z());
     }
+    (
+        Vector::of(west, south, bottom),
+        Vector::of(east, north, top),
+    )
 }
 
 impl BoundingVolume {
     /// Returns the block of points for a direction of length 1, or for the zero vector.
     pub fn around(points: &[Point], way: Vector) -> BoundingVolume {
-        let bounds = BoxCorners::around(points);
-        let middle = bounds.high.plus(bounds.low).times(0.5);
+        let (low, high) = bounds_of(points);
+        let middle = high.plus(low).times(0.5);
         let mut reach = -f64::INFINITY;
         for point in points {
             reach = reach.max(way.dot(Vector::to(*point).minus(middle)));
         }
         BoundingVolume {
             middle,
-            half: bounds.high.minus(bounds.low).times(0.5),
+            half: high.minus(low).times(0.5),
             way,
             reach,
         }

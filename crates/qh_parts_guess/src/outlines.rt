@@ -35,19 +35,10 @@ pub(crate) struct BlockCursor {
 
 /// Returns the piece with this number of a list that is cut into pieces of one size. The last piece may be shorter, and
 /// pieces past it are empty.
-pub(crate) fn piece<T: Copy>(items: &[T], size: usize, number: usize) -> &[T] {
+fn piece<T: Copy>(items: &[T], size: usize, number: usize) -> &[T] {
     let from = size.saturating_mul(number).min(items.len());
     let to = from.saturating_add(size).min(items.len());
     items.get(from..to).unwrap_or(&[])
-}
-
-/// Returns the direction of the sum of vectors.
-fn way_of(ways: &[Vector]) -> Vector {
-    let mut sum = Vector::NONE;
-    for way in ways {
-        sum = sum.plus(*way);
-    }
-    sum.unit()
 }
 
 /// Returns the number of points of a block of a level.
@@ -59,7 +50,8 @@ fn size_at(level: u32) -> usize {
 /// `FACING_TOGETHER` points.
 fn way_at(ways: &[Vector], size: usize, number: usize) -> Vector {
     if size >= FACING_TOGETHER {
-        return way_of(piece(ways, size / FACING_TOGETHER, number));
+        let own = piece(ways, size / FACING_TOGETHER, number).iter();
+        return own.fold(Vector::NONE, |sum, way| sum.plus(*way)).unit();
     }
     let place = size.saturating_mul(number) / FACING_TOGETHER;
     ways.get(place).copied().unwrap_or(Vector::NONE)
@@ -73,15 +65,10 @@ fn level_over(
     level: u32,
 ) -> Result<Vec<BoundingVolume>, AllocError> {
     let size = size_at(level);
-    let mut blocks = Vec::new(alloc);
-    for number in 0..points.len() {
-        let own = piece(points, size, number);
-        if own.is_empty() {
-            break;
-        }
-        blocks.push(BoundingVolume::around(own, way_at(ways, size, number)))?;
-    }
-    Ok(blocks)
+    let blocks = points.chunks(size.max(1)).enumerate();
+    blocks
+        .map(|(number, own)| BoundingVolume::around(own, way_at(ways, size, number)))
+        .collect(alloc)
 }
 
 impl Outline {
@@ -101,11 +88,6 @@ impl Outline {
             }
         }
         Ok(Outline { points, levels })
-    }
-
-    /// Returns the number of points.
-    pub(crate) fn len(&self) -> usize {
-        self.points.len()
     }
 
     /// Returns an upper bound of the number of blocks of all levels.
@@ -134,18 +116,14 @@ impl Outline {
 
     /// Returns the largest block that begins after all points of a block.
     pub(crate) fn after(&self, cursor: BlockCursor) -> BlockCursor {
-        let mut next = BlockCursor {
-            level: cursor.level,
-            index: cursor.index.saturating_add(1),
-        };
+        let mut next = cursor;
+        next.index = next.index.saturating_add(1);
         for _ in cursor.level..self.levels.len().saturating_sub(1) {
             if next.index % BRANCHES != 0 {
                 break;
             }
-            next = BlockCursor {
-                level: next.level.saturating_add(1),
-                index: next.index / BRANCHES,
-            };
+            next.level = next.level.saturating_add(1);
+            next.index /= BRANCHES;
         }
         next
     }

@@ -1,7 +1,6 @@
 //! The rule that decides whether joining the hulls of parts at their seams pays.
 use crate::cut::{Facets, Others};
 use crate::outlines::Outline;
-use crate::sights::Sight;
 use qh_parts_join::{Divided, Part};
 use qh_places::Budget;
 
@@ -26,11 +25,6 @@ struct FacetTally {
     gone: usize,
 }
 
-/// Returns the plane of the first facet at or after a place.
-fn first_sight(facets: Facets, place: usize) -> Option<Sight> {
-    facets.sight(facets.first_from(place)?)
-}
-
 impl FacetTally {
     /// Returns the tally after testing some facets of a part, until the budget is exhausted.
     fn with(self, part: &Part, others: Others, budget: &mut Budget) -> FacetTally {
@@ -38,8 +32,8 @@ impl FacetTally {
         let step = facets.places() / ASKED + 1;
         let mut tally = self;
         for number in 0..ASKED {
-            let place = step.wrapping_mul(number);
-            let Some(sight) = first_sight(facets, place) else {
+            let first = facets.first_from(step.wrapping_mul(number));
+            let Some(sight) = first.and_then(|f| facets.sight(f)) else {
                 break;
             };
             tally.asked = tally.asked.saturating_add(1);
@@ -51,26 +45,17 @@ impl FacetTally {
     }
 }
 
-/// Returns the number of corners of all parts.
-fn corner_count(set: Divided) -> usize {
-    let mut count = set.shared.len();
-    for part in set.parts {
-        count = count.saturating_add(part.own.len());
-    }
-    count
-}
-
 /// Returns true if joining the hulls of parts is likely to pay: they have more than `few` corners, few facets are
 /// removed, and testing a facet does not take long.
 pub(crate) fn is_worth_above(few: usize, set: Divided, outlines: &[Outline]) -> bool {
-    if corner_count(set) <= few {
+    let own = set.parts.iter().map(|part| part.own.len());
+    if own.fold(set.shared.len(), |count, more| count.saturating_add(more)) <= few {
         return false;
     }
     let mut tally = FacetTally { asked: 0, gone: 0 };
     let mut budget = Budget::for_each(set.parts.len().saturating_mul(ASKED), LOOKED_FOR_EACH);
-    for number in 0..set.parts.len() {
-        let others = Others { outlines, number };
-        tally = tally.with(&set.parts[number], others, &mut budget);
+    for (number, part) in set.parts.iter().enumerate() {
+        tally = tally.with(part, Others { outlines, number }, &mut budget);
     }
     !budget.is_spent() && tally.gone <= tally.asked / GONE_SHARE
 }
