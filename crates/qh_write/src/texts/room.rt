@@ -9,32 +9,22 @@ const NUMBER: usize = 12;
 /// The greatest number of bytes of the texts of `rank` and `s`.
 const SUMMARY: usize = 256;
 
-/// Returns the number of numbers in the lines of the faces, their lengths included.
-fn face_numbers(faces: &[Polygon]) -> usize {
+/// Returns an upper bound of the number of bytes of the lines of faces: of their lengths and the numbers of their corners.
+pub fn faces_room(faces: &[Polygon]) -> usize {
     let mut numbers = faces.len();
     for face in faces {
         numbers = numbers.saturating_add(face.ids().len());
     }
-    numbers
+    numbers.saturating_mul(NUMBER)
 }
 
-/// Returns an upper bound of the number of numbers in the lines of the fans of the faces, their lengths included.
-fn fan_numbers(faces: &[Polygon]) -> usize {
+/// Returns an upper bound of the number of bytes of the lines of the fans of faces, each of at most four numbers.
+pub fn fans_room(faces: &[Polygon]) -> usize {
     let mut triangles = 0usize;
     for face in faces {
         triangles = triangles.saturating_add(fan_size(face.ids()));
     }
-    triangles.saturating_mul(4)
-}
-
-/// Returns an upper bound of the number of bytes of the lines of faces.
-pub fn faces_room(faces: &[Polygon]) -> usize {
-    face_numbers(faces).saturating_mul(NUMBER)
-}
-
-/// Returns an upper bound of the number of bytes of the lines of the fans of faces.
-pub fn fans_room(faces: &[Polygon]) -> usize {
-    fan_numbers(faces).saturating_mul(NUMBER)
+    triangles.saturating_mul(4 * NUMBER)
 }
 
 /// Returns an upper bound of the number of bytes of the lines of vertices.
@@ -44,16 +34,13 @@ pub fn vertices_room(count: usize) -> usize {
 
 fn output_room(body: &Body, out: Out) -> usize {
     let vertices = vertices_room(body.extremes.len());
-    match out {
-        Out::Rank | Out::Summary => SUMMARY,
-        Out::Fx => SUMMARY.saturating_add(body.extremes.len().saturating_mul(NUMBER)),
-        Out::Off => SUMMARY
-            .saturating_add(vertices)
-            .saturating_add(faces_room(&body.polygons)),
-        Out::OffTriangles => SUMMARY
-            .saturating_add(vertices)
-            .saturating_add(fans_room(&body.polygons)),
-    }
+    let lists = match out {
+        Out::Rank | Out::Summary => 0,
+        Out::Fx => body.extremes.len().saturating_mul(NUMBER),
+        Out::Off => vertices.saturating_add(faces_room(&body.polygons)),
+        Out::OffTriangles => vertices.saturating_add(fans_room(&body.polygons)),
+    };
+    SUMMARY.saturating_add(lists)
 }
 
 /// Returns an upper bound of the number of bytes of the outputs.
