@@ -82,26 +82,6 @@ fn one_below(planes: &[Plane], ring: &ConeRing, made: &[FacetNo], point: Point) 
     }
 }
 
-/// Returns true if the point is further above the facet than the first point of its outside set, or if that set is
-/// empty.
-fn is_above_first(
-    sets: &OutsideSets,
-    planes: &[Plane],
-    points: &[Point],
-    facet: FacetNo,
-    point: Point,
-) -> bool
-    requires plane { facet < length planes.now }
-    requires place { facet < length sets.now.sets }
-    requires points { sets.now.positions ≡ length points.now }
-{
-    let plane = planes[facet.index()];
-    match sets.first(facet) {
-        Some(first) => plane.height(point) > plane.height(points[first.index()]),
-        None => true,
-    }
-}
-
 /// The cone over a horizon, among whose facets orphans are distributed.
 #[derive(Clone, Copy, Drop)]
 struct Cone<'a> {
@@ -130,7 +110,11 @@ fn is_furthest(
     requires points { sets.now.positions ≡ length cone.now.points.now }
 {
     let Some(height) = greatest.get_mut(below.at) else {
-        return is_above_first(sets, cone.planes, cone.points, below.facet, point);
+        let Some(first) = sets.first(below.facet) else {
+            return true;
+        };
+        let plane = cone.planes[below.facet.index()];
+        return plane.height(point) > plane.height(cone.points[first.index()]);
     };
     let is_above = below.height > *height;
     *height = below.height.max(*height);
