@@ -11,7 +11,7 @@ ghost use Rattle.qh_places.specs.steps.Slabs.{vector_of, less_times, IsInBlock};
 
 use crate::boxes::PointBox;
 use crate::slabs::{Block, Direction};
-use crate::spans::{Share, Span, TIMES_LIMIT};
+use crate::spans::{Span, TIMES_LIMIT};
 use qh_model::Point;
 use qh_pred::{Normal, Plane};
 
@@ -195,25 +195,13 @@ impl Bundle {
         ensures limit { unsigned_abs result ≤ 2 ^ 98 }
     {
         let (o, low, high) = (self.origin, bounds.low, bounds.high);
-        let x = Share {
-            times,
-            component: along.x,
-        };
-        let y = Share {
-            times,
-            component: along.y,
-        };
-        let z = Share {
-            times,
-            component: along.z,
-        };
         sum(
             self.x
-                .far_rest(x, way(o.x(), low.x()), way(o.x(), high.x())),
+                .far_rest(times, along.x, way(o.x(), low.x()), way(o.x(), high.x())),
             self.y
-                .far_rest(y, way(o.y(), low.y()), way(o.y(), high.y())),
+                .far_rest(times, along.y, way(o.y(), low.y()), way(o.y(), high.y())),
             self.z
-                .far_rest(z, way(o.z(), low.z()), way(o.z(), high.z())),
+                .far_rest(times, along.z, way(o.z(), low.z()), way(o.z(), high.z())),
         )
     }
 

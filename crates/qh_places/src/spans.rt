@@ -54,22 +54,13 @@ fn greater(a: i128, b: i128) -> i128
     if a < b { b } else { a }
 }
 
-/// A component of a direction, and the factor of the direction.
-#[derive(Clone, Copy, Drop)]
-pub(crate) struct Share {
-    pub times: u64,
-    pub component: i16,
-}
-
-impl Share {
-    /// Returns the component multiplied by the factor.
-    fn number(self) -> i128
-        requires { self.times ≤ TIMES_LIMIT }
-        ensures value { result ≡ pos self.times *ℤ self.component }
-        ensures limit { unsigned_abs result ≤ 2 ^ 63 }
-    {
-        i128::from(self.times) * i128::from(self.component)
-    }
+/// Returns the share of a direction in a normal along one axis: the component of the direction, multiplied by a factor.
+fn share(times: u64, component: i16) -> i128
+    requires { times ≤ TIMES_LIMIT }
+    ensures value { result ≡ pos times *ℤ component }
+    ensures limit { unsigned_abs result ≤ 2 ^ 63 }
+{
+    i128::from(times) * i128::from(component)
 }
 
 /// Returns an end of a span minus a share.
@@ -82,17 +73,17 @@ fn end_rest(end: i64, share: i128) -> i128
 }
 
 impl Span {
-    /// Returns the greatest product of two numbers: a number of the span minus the share, and a number from `from` to
-    /// `to`.
-    pub fn far_rest(&self, share: Share, from: i64, to: i64) -> i128
-        requires times { share.times ≤ TIMES_LIMIT }
+    /// Returns the greatest product of two numbers: a number of the span minus a multiple of a component, and a number
+    /// from `from` to `to`.
+    pub fn far_rest(&self, times: u64, component: i16, from: i64, to: i64) -> i128
+        requires times { times ≤ TIMES_LIMIT }
         requires from { unsigned_abs from ≤ 2 ^ 32 }
         requires to { unsigned_abs to ≤ 2 ^ 32 }
         ensures value { (n w : ℤ) → IsBetween self.now.low n self.now.high → IsBetween from w to
-            → ((n -ℤ pos share.times *ℤ share.component) *ℤ w) ≤ℤ result }
+            → ((n -ℤ pos times *ℤ component) *ℤ w) ≤ℤ result }
         ensures limit { unsigned_abs result ≤ 2 ^ 96 }
     {
-        let taken = share.number();
+        let taken = share(times, component);
         let (low, high) = (end_rest(self.low, taken), end_rest(self.high, taken));
         greater(far_product(from, low, high), far_product(to, low, high))
     }
