@@ -1,11 +1,9 @@
 -- The bytes that a source read from a file whose bytes are known.
-use Rattle.std.proofs.Common.{◌≡◌, ◌∙◌, ℕ, ◌<◌, List, ◌++◌, Option, Some, None, length, IfSome, arith, ap}
-use Rattle.std.proofs.lemmas.List.{append-nil, length-append}
-use Rattle.std.specs.Io.KnownBytes.{Consumes}
+use Rattle.qh_model.proofs.Common.{◌≡◌, ◌∙◌, ℕ, ◌<◌, List, ◌++◌, Option, Some, None, length, IfSome, arith, ap, append-nil, length-append, Consumes}
 use Rattle.qh_model.specs.declared.limits.TheConstants.{BYTE_LIMIT}
 use Rattle.qh_read.specs.headline.SourceBytes.{Gives, GivesAll}
-use Rattle.hullcheck.specs.contract.{Checking.IsCheckFault, Checking.IsJudgeFault, CommandLine.Asked, CommandLine.asked_by, Judging.IsWhole}
-use Rattle.hullcheck.specs.declared.fault.Fault.{Fault}
+use Rattle.hullcheck.specs.contract.{Checking.IsCheckFault, Checking.IsJudgeFault, CommandLine.Asked, CommandLine.asked_by}
+use Rattle.hullcheck.specs.{contract.Judging.IsWhole, declared.fault.Fault.Fault}
 use Rattle.hullcheck.specs.declared.fault.Fault.TheVariants.{Usage, Memory, Device, Output, Points, Faces}
 
 -- all bytes that a source read to its end are those of the file

@@ -1,13 +1,10 @@
 -- The lists of fans: made face by face they equal those of all triangles, and each has three numbers for each triangle.
-use Rattle.std.proofs.Common.{ℕ, ℤ, ◌≡◌, ◌*◌, ◌/◌, ◌<◌, List, [], ◌∷◌, ◌++◌, length, slice_index_or, take, drop, arith, ap, sym, subst, refl, ◌∙◌, ◌⊎◌, inl}
-use Rattle.std.proofs.{Common.inr, lemmas.Grind.flat_map-append, lemmas.List.append_assoc, lemmas.List.length-append}
-use Rattle.std.specs.List.{All, flat_map}
+use Rattle.qh_model.proofs.Common.{ℕ, ℤ, ◌≡◌, ◌*◌, ◌/◌, ◌<◌, List, [], ◌∷◌, ◌++◌, length, slice_index_or, take, drop, arith, ap, sym, subst, refl, ◌∙◌, ◌⊎◌}
+use Rattle.qh_model.proofs.Common.{inl, inr, flat_map-append, append_assoc, length-append, All, flat_map, IsBodyInOrder, face_triangles, AreIndices}
+use Rattle.qh_model.proofs.Common.{triangles_along, HullValue, IsHull, place, Vector}
 use Rattle.qh_model.proofs.Members.{All-of, All-In}
-use Rattle.qh_model.specs.{contract.Bodies.IsBodyInOrder, contract.FaceTriangles.face_triangles, contract.IdSets.AreIndices, headline.Fan.triangles_along}
-use Rattle.qh_model.specs.headline.{Hull.HullValue, Hull.IsHull, Predicates.place, Vector.Vector}
-use Rattle.qconvex_c.specs.contract.Flat.{corners_of}
+use Rattle.qconvex_c.specs.{contract.Flat.corners_of, steps.FaceFans.face_corners, steps.FaceFans.face_normals}
 use Rattle.qconvex_c.specs.contract.Triangles.{triangles_of, normal_of, AreFans, NeedsFanRoom}
-use Rattle.qconvex_c.specs.steps.FaceFans.{face_corners, face_normals}
 
 -- the corners of faces are the faces, one after the other
 corners_are : (qs : List (List ℕ)) → corners_of qs ≡ flat_map (λ q. q) qs

@@ -1,6 +1,5 @@
 -- Buffers that begin with the lists of a flat hull.
-use Rattle.std.proofs.Common.{◌≡◌, ℕ, ◌+◌, ◌<◌, List, [], ◌∷◌, length, take, drop, ap, sym, subst, ◌∙◌, refl, ◌⊎◌, inl, inr, arith}
-use Rattle.qh_model.specs.headline.Vector.{Vector}
+use Rattle.qh_model.proofs.Common.{◌≡◌, ℕ, ◌+◌, ◌<◌, List, [], ◌∷◌, length, take, drop, ap, sym, subst, ◌∙◌, refl, ◌⊎◌, inl, inr, arith, Vector}
 use Rattle.qconvex_c.specs.contract.{Flat.ends_from, Flat.IsFlatHull, Answered.IsAnswered, Answered.NeedsRoom}
 use Rattle.qconvex_c.specs.declared.sizes.Sizes.{Sizes}
 

@@ -1,14 +1,13 @@
 -- A verdict is `RIGHT` exactly if the faces are the surface of the hull.
-use Rattle.std.proofs.Common.{◌≡◌, ◌↔◌, ◌∙◌, ℕ, ◌<◌, List, [], length, get_or, arith, refl, ap, sym, subst}
+use Rattle.qh_model.proofs.Common.{◌≡◌, ◌↔◌, ◌∙◌, ℕ, ◌<◌, List, [], length, get_or, arith, refl, ap, sym, subst, HasDistinctPoints, AreDistinctIds, place}
+use Rattle.qh_model.proofs.Common.{Members, Vector}
 use Rattle.std.proofs.lemmas.List.{ext_get_or}
-use Rattle.qh_model.specs.{contract.IdSets.HasDistinctPoints, headline.DistinctIds.AreDistinctIds, headline.Predicates.place, headline.Sets.Members}
-use Rattle.qh_model.specs.headline.Vector.{Vector}
 use Rattle.qh_model.proofs.{DistinctIds.distinct_apart, Members.in_at, hulls.Unique.distinct_ids_are_unique}
-use Rattle.qh_check.specs.contract.{Surfaces.IsHullSurface, Judging.IsJudgement, Judging.IsTold, Judging.IsStrangeFace}
+use Rattle.qh_check.specs.{contract.Surfaces.IsHullSurface, declared.judgement.Judgement.TheVariants.Told, declared.judgement.Judgement.TheVariants.Stranger}
+use Rattle.qh_check.specs.{contract.Judging.IsJudgement, contract.Judging.IsTold, contract.Judging.IsStrangeFace, declared.judgement.Judgement.Judgement}
 use Rattle.qh_check.specs.contract.Naming.{AreNamed, AreNamedFaces, IsNamed}
 use Rattle.qh_check.specs.declared.fault.FaceFault.TheVariants.{NoPlane, Above, OtherFace}
 use Rattle.qh_check.specs.declared.verdict.SurfaceVerdict.TheVariants.{Right, OtherPolygons, NoPiece, Open, Twice}
-use Rattle.qh_check.specs.declared.judgement.Judgement.{Judgement, TheVariants.Told, TheVariants.Stranger}
 use Rattle.qconvex_c.specs.contract.Checked.{AreFacesIn, AreHullFaces, IsVerdictOn, verdict_of}
 use Rattle.qconvex_c.specs.{contract.Codes.QCONVEX_RIGHT, declared.verdict.Verdict.Verdict}
 

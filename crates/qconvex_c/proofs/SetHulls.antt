@@ -1,9 +1,7 @@
 -- The hulls of sets, written one after the other.
-use Rattle.std.proofs.Common.{◌≡◌, ℕ, ◌+◌, ◌*◌, ◌-◌, ◌≤◌, ◌<◌, ◌≢◌, zero, suc, List, length, take, drop, slice_index, slice_index_or, slice_set}
-use Rattle.std.proofs.Common.{get_or-set_same, get_or-set_other, below_more, arith, ap, sym, subst, ◌∙◌}
+use Rattle.qh_model.proofs.Common.{◌≡◌, ℕ, ◌+◌, ◌*◌, ◌-◌, ◌≤◌, ◌<◌, ◌≢◌, zero, suc, List, length, take, drop, slice_index, slice_index_or, slice_set}
+use Rattle.qh_model.proofs.Common.{get_or-set_same, get_or-set_other, below_more, arith, ap, sym, subst, ◌∙◌, slice_range, Vector}
 use Rattle.std.proofs.lemmas.List.{drop-set-lt}
-use Rattle.std.specs.List.{slice_range}
-use Rattle.qh_model.specs.headline.Vector.{Vector}
 use Rattle.qconvex_c.proofs.SetParts.{same_part, same_end, kept_longer}
 use Rattle.qconvex_c.specs.contract.Sets.{AreStarts, HaveRoom, IsSetHull, HasSetHull, AreKeptBetween, sets_in, offsets_start, corners_start}
 use Rattle.qconvex_c.specs.declared.{set_answer.SetAnswer.SetAnswer, sets.Set.Set}

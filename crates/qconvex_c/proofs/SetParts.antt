@@ -1,7 +1,6 @@
 -- Parts of buffers: a write to a part leaves the others unchanged.
-use Rattle.std.proofs.Common.{◌≡◌, ℕ, ◌+◌, ◌-◌, ◌≤◌, List, length, take, drop, arith, ap, sym, ◌∙◌}
-use Rattle.std.proofs.lemmas.List.{take-take, drop-take, drop-drop, length-take-le, length-drop}
-use Rattle.std.specs.List.{slice_range}
+use Rattle.qh_model.proofs.Common.{◌≡◌, ℕ, ◌+◌, ◌-◌, ◌≤◌, List, length, take, drop, arith, ap, sym, ◌∙◌, drop-drop, length-take-le, length-drop, slice_range}
+use Rattle.std.proofs.lemmas.List.{take-take, drop-take}
 use borrow.Rule.Slice.PartMut.{put_mid, take_put, drop_put}
 use Rattle.qconvex_c.specs.contract.Sets.{AreKeptBetween}
 

@@ -1,17 +1,12 @@
 -- The keys of sides: one more, in another order, and joined to the reversed sides.
-use Rattle.std.proofs.Common.{◌≡◌, ◌∙◌, ◌⊎◌, ◌↔◌, ℕ, ◌+◌, ◌*◌, ◌/◌, ◌%◌, ◌≤◌, ◌<◌, List, [], ◌∷◌, ◌++◌, length, slice_index}
-use Rattle.std.proofs.Common.{arith, ap, sym, subst, refl, inl, inr}
-use mathlib.Core.Logic.{dite}
-use native.Mathlib.Decide.{dec_le}
-use Rattle.std.proofs.Math.Nat.{eq-or-lt_of_le}
-use Rattle.std.proofs.lemmas.Grind.{get_or_default_zero}
-use Rattle.std.proofs.lemmas.List.Elements.{All-push, All-weaker, Contains-append_left, Contains-append_right}
-use Rattle.std.proofs.lemmas.List.Sorted.{All-permutation, Contains-permutation}
-use Rattle.std.specs.{List.All, List.Contains, List.Sorted.IsPermutation}
+use Rattle.qh_model.proofs.Common.{◌≡◌, ◌∙◌, ◌⊎◌, ◌↔◌, ℕ, ◌+◌, ◌*◌, ◌/◌, ◌%◌, ◌≤◌, ◌<◌, List, [], ◌∷◌, ◌++◌, length, slice_index, arith, ap, sym, subst, refl}
+use Rattle.qh_model.proofs.Common.{inl, inr, dite, dec_le, get_or_default_zero, All-push, All-weaker, All-permutation, Contains-permutation, All, Contains}
+use Rattle.qh_model.proofs.Common.{IsPermutation}
+use Rattle.std.proofs.{Math.Nat.eq-or-lt_of_le, lemmas.List.Elements.Contains-append_left, lemmas.List.Elements.Contains-append_right}
 use Rattle.qconvex_c.specs.contract.Neighbors.{AreNeighbors, AreReversed, IsNeighbor, side_from, side_to, sides_in}
-use Rattle.qh_model.specs.declared.limits.TheConstants.{POINT_LIMIT}
 use Rattle.qconvex_c.specs.declared.side_keys.TheConstants.{SIDE_ROOM}
 use Rattle.qconvex_c.specs.steps.SideKeys.{IsKey, AreKeys, IsJoined, AreJoined}
+use Rattle.qh_model.specs.declared.limits.TheConstants.{POINT_LIMIT}
 
 module _ (low high : ℕ → ℕ) where
   abbrev pub key_of : ℕ → ℕ

@@ -1,9 +1,6 @@
 -- Sums of volumes over triangles in one list, three corners at a time.
-use Rattle.std.proofs.Common.{◌≡◌, ℕ, ◌+◌, ◌*◌, ◌/◌, ◌<◌, ℤ, pos, ◌+ℤ◌, suc, List, [], ◌∷◌, length, drop, get_or, refl, ap, sym, subst, ◌∙◌, arith, rules}
-use Rattle.std.proofs.{Math.Seq.drop-cons, lemmas.List.length-drop}
-use lib.IntN.{+ℤ_assoc}
-use Rattle.std.specs.{Int.w128, Prelude.FitsSigned}
-use Rattle.qh_model.specs.headline.{Predicates.vol, Vector.Vector}
+use Rattle.qh_model.proofs.Common.{◌≡◌, ℕ, ◌+◌, ◌*◌, ◌/◌, ◌<◌, ℤ, pos, ◌+ℤ◌, suc, List, [], ◌∷◌, length, drop, get_or, refl, ap, sym, subst, ◌∙◌, arith, rules}
+use Rattle.qh_model.proofs.Common.{drop-cons, length-drop, +ℤ_assoc, w128, FitsSigned, vol, Vector}
 use Rattle.qconvex_c.specs.contract.Volumes.{six_volumes, PartialSumsFit}
 
 -- the three corners of triangle k come before those of the next ones

@@ -1,7 +1,6 @@
 -- Cells between planes: their parts, and the points that they hold.
-use Rattle.std.proofs.Common.{◌≡◌, ◌⊎◌, ◌<◌, ⊎_elim, inl, inr, ℕ, List, [], ◌∷◌, ◌++◌, arith, length, subst, suc, sym}
-use Rattle.std.specs.{List.range_with_len, Prelude.pos, Prelude.◌<ℤ◌}
-use Rattle.qh_model.specs.headline.{Vector.Vector, Sets.In}
+use Rattle.qh_model.proofs.Common.{◌≡◌, ◌⊎◌, ◌<◌, ⊎_elim, inl, inr, ℕ, List, [], ◌∷◌, ◌++◌, arith, length, subst, suc, sym, range_with_len, pos, ◌<ℤ◌, Vector}
+use Rattle.qh_model.proofs.Common.{In}
 use Rattle.qh_model.proofs.{Members.All-In, lists.Joined.in_append, lists.Ranges.range_has}
 use Rattle.qh_pred.specs.contract.Planes.{PlaneValue, height}
 use Rattle.qh_block.specs.contract.Cells.{numbered, IsBelow, IsCellOf, IsHeld, IsWithin, AreNear}

@@ -1,8 +1,6 @@
 -- A plane whose normal is divided by a step, with its offset lowered by the room for the rests, is under the original plane.
-use Rattle.std.proofs.Common.{◌≡◌, arith, ◌∙◌, ap}
-use Rattle.std.proofs.lemmas.Int.{ints}
-use Rattle.std.specs.Prelude.{ℤ, pos, ◌+ℤ◌, ◌-ℤ◌, ◌*ℤ◌, ◌≤ℤ◌, ◌<ℤ◌}
-use Rattle.qh_model.specs.{declared.limits.TheConstants.COORDINATE_LIMIT, headline.Vector.Vector, headline.Vector.dot, headline.Limits.IsCoordinate}
+use Rattle.qh_model.proofs.Common.{◌≡◌, arith, ◌∙◌, ap, ints, ℤ, pos, ◌+ℤ◌, ◌-ℤ◌, ◌*ℤ◌, ◌≤ℤ◌, ◌<ℤ◌, Vector, dot, IsCoordinate}
+use Rattle.qh_model.specs.declared.limits.TheConstants.{COORDINATE_LIMIT}
 use Rattle.qh_model.proofs.algebra.Order.{mul-le}
 use Rattle.qh_model.proofs.algebra.Integers.{add_mul, mul_add, mul_assoc, mul_comm, mul_one, mul_swap}
 use Rattle.qh_pred.specs.contract.Planes.{PlaneValue}

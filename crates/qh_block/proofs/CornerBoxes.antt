@@ -1,13 +1,10 @@
 -- If the octants of a box have points of a set, a point of the box that is not a corner is not extreme in the set.
-use Rattle.std.proofs.Common.{ℕ, ◌≡◌, ⊎_elim, inl, inr, List, [], ◌∷◌, Bool, true, false, arith, refl, subst, sym}
-use Rattle.std.proofs.lemmas.{Int.ints, Int.by_lt_z, List.Elements.All-from_recursion}
-use Rattle.std.specs.Prelude.{ℤ, pos, ◌*ℤ◌, ◌≤ℤ◌}
-use Rattle.qh_model.specs.{headline.Vector.Vector, headline.Predicates.place, headline.Sets.Members, headline.Extreme.Others, laws.Separator.Separator}
+use Rattle.qh_model.proofs.Common.{ℕ, ◌≡◌, ⊎_elim, inl, inr, List, [], ◌∷◌, Bool, true, false, arith, refl, subst, sym, ints, by_lt_z, All-from_recursion, ℤ}
+use Rattle.qh_model.proofs.Common.{pos, ◌*ℤ◌, ◌≤ℤ◌, Vector, place, Members, Others, Separator}
 use Rattle.qh_model.proofs.{Members.All-In, combinations.Alternatives.combination_or_separator, extremes.ExtremeIds.combination_within}
-use Rattle.qh_block.specs.contract.{Cells.IsWithin, KeptIds.HasNoExtreme}
+use Rattle.qh_block.specs.{contract.Cells.IsWithin, declared.regions.corner_box.Diagonals.Diagonals, steps.CornerBoxes.HasEndsOf, steps.CornerBoxes.AreOutward}
+use Rattle.qh_block.specs.{contract.KeptIds.HasNoExtreme, declared.regions.bounds.Bounds.Bounds}
 use Rattle.qh_block.specs.contract.CornerBoxes.{IsBeyond, IsOutward, HasOutward, IsEnd, IsCorner, IsHeldBy}
-use Rattle.qh_block.specs.declared.regions.{bounds.Bounds.Bounds, corner_box.Diagonals.Diagonals}
-use Rattle.qh_block.specs.steps.CornerBoxes.{HasEndsOf, AreOutward}
 use Rattle.qh_pred.specs.contract.{Corners.IsUnder, Ranges.IsBetween}
 use Rattle.qh_pred.proofs.Ranges.{beyond}
 

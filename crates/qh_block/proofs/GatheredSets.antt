@@ -1,12 +1,9 @@
 -- A set by the positions of its ids in a list of their points: its extreme ids are those at the extreme positions.
-use Rattle.std.proofs.Common.{◌≡◌, ℕ, ◌<◌, List, length, map, arith, sym, subst, ◌∙◌}
-use Rattle.std.proofs.lemmas.List.{length-map, get_or-map, get_or_default, FromFn.get_or-range_with_len, FromFn.length-range_with_len}
-use Rattle.std.specs.List.{range_with_len}
-use Rattle.qh_model.specs.{contract.IdSets.AreIndices, contract.IdSets.IsIdSet, headline.Vector.Vector, headline.Vector.origin, headline.Predicates.place}
-use Rattle.qh_model.specs.headline.{Sets.In, Sets.Members, Text.vertex_number, Hull.AreExtremes}
-use Rattle.qh_model.proofs.{Members.In-get_or, Members.rising_once, lists.Ranges.range_below, lists.Ranges.range_has}
-use Rattle.qh_model.proofs.{lists.Rising.range_rises, lists.Rising.rising_between, renamed.Lists.rising_map, renamed.Polygons.members_renamed}
-use Rattle.qh_model.proofs.renamed.{Positions.at_number, Positions.number_at, Renaming.IsRenaming, Renaming.renaming_apart, Renaming.extremes_renamed}
+use Rattle.qh_model.proofs.Common.{◌≡◌, ℕ, ◌<◌, List, length, map, arith, sym, subst, ◌∙◌, length-map, get_or-map, get_or_default, get_or-range_with_len}
+use Rattle.qh_model.proofs.Common.{length-range_with_len, range_with_len, AreIndices, IsIdSet, Vector, origin, place, In, Members, vertex_number, AreExtremes}
+use Rattle.qh_model.proofs.{Members.In-get_or, Members.rising_once, lists.Ranges.range_below, lists.Ranges.range_has, renamed.Lists.rising_map}
+use Rattle.qh_model.proofs.{lists.Rising.range_rises, lists.Rising.rising_between, renamed.Positions.at_number, renamed.Positions.number_at}
+use Rattle.qh_model.proofs.renamed.{Polygons.members_renamed, Renaming.IsRenaming, Renaming.renaming_apart, Renaming.extremes_renamed}
 use Rattle.qh_mesh.specs.contract.Names.{name_in}
 
 module _ (pts : List Vector) (ids : List ℕ) where

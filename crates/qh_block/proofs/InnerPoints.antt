@@ -1,9 +1,8 @@
 -- Points inside the hull of a sample: its planes, and the parts of a set without the points that columns between the planes hold.
-use Rattle.std.proofs.Common.{ℕ, ◌≡◌, ◌⊎◌, ⊎_elim, inl, inr, List, [], ◌∷◌, ◌++◌, All, refl, subst}
-use Rattle.qh_model.specs.{contract.FinishedSurface.IsFinished, contract.StoredSurface.StoredFacet, contract.StoredSurface.surface_of, headline.Vector.Vector}
-use Rattle.qh_model.specs.headline.{Predicates.place, Sets.In, Sets.Members, Extreme.Extreme, Extreme.Others}
-use Rattle.qh_model.proofs.{Members.All-In, extremes.ExtremeIds.combination_within, lists.Joined.in_append, surfaces.Inside.inner_is_not_extreme}
-use Rattle.qh_model.proofs.surfaces.Stored.{live_is_marked}
+use Rattle.qh_model.proofs.Common.{ℕ, ◌≡◌, ◌⊎◌, ⊎_elim, inl, inr, List, [], ◌∷◌, ◌++◌, All, refl, subst, IsFinished, StoredFacet, surface_of, Vector, place, In}
+use Rattle.qh_model.proofs.Common.{Members, Extreme, Others}
+use Rattle.qh_model.proofs.{Members.All-In, extremes.ExtremeIds.combination_within, surfaces.Inside.inner_is_not_extreme, surfaces.Stored.live_is_marked}
+use Rattle.qh_model.proofs.lists.Joined.{in_append}
 use Rattle.qh_pred.specs.contract.Planes.{PlaneValue}
 use Rattle.qh_mesh.specs.contract.Replacement.{IsLive}
 use Rattle.qh_block.specs.{contract.Cells.IsCellOf, contract.KeptIds.HasNoExtreme, contract.KeptIds.KeepsExtremes, declared.regions.columns.Columns.Columns}

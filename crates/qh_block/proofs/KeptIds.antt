@@ -1,8 +1,6 @@
 -- The ids of a set that remain without those whose points a region holds.
-use Rattle.std.proofs.Common.{ℕ, ◌+◌, ◌<◌, ⊎_elim, inl, inr, List, [], ◌∷◌, ◌++◌, arith, length, subst}
-use Rattle.std.proofs.{Math.Seq.get_or-append_right, lemmas.Grind.common_steps, lemmas.List.get_or_append_left}
-use Rattle.std.specs.List.Sorted.{IsStrictlyIncreasing}
-use Rattle.qh_model.specs.headline.{Vector.Vector, Predicates.place, Sets.In, Sets.Members, Extreme.Extreme}
+use Rattle.qh_model.proofs.Common.{ℕ, ◌+◌, ◌<◌, ⊎_elim, inl, inr, List, [], ◌∷◌, ◌++◌, arith, length, subst, get_or-append_right, common_steps}
+use Rattle.qh_model.proofs.Common.{get_or_append_left, IsStrictlyIncreasing, Vector, place, In, Members, Extreme}
 use Rattle.qh_model.proofs.{Members.in_at, Members.rising_tail, Members.rising_first, lists.Joined.in_append, lists.Joined.of_append}
 use Rattle.qh_model.proofs.lists.Rising.{rising_append, rising_back, rising_between, rising_front}
 use Rattle.qh_block.specs.contract.KeptIds.{HasNoExtreme, IsKept, KeepsExtremes}

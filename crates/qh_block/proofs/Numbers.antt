@@ -1,10 +1,7 @@
 -- Numbers stored in few bits: they fit, and keep their values.
-use Rattle.std.proofs.Common.{◌≡◌, ◌<◌, ◌≤◌, ◌*◌, ◌^◌, ℕ, arith, FitsSigned}
-use Rattle.std.proofs.Math.Nat.{mul-le-mul}
-use Rattle.std.proofs.lemmas.Int.{ints, to_z-of_z, fits_signed_from_abs, fits_signed_mul, unsigned_abs-mul}
-use Rattle.std.specs.Prelude.{ℤ, ◌+ℤ◌, ◌-ℤ◌, ◌*ℤ◌, unsigned_abs}
-use lib.Signed.{mag}
-use mir.{Syntax.Width, Syntax.w32, Syntax.w64, Val.hbits, Val.to_z, Val.of_z}
+use Rattle.qh_model.proofs.Common.{◌≡◌, ◌<◌, ◌≤◌, ◌*◌, ◌^◌, ℕ, arith, FitsSigned, mul-le-mul, ints, to_z-of_z, fits_signed_from_abs, unsigned_abs-mul, ℤ, ◌+ℤ◌}
+use Rattle.qh_model.proofs.Common.{◌-ℤ◌, ◌*ℤ◌, unsigned_abs, mag, Width, w32, w64, hbits, to_z, of_z}
+use Rattle.std.proofs.lemmas.Int.{fits_signed_mul}
 
 -- a number as it is stored
 abbrev pub held : Width → ℤ → ℤ

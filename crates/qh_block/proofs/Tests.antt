@@ -1,6 +1,5 @@
 -- The conjunction of tests.
-use Rattle.std.proofs.Common.{◌&&◌, Bool, true, false, IsTrue, refl}
-use Rattle.std.specs.Prelude.{◌↔◌}
+use Rattle.qh_model.proofs.Common.{◌&&◌, Bool, true, false, IsTrue, refl, ◌↔◌}
 
 -- the conjunction of two tests
 pub both : {P Q : Type 0} (a b : Bool) → (IsTrue a ↔ P) → (IsTrue b ↔ Q) → IsTrue (a && b) ↔ (P × Q)

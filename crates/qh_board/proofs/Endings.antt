@@ -1,18 +1,17 @@
 -- A pass ends: it leaves without a node, or gives up with one.
+use Rattle.qh_model.proofs.Common.{◌≡◌, ℕ, ◌+◌, ◌%◌, ◌^◌, ◌≤◌, Bool, List, [], ◌∷◌, ◌++◌, set, sym, refl, ap, ◌∙◌, arith, Option, Some, None, length-set}
+use Rattle.qh_model.proofs.Common.{get_or-set_same, slice_index, ◌==◌, dite, some, ℕ_discrete, get_elem?, Machine, Event, Can, after, put}
 use Rattle.qh_model.specs.contract.BoardMachine as machine
 use Rattle.qh_board.specs.declared.view.Mark as ended
-use Rattle.std.proofs.Common.{◌≡◌, ℕ, ◌+◌, ◌%◌, ◌^◌, ◌≤◌, Bool, List, [], ◌∷◌, ◌++◌, set, sym, refl, ap, ◌∙◌, arith, Option, Some, None, length-set}
-use Rattle.std.{proofs.Common.get_or-set_same, specs.Prelude.slice_index, specs.Prelude.◌==◌}
-use mathlib.Core.{Logic.dite, Option.some, Option.none}
-use native.Mathlib.Decide.{ℕ_discrete}
-use lib.ListN.{get_elem?}
+use mathlib.Core.Option.{none}
 use Rattle.atomic_table.specs.Table.{State, Me, step, Allows}
-use Rattle.qh_model.specs.contract.BoardMachine.{Machine, Event, Acts, Can, after, put}
+use Rattle.qh_model.specs.contract.BoardMachine.{Acts}
 use Rattle.qh_model.proofs.board.Updates.{put_here, put_else}
-use Rattle.qh_board.specs.contract.Records.{ending_of, ended_as}
-use Rattle.qh_board.specs.declared.view.{Mark.TheVariants.Left, Mark.TheVariants.GaveUp, Record.Record, Setup.Setup, View.View}
-use Rattle.qh_board.specs.steps.{Rule.one_if, Rule.times, Rule.Agrees, Rule.Kept, Rule.Ruled, Shown.event_by, Shown.made, Shown.maker, Shown.mark_of}
-use Rattle.qh_board.specs.steps.{Shown.mark_word, Views.view_of, Views.kids, Views.blocks_of, Views.blocks_in, Views.HasRecord, Views.marked}
+use Rattle.qh_board.specs.{contract.Records.ending_of, contract.Records.ended_as, declared.view.Mark.TheVariants.Left, declared.view.Mark.TheVariants.GaveUp}
+use Rattle.qh_board.specs.{declared.view.Record.Record, steps.Shown.event_by, steps.Shown.made, steps.Shown.maker, steps.Shown.mark_of, steps.Shown.mark_word}
+use Rattle.qh_board.specs.{declared.view.Setup.Setup, steps.Rule.one_if, steps.Rule.times, steps.Rule.Agrees, steps.Rule.Kept, steps.Rule.Ruled}
+use Rattle.qh_board.specs.declared.view.View.{View}
+use Rattle.qh_board.specs.steps.Views.{view_of, kids, blocks_of, blocks_in, HasRecord, marked}
 use Rattle.qh_board.proofs.SlotsHome.{all_home, laid, length_laid, load, slots_laid}
 use Rattle.qh_board.proofs.Steps.{KeptAfter, SlotsOf, made_more, steps, allowed_at, seat_record, seated, others_keep, nothing, word_else}
 

@@ -1,18 +1,15 @@
 -- The tokens of a board that closes: the records of all passes, and the value of the root.
+use Rattle.qh_model.proofs.Common.{◌≡◌, ◌≢◌, ◌↔◌, ℕ, zero, suc, ◌+◌, ◌≤◌, Bool, true, false, List, [], ◌∷◌, ◌++◌, length, sym, refl, ap, ◌∙◌, subst, arith}
+use Rattle.qh_model.proofs.Common.{ne_eqb, cond, Option, Some, None, map-append, append_assoc, slice_index, sum_by, map, ◌==◌, IsSome, IfSome, All, dite, some}
+use Rattle.qh_model.proofs.Common.{some-injective, some-ne-none, ℕ_discrete, get_elem?, InSpan}
 use Rattle.qh_board.specs.declared.view.Mark as ended
 use Rattle.qh_board.specs.declared.view.Mark.TheVariants as marks
-use Rattle.std.proofs.Common.{◌≡◌, ◌≢◌, ◌↔◌, ℕ, zero, suc, ◌+◌, ◌≤◌, Bool, true, false, List, [], ◌∷◌, ◌++◌, length, sym, refl, ap, ◌∙◌, subst, arith, ne_eqb}
-use Rattle.std.proofs.Common.{cond, Option, Some, None}
-use Rattle.std.proofs.lemmas.List.{map-append, append_assoc, Recursion.is_sum_by, Recursion.is_count_by}
-use Rattle.std.specs.Prelude.{slice_index, sum_by, map, ◌==◌, IsSome, IfSome, All}
-use mathlib.Core.{Logic.dite, Option.some, Option.some-injective, Option.some-ne-none}
-use native.Mathlib.Decide.{ℕ_discrete}
-use lib.ListN.{get_elem?}
+use Rattle.std.proofs.lemmas.List.Recursion.{is_sum_by, is_count_by}
 use Rattle.atomic_table.specs.{Seated.TableId, Table.Final, Table.Seen}
-use Rattle.qh_model.specs.contract.BoardMachine.{InSpan}
-use Rattle.qh_board.specs.contract.Closings.{mark_of_word, claims_made, tokens_of}
-use Rattle.qh_board.specs.{contract.Tokens.Token, declared.view.Record.Record, declared.view.Setup.Setup, declared.view.View.View, steps.Rule.one_if}
-use Rattle.qh_board.specs.steps.{Rule.weigh, Rule.named, Rule.claims_of, Rule.Each, Rule.Ruled, Seats.token_of, Views.record_of, Views.head_or, Views.HasEnded}
+use Rattle.qh_board.specs.{contract.Closings.mark_of_word, contract.Closings.claims_made, contract.Closings.tokens_of, declared.view.Record.Record}
+use Rattle.qh_board.specs.contract.Tokens.{Token}
+use Rattle.qh_board.specs.{declared.view.Setup.Setup, declared.view.View.View, steps.Views.record_of, steps.Views.head_or, steps.Views.HasEnded}
+use Rattle.qh_board.specs.steps.{Rule.one_if, Rule.weigh, Rule.named, Rule.claims_of, Rule.Each, Rule.Ruled, Seats.token_of}
 use Rattle.qh_board.proofs.LastStates.{Last, closes}
 
 -- ---- the records of tokens

@@ -1,19 +1,17 @@
 -- A pass releases its node, whose value stays in the slot: it arrives first at the parent, or publishes the root.
+use Rattle.qh_model.proofs.Common.{◌≡◌, ◌≢◌, inl, inr, ⊎_elim, ℕ, ◌+◌, ◌*◌, ◌%◌, ◌^◌, ◌<◌, Bool, List, [], ◌∷◌, ◌++◌, set, sym, refl, ap, ◌∙◌, subst, arith}
+use Rattle.qh_model.proofs.Common.{Option, Some, None, length-set, get_or-set_same, slice_index, ◌==◌, dite, some, ℕ_discrete, get_elem?, Place, untouched}
+use Rattle.qh_model.proofs.Common.{held, parked, published, Event, arrive_first, publish, Can, after, settled, put, parent, InSpan}
 use mathlib.Core.Option as maybe
-use Rattle.std.proofs.Common.{◌≡◌, ◌≢◌, inl, inr, ⊎_elim, ℕ, ◌+◌, ◌*◌, ◌%◌, ◌^◌, ◌<◌, Bool, List, [], ◌∷◌, ◌++◌, set, sym, refl, ap, ◌∙◌, subst, arith, Option}
-use Rattle.std.{proofs.Common.Some, proofs.Common.None, proofs.Common.length-set, proofs.Common.get_or-set_same, specs.Prelude.slice_index, specs.Prelude.◌==◌}
-use mathlib.Core.{Logic.dite, Option.some, Option.none}
-use native.Mathlib.Decide.{ℕ_discrete}
-use lib.ListN.{get_elem?}
+use mathlib.Core.Option.{none}
 use Rattle.atomic_table.specs.Table.{State, Me, step, Allows, rest}
-use Rattle.qh_model.specs.contract.BoardMachine.{Place}
-use Rattle.qh_model.specs.contract.BoardMachine.{untouched, held, parked, published, Event, arrive_first, publish, Can, after, settled, put, parent, InSpan}
 use Rattle.qh_model.proofs.board.{Grown.ranged, Reached.reach_good, Siblings.near, Updates.put_here, Updates.put_else, Updates.at_put}
 use Rattle.qh_board.specs.declared.view.Event as own
-use Rattle.qh_board.specs.contract.Records.{come_first, without_node, node_or}
-use Rattle.qh_board.specs.declared.view.{Event.TheVariants.ArriveFirst, Event.TheVariants.Publish, Record.Record, Setup.Setup, View.View}
-use Rattle.qh_board.specs.steps.{Rule.one_if, Rule.times, Rule.Agrees, Rule.SlotOf, Rule.Kept, Rule.Ruled, Shown.event_by, Shown.made, Shown.maker}
-use Rattle.qh_board.specs.steps.{Shown.mark_of, Views.view_of, Views.kids, Views.blocks_of, Views.HasRecord, Views.put_out}
+use Rattle.qh_board.specs.{contract.Records.come_first, contract.Records.without_node, contract.Records.node_or, declared.view.Record.Record}
+use Rattle.qh_board.specs.declared.view.{Event.TheVariants.ArriveFirst, Event.TheVariants.Publish, View.View}
+use Rattle.qh_board.specs.{declared.view.Setup.Setup, steps.Views.view_of, steps.Views.kids, steps.Views.blocks_of, steps.Views.HasRecord, steps.Views.put_out}
+use Rattle.qh_board.specs.steps.Rule.{one_if, times, Agrees, SlotOf, Kept, Ruled}
+use Rattle.qh_board.specs.steps.Shown.{event_by, made, maker, mark_of}
 use Rattle.qh_board.proofs.ParentWords.{arrivals_up, sibling_is}
 use Rattle.qh_board.proofs.SlotsHome.{all_home, laid, length_laid, load, slots_home, filled}
 use Rattle.qh_board.proofs.Steps.{KeptAfter, SlotsOf, Turns, made_more, steps, allowed_at, seat_record, others_keep, word_else}

@@ -1,11 +1,9 @@
 -- The word of a parent: the number of its children that are settled.
-use Rattle.std.proofs.Common.{◌≡◌, ◌≢◌, inl, inr, ℕ, ◌+◌, ◌*◌, ◌<◌, List, length, set, sym, refl, ap, ◌∙◌, subst, arith, get_or-set_same}
-use Rattle.std.specs.Prelude.{slice_index}
-use mathlib.Core.Logic.{dite}
-use native.Mathlib.Decide.{ℕ_discrete}
-use Rattle.qh_model.specs.contract.BoardMachine.{Place, untouched, held, parked, used, published, Machine, settled, sibling, parent}
+use Rattle.qh_model.proofs.Common.{◌≡◌, ◌≢◌, inl, inr, ℕ, ◌+◌, ◌*◌, ◌<◌, List, length, set, sym, refl, ap, ◌∙◌, subst, arith, get_or-set_same, slice_index}
+use Rattle.qh_model.proofs.Common.{dite, ℕ_discrete, Place, untouched, held, parked, used, published, Machine, settled, sibling, parent}
 use Rattle.qh_model.proofs.board.{Grown.Consistent, Grown.ranged, Siblings.ArePair, Siblings.near}
-use Rattle.qh_board.{specs.declared.view.Setup.Setup, proofs.Steps.word_else}
+use Rattle.qh_board.specs.declared.view.Setup.{Setup}
+use Rattle.qh_board.proofs.Steps.{word_else}
 
 module _ {S X : Type 0} (right : S → (ℕ → Type 0) → X → Type 0) (key : Setup S) where
   -- the words after an arrival at the parent of i

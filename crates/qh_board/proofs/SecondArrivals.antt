@@ -1,18 +1,15 @@
 -- The second arrival at a node, which takes both values.
+use Rattle.qh_model.proofs.Common.{◌≡◌, ◌≢◌, inl, inr, ⊎_elim, ℕ, ◌+◌, ◌*◌, ◌<◌, ◌≤◌, [], ◌∷◌, length, set, sym, refl, ap, ◌∙◌, subst, arith, eq-eqb, ne_eqb}
+use Rattle.qh_model.proofs.Common.{Option, ◌++◌, if◌then◌else◌, Bool, true, false, List, Some, None, length-set, get_or-set_same, slice_index, ◌==◌, dite, some}
+use Rattle.qh_model.proofs.Common.{ℕ_discrete, get_elem?, Place, untouched, held, parked, used, Event, arrive_second, Can, after, settled, put, sibling, parent}
 use Rattle.qh_model.specs.contract.BoardMachine as machine
-use Rattle.std.proofs.Common.{◌≡◌, ◌≢◌, inl, inr, ⊎_elim, ℕ, ◌+◌, ◌*◌, ◌<◌, ◌≤◌, [], ◌∷◌, length, set, sym, refl, ap, ◌∙◌, subst, arith, eq-eqb, ne_eqb, Option}
-use Rattle.std.proofs.Common.{◌++◌, if◌then◌else◌, Bool, true, false, List, Some, None, length-set, get_or-set_same}
-use Rattle.std.specs.Prelude.{slice_index, ◌==◌}
-use mathlib.Core.{Logic.dite, Option.some, Option.none}
-use native.Mathlib.Decide.{ℕ_discrete}
-use lib.ListN.{get_elem?}
+use mathlib.Core.Option.{none}
 use Rattle.atomic_table.specs.Table.{State}
-use Rattle.qh_model.specs.contract.BoardMachine.{Place, untouched, held, parked, used, Event, arrive_second, Can, after, settled, put, sibling, parent}
-use Rattle.qh_model.proofs.board.Joined.{same, spent, got, joined, cases, fresh, at_i, at_p}
-use Rattle.qh_model.proofs.board.{Siblings.ArePair, Siblings.near, Grown.ranged, Reached.reach_good, Updates.put_else}
-use Rattle.qh_board.specs.contract.Records.{come_second, node_or}
-use Rattle.qh_board.specs.declared.view.{Event.TheVariants.ArriveSecond, Record.Record, Setup.Setup, View.View}
-use Rattle.qh_board.specs.steps.{Rule.one_if, Rule.Kept, Shown.made, Shown.mark_of, Views.view_of}
+use Rattle.qh_model.proofs.board.{Joined.same, Joined.spent, Joined.got, Joined.joined, Joined.cases, Joined.fresh, Joined.at_i, Joined.at_p, Updates.put_else}
+use Rattle.qh_model.proofs.board.{Siblings.ArePair, Siblings.near, Grown.ranged, Reached.reach_good}
+use Rattle.qh_board.specs.{contract.Records.come_second, contract.Records.node_or, declared.view.Event.TheVariants.ArriveSecond, declared.view.Record.Record}
+use Rattle.qh_board.specs.{declared.view.Setup.Setup, declared.view.View.View, steps.Rule.one_if, steps.Rule.Kept, steps.Shown.made, steps.Shown.mark_of}
+use Rattle.qh_board.specs.steps.Views.{view_of}
 use Rattle.qh_board.proofs.{ParentWords.arrivals_up, ParentWords.sibling_is, SlotsHome.laid, SlotsHome.length_laid, SlotsHome.load, SlotsHome.slots_laid}
 use Rattle.qh_board.proofs.Steps.{Homes, KeptAfter, SlotsOf, made_more, steps, others_keep, slots_put, settled_put, word_else, times_snoc}
 

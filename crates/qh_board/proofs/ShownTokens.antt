@@ -1,10 +1,9 @@
 -- The contract view of a token of a board and its seat.
-use Rattle.std.proofs.Common.{◌≡◌, ℕ, Bool, false, ap, sym, ◌∙◌, subst, Option, Some}
+use Rattle.qh_model.proofs.Common.{◌≡◌, ℕ, Bool, false, ap, sym, ◌∙◌, subst, Option, Some, InSpan}
 use Rattle.atomic_table.specs.Seated.{TableId}
-use Rattle.qh_board.specs.contract.{Records.node_or, Tokens.BoardValue, Tokens.Token, Tokens.IsOf, Tokens.IsRightAt, Tokens.task_node}
-use Rattle.qh_board.specs.declared.view.{Mark.Mark, Setup.Setup, View.View}
-use Rattle.qh_board.specs.steps.{Seats.token_of, Views.HasRecord, Views.record_of}
-use Rattle.qh_model.specs.contract.BoardMachine.{InSpan}
+use Rattle.qh_board.specs.{contract.Records.node_or, declared.view.Mark.Mark, declared.view.Setup.Setup, steps.Views.HasRecord, steps.Views.record_of}
+use Rattle.qh_board.specs.contract.Tokens.{BoardValue, Token, IsOf, IsRightAt, task_node}
+use Rattle.qh_board.specs.{declared.view.View.View, steps.Seats.token_of}
 
 -- a board of this table and setup
 abbrev pub board_of : {S : Type 0} → TableId → Setup S → BoardValue S

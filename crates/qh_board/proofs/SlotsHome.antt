@@ -1,17 +1,13 @@
 -- The slots that a pass carries, and their contents after they are returned.
+use Rattle.qh_model.proofs.Common.{◌≡◌, ◌≢◌, ℕ, zero, suc, ◌+◌, ◌*◌, ◌<◌, ◌≤◌, Bool, true, false, List, [], ◌∷◌, length, set, sym, refl, ap, ◌∙◌, subst, arith}
+use Rattle.qh_model.proofs.Common.{Option, Some, None, length-set, nat_tests, nat_lt, slice_index, dite, some, ℕ_discrete, dec_le, get_elem?, Place, untouched}
+use Rattle.qh_model.proofs.Common.{held, used}
 use mathlib.Core.Option as maybe
-use Rattle.std.proofs.Common.{◌≡◌, ◌≢◌, ℕ, zero, suc, ◌+◌, ◌*◌, ◌<◌, ◌≤◌, Bool, true, false, List, [], ◌∷◌, length, set, sym, refl, ap, ◌∙◌, subst, arith}
-use Rattle.std.proofs.{Common.Option, Common.Some, Common.None, Common.length-set, lemmas.Bool.Decides.nat_tests}
-use Rattle.std.specs.Prelude.{nat_lt, slice_index}
-use mathlib.Core.{Logic.dite, Option.some}
-use native.Mathlib.Decide.{ℕ_discrete, dec_le}
-use lib.ListN.{get_elem?}
 use Rattle.atomic_table.specs.Table.{State, Me, Act, keeps, gives, chain, Valid, homes_after, carried_after, rest, stepped}
 use Rattle.atomic_table.proofs.Lists.{set_here, set_else}
-use Rattle.qh_model.specs.contract.BoardMachine.{Place, untouched, held, used}
 use Rattle.qh_model.proofs.board.{Grown.ranged, Reached.reach_good}
-use Rattle.qh_board.specs.declared.view.{Record.Record, Setup.Setup, View.View}
-use Rattle.qh_board.specs.steps.{Rule.SlotOf, Rule.Kept, Views.view_of, Views.kids, Views.blocks_of, Views.blocks_in, Views.HasRecord}
+use Rattle.qh_board.specs.{declared.view.Record.Record, declared.view.Setup.Setup, steps.Rule.SlotOf, steps.Rule.Kept}
+use Rattle.qh_board.specs.{declared.view.View.View, steps.Views.view_of, steps.Views.kids, steps.Views.blocks_of, steps.Views.blocks_in, steps.Views.HasRecord}
 use Rattle.qh_board.proofs.Steps.{Homes, KeptAfter, SlotsOf, seat_record, seated}
 
 module _ {A : Type 0} where

@@ -1,10 +1,8 @@
 -- Faces that close up determine the hull of a solid set.
-use Rattle.std.proofs.Common.{inl, ℕ, List, refl}
-use Rattle.std.specs.{Prelude.◌↔◌, List.Sorted.IsStrictlyIncreasing}
-use Rattle.qh_model.specs.{contract.ClosedPolygons.AreClosedFaces, contract.IdSets.HasDistinctPoints, headline.Vector.Vector}
-use Rattle.qh_model.specs.headline.{Sets.In, Sets.Members, Extreme.Extreme, Dimension.IsDimension, Hull.IsBody, Polygons.RiseStrictly}
-use Rattle.qh_model.proofs.lists.{Joined.in_flat_map, Joined.of_flat_map, Lexicographic.rising-ordered}
-use Rattle.qh_model.proofs.polygons.{ClosedFaces.closed_faces_are_all, ClosedFaces.closed_faces_have_extremes, Steps.ordered_once}
+use Rattle.qh_model.proofs.Common.{inl, ℕ, List, refl, ◌↔◌, IsStrictlyIncreasing, AreClosedFaces, HasDistinctPoints, Vector, In, Members, Extreme, IsDimension}
+use Rattle.qh_model.proofs.Common.{IsBody, RiseStrictly}
+use Rattle.qh_model.proofs.{lists.Joined.in_flat_map, lists.Joined.of_flat_map, polygons.Steps.ordered_once}
+use Rattle.qh_model.proofs.{lists.Lexicographic.rising-ordered, polygons.ClosedFaces.closed_faces_are_all, polygons.ClosedFaces.closed_faces_have_extremes}
 use Rattle.qh_bodies.specs.contract.{SolidEdges.all_edges_up, Tallies.all_members}
 use Rattle.qh_bodies.proofs.EdgeCounts.{edges_of_faces}
 

@@ -1,11 +1,8 @@
 -- The number of edges of a solid: exactly one face has the step from the lower id of an edge to the higher one.
-use Rattle.std.proofs.Common.{◌≡◌, inl, inr, ℕ, ◌<◌, List, [], ◌∷◌, sym, subst, refl, arith}
-use Rattle.std.proofs.lemmas.Bool.Decides.{nat_tests}
-use Rattle.std.specs.{List.flat_map, Prelude.◌↔◌}
-use Rattle.qh_model.specs.{contract.IdSets.HasDistinctPoints, headline.Vector.Vector, headline.Sets.In, headline.Sets.Once, headline.Sets.Members}
-use Rattle.qh_model.specs.headline.{Dimension.IsDimension, Polygon.FollowsAlong, Polygon.Follows, Polygons.AreFaces, Polygons.IsEdge, Polygons.IsEdgeCount}
-use Rattle.qh_model.proofs.{lists.Joined.once_append, lists.Joined.in_flat_map, lists.Joined.of_flat_map, polygons.Edges.one_face_a_step}
-use Rattle.qh_model.proofs.polygons.{Neighbours.along_members, OtherFace.other_face}
+use Rattle.qh_model.proofs.Common.{◌≡◌, inl, inr, ℕ, ◌<◌, List, [], ◌∷◌, sym, subst, refl, arith, nat_tests, flat_map, ◌↔◌, HasDistinctPoints, Vector, In, Once}
+use Rattle.qh_model.proofs.Common.{Members, IsDimension, FollowsAlong, Follows, AreFaces, IsEdge, IsEdgeCount}
+use Rattle.qh_model.proofs.{lists.Joined.once_append, lists.Joined.in_flat_map, lists.Joined.of_flat_map, polygons.Neighbours.along_members}
+use Rattle.qh_model.proofs.polygons.{Edges.one_face_a_step, OtherFace.other_face}
 use Rattle.qh_bodies.specs.contract.SolidEdges.{ups_along, ups, all_edges_up}
 
 abbrev Pair : Type 0

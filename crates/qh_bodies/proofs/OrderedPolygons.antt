@@ -1,8 +1,6 @@
 -- Polygons in order, pairwise.
-use Rattle.std.proofs.Common.{◌≡◌, ◌≢◌, ℕ, zero, suc, ◌+◌, ◌-◌, ◌<◌, ◌≤◌, arith, sym, subst, ◌∙◌, inl, inr, List, [], ◌∷◌, length, get_or, take, min}
-use Rattle.std.proofs.lemmas.{List.get_or_default, Bool.cases_lt}
-use Rattle.std.specs.Prelude.{◌↔◌}
-use Rattle.qh_model.specs.headline.Polygons.{ComesBefore, RisesFrom, RiseStrictly}
+use Rattle.qh_model.proofs.Common.{◌≡◌, ◌≢◌, ℕ, zero, suc, ◌+◌, ◌-◌, ◌<◌, ◌≤◌, arith, sym, subst, ◌∙◌, inl, inr, List, [], ◌∷◌, length, get_or, take, min}
+use Rattle.qh_model.proofs.Common.{get_or_default, cases_lt, ◌↔◌, ComesBefore, RisesFrom, RiseStrictly}
 use Rattle.qh_bodies.specs.contract.Order.{IsOutOfOrder}
 
 -- a list in which each element comes before the next rises

@@ -1,9 +1,6 @@
 -- Sorted keys of steps and of reversed steps: polygons with the same keys have the same border, and close up with the same polygons.
-use Rattle.std.proofs.Common.{◌≡◌, ◌∙◌, ℕ, ◌+◌, Bool, List, ◌++◌, IsPermutation, ap, arith, cond, map, sym}
-use Rattle.std.proofs.lemmas.List.{Sorted.sum_by-IsPermutation, Sums.sum_by-append}
-use Rattle.std.specs.{Prelude.count_by, List.flat_map}
-use Rattle.qh_model.specs.contract.Halves.{halves, high_of, low_of}
-use Rattle.qh_model.specs.contract.{ClosedPolygons.AreClosed, ClosedPolygons.steps_round, ClosedPolygons.step_count, ClosedSurface.is_edge}
+use Rattle.qh_model.proofs.Common.{◌≡◌, ◌∙◌, ℕ, ◌+◌, Bool, List, ◌++◌, IsPermutation, ap, arith, cond, map, sym, sum_by-IsPermutation, sum_by-append, count_by}
+use Rattle.qh_model.proofs.Common.{flat_map, halves, high_of, low_of, AreClosed, steps_round, step_count, is_edge}
 use Rattle.qh_model.proofs.{closed_surfaces.SignedVolume.is_edge-back, lists.Counts.count-map}
 use Rattle.qh_bodies.proofs.{StepCounts.steps_of_both, Steps.key_counts}
 use Rattle.qh_bodies.specs.{contract.Borders.HaveOneBorder, steps.StepKeys.back, steps.StepKeys.AreStepsAndBack, steps.StepKeys.CountOtherwise}

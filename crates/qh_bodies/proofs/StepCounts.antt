@@ -1,8 +1,6 @@
 -- The number of times that polygons take a step: list by list, and in any order.
-use Rattle.std.proofs.Common.{◌≡◌, ◌∙◌, ℕ, ◌+◌, List, [], ◌∷◌, ◌++◌, IsPermutation, ap, arith, cond, refl, sym}
-use Rattle.std.proofs.lemmas.List.{Concat.flat_map-append, Sorted.sum_by-IsPermutation, Sums.sum_by-append, Sums.sum_by-cons}
-use Rattle.std.specs.{Prelude.count_by, List.flat_map, List.sum_by}
-use Rattle.qh_model.specs.contract.{ClosedPolygons.AreClosed, ClosedPolygons.steps_round, ClosedPolygons.step_count, ClosedSurface.is_edge}
+use Rattle.qh_model.proofs.Common.{◌≡◌, ◌∙◌, ℕ, ◌+◌, List, [], ◌∷◌, ◌++◌, IsPermutation, ap, arith, cond, refl, sym, flat_map-append, sum_by-IsPermutation}
+use Rattle.qh_model.proofs.Common.{sum_by-append, sum_by-cons, count_by, flat_map, sum_by, AreClosed, steps_round, step_count, is_edge}
 
 module _ (u v : ℕ) where
   abbrev is_step : ℕ × ℕ → ℕ

@@ -1,13 +1,10 @@
 -- Polygons are closed exactly if the keys of their steps to higher ids and the reversed keys of their steps to lower ids are the same when sorted.
-use Rattle.std.proofs.Common.{◌≡◌, ◌≢◌, ℕ, zero, suc, ◌+◌, ◌<◌, ◌≤◌, arith, refl, sym, ap, subst, ◌∙◌, inl, inr, List, [], ◌∷◌, map, Bool, true, false, cond}
-use Rattle.std.proofs.{Common.eqb, Common.eqb-true, Common.IsPermutation, lemmas.Bool.cases_Bool, lemmas.Bool.cases_lt, lemmas.Bool.Decides.nat_tests}
-use Rattle.std.proofs.lemmas.List.Sorted.{sum_by-IsPermutation}
-use Rattle.std.specs.{Prelude.count_by, Prelude.filter, Prelude.nat_lt, List.flat_map}
-use Rattle.qh_model.specs.contract.{Halves.halves, Halves.high_of, Halves.low_of, ClosedSurface.is_edge}
-use Rattle.qh_model.specs.contract.ClosedPolygons.{steps_round, step_count, AreClosed}
-use Rattle.qh_model.proofs.PackedPairs.{halves-same}
+use Rattle.qh_model.proofs.Common.{◌≡◌, ◌≢◌, ℕ, zero, suc, ◌+◌, ◌<◌, ◌≤◌, arith, refl, sym, ap, subst, ◌∙◌, inl, inr, List, [], ◌∷◌, map, Bool, true, false}
+use Rattle.qh_model.proofs.Common.{cond, eqb, eqb-true, IsPermutation, cases_Bool, cases_lt, nat_tests, sum_by-IsPermutation, count_by, filter, nat_lt}
+use Rattle.qh_model.proofs.Common.{flat_map, halves, high_of, low_of, is_edge, steps_round, step_count, AreClosed}
+use Rattle.qh_model.proofs.{PackedPairs.halves-same, closed_surfaces.Sums.count, closed_surfaces.Sums.count-is, closed_surfaces.Sums.count_kept}
 use Rattle.qh_model.proofs.closed_surfaces.SignedVolume.{edge_tests, eqb-refl, is_edge-back}
-use Rattle.qh_model.proofs.{closed_surfaces.Sums.count, closed_surfaces.Sums.count-is, closed_surfaces.Sums.count_kept, lists.Counts.count-map}
+use Rattle.qh_model.proofs.lists.Counts.{count-map}
 use Rattle.qh_bodies.specs.steps.StepKeys.{back, goes_up, goes_down, CountOtherwise, EachOnce, IsTwice}
 
 -- ---- keys

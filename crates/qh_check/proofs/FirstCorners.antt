@@ -1,11 +1,9 @@
 -- The first three corners of a face are a supporting triple with this face.
-use Rattle.std.proofs.Common.{ℕ, ◌≡◌, ◌≢◌, inl, inr, refl, sym, subst, List, [], ◌∷◌}
-use Rattle.std.specs.Prelude.{pos, ◌<ℤ◌}
-use Rattle.qh_model.specs.{contract.ClosedPolygons.IsFace, contract.IdSets.HasDistinctPoints, headline.Vector.Vector}
-use Rattle.qh_model.specs.headline.{Predicates.cross, Predicates.vol, Predicates.left, Sets.In, Sets.Members, SupportingPlane.IsSupportingTriple}
-use Rattle.qh_model.specs.{headline.Polygons.IsFacePolygon}
-use Rattle.qh_model.proofs.{algebra.VectorIdentities.left-turn, polygons.Edges.seen_from, polygons.Fans.corners_support, polygons.Fans.face_fan}
-use Rattle.qh_model.proofs.polygons.PlaneTurns.{level_along}
+use Rattle.qh_model.proofs.Common.{ℕ, ◌≡◌, ◌≢◌, inl, inr, refl, sym, subst, List, [], ◌∷◌, pos, ◌<ℤ◌, IsFace, HasDistinctPoints, Vector, cross, vol, In}
+use Rattle.qh_model.proofs.Common.{Members, IsSupportingTriple, IsFacePolygon}
+use Rattle.qh_model.specs.headline.Predicates.{left}
+use Rattle.qh_model.proofs.{algebra.VectorIdentities.left-turn, polygons.Fans.corners_support, polygons.Fans.face_fan, polygons.PlaneTurns.level_along}
+use Rattle.qh_model.proofs.polygons.Edges.{seen_from}
 use Rattle.qh_check.proofs.Pieces.{one_beginning}
 use Rattle.qh_check.specs.contract.Pieces.{BeginsWith}
 

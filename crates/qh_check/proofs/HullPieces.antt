@@ -1,20 +1,16 @@
 -- A polygon that goes round corners of a face, and turns as the face does, is a piece of it.
-use Rattle.std.proofs.Common.{ℕ, ◌≡◌, ◌≢◌, ap, inl, inr, refl, sym, subst, ◌∙◌, List, [], get_or, All}
-use Rattle.std.specs.Prelude.{pos, ◌<ℤ◌, ◌≤ℤ◌, Option, Some, None, MatchOption}
-use Rattle.std.specs.Ordering.{is_gt}
-use Rattle.qh_model.specs.contract.{ClosedPolygons.IsFace, IdSets.HasDistinctPoints, IdSets.IsIdSet}
-use Rattle.qh_model.specs.headline.{Hull.BodyValue, Hull.IsBody, Dimension.IsDimension, Vector.Vector, Vector.origin, Vector.dot}
-use Rattle.qh_model.specs.headline.Predicates.{cross, left, place, vol}
-use Rattle.qh_model.specs.headline.{Sets.In, Sets.Members, SupportingPlane.IsSupportingTriple, Polygons.AreFaces, Polygons.ArePolygons, Polygons.IsFacePolygon}
-use Rattle.qh_model.proofs.Members.{All-In, All-of, In-get_or}
-use Rattle.qh_model.proofs.algebra.{Order.cancel-nonpos, Order.mul-nonneg_nonpos, Order.positive_le, Signs.less_differ, VectorIdentities.in_line-left}
-use Rattle.qh_model.proofs.{extremes.Directions.from_plane, extremes.Directions.square-positive, polygons.Edges.seen_from}
-use Rattle.qh_model.proofs.polygons.PlaneTurns.{level_along, level_volume}
+use Rattle.qh_model.proofs.Common.{ℕ, ◌≡◌, ◌≢◌, ap, inl, inr, refl, sym, subst, ◌∙◌, List, [], get_or, All, pos, ◌<ℤ◌, ◌≤ℤ◌, Option, Some, None, MatchOption}
+use Rattle.qh_model.proofs.Common.{is_gt, IsFace, HasDistinctPoints, IsIdSet, BodyValue, IsBody, IsDimension, Vector, origin, dot, cross, place, vol, In}
+use Rattle.qh_model.proofs.Common.{Members, IsSupportingTriple, AreFaces, ArePolygons, IsFacePolygon}
+use Rattle.qh_model.specs.headline.Predicates.{left}
+use Rattle.qh_model.proofs.{Members.All-In, Members.All-of, Members.In-get_or, extremes.Directions.from_plane, extremes.Directions.square-positive}
+use Rattle.qh_model.proofs.algebra.{Order.cancel-nonpos, Order.mul-nonneg_nonpos, Order.positive_le, VectorIdentities.in_line-left}
+use Rattle.qh_model.proofs.{algebra.Signs.less_differ, polygons.Edges.seen_from, polygons.PlaneTurns.level_along, polygons.PlaneTurns.level_volume}
 use Rattle.qh_pred.specs.contract.Turns.{IsAcross}
 use Rattle.qh_pred.proofs.Turns.{turn_sign}
 use Rattle.qh_polygon.proofs.polygons.Chain.{is_left-yes}
-use Rattle.qh_check.specs.{contract.Pieces.IsMetRound, contract.Pieces.IsPiece, declared.findings.Finding.Finding}
-use Rattle.qh_check.specs.steps.{HullFaces.IsPieceAmong, HullFaces.TurnsAlike, Faces.IsFaceOf, Findings.IsFound, Findings.IsSeen}
+use Rattle.qh_check.specs.{contract.Pieces.IsMetRound, contract.Pieces.IsPiece, steps.HullFaces.IsPieceAmong, steps.HullFaces.TurnsAlike, steps.Faces.IsFaceOf}
+use Rattle.qh_check.specs.{declared.findings.Finding.Finding, steps.Findings.IsFound, steps.Findings.IsSeen}
 use Rattle.qh_check.proofs.{FirstCorners.HasFace, FirstCorners.corners_at, MetBehind.round_has, Verdicts.faces_of}
 
 module _ (pts : List Vector) (ids : List ℕ) (d : HasDistinctPoints (place pts) (Members ids)) (face q : List ℕ)

@@ -1,16 +1,13 @@
 -- The verdict on polygons of images is that on polygons of the points.
-use Rattle.std.proofs.Common.{ℕ, ◌≡◌, arith, List, [], ◌∷◌, get_or, inl, inr, refl, sym, subst, ◌∙◌}
-use Rattle.std.proofs.lemmas.List.{get_or_default}
-use Rattle.qh_model.specs.{contract.IdSets.AreIndices, contract.IdSets.IsIdSet, headline.Dimension.IsDimension, headline.Predicates.place}
-use Rattle.qh_model.specs.headline.{Sets.In, Sets.Members, Vector.Vector}
+use Rattle.qh_model.proofs.Common.{ℕ, ◌≡◌, arith, List, [], ◌∷◌, get_or, inl, inr, refl, sym, subst, ◌∙◌, get_or_default, AreIndices, IsIdSet, IsDimension}
+use Rattle.qh_model.proofs.Common.{place, In, Members, Vector}
 use Rattle.qh_model.proofs.Members.{In-get_or, in_at, to_contains}
 use Rattle.qh_lattice.specs.contract.LatticeMaps.{IsReduced}
-use Rattle.qh_lattice.proofs.Hulls.{Keeps, back, dimension, face, triple}
-use Rattle.qh_lattice.proofs.SameHulls.{image_keeps, image_set}
-use Rattle.qh_check.specs.contract.{Claims.IsFaceFault, Pieces.BeginsWith, Pieces.IsOfPlane, Pieces.IsPiece}
-use Rattle.qh_check.specs.contract.{Surfaces.IsHullSurface, Surfaces.IsSurfaceReason, Surfaces.IsSurfaceVerdictOf, Naming.AreNamed, Naming.AreNamedFaces}
-use Rattle.qh_check.specs.declared.fault.FaceFault.{FaceFault, TheVariants.NoPlane, TheVariants.Above, TheVariants.OtherFace}
-use Rattle.qh_check.specs.declared.verdict.SurfaceVerdict.{SurfaceVerdict}
+use Rattle.qh_lattice.proofs.{Hulls.Keeps, Hulls.back, Hulls.dimension, Hulls.face, Hulls.triple, SameHulls.image_keeps, SameHulls.image_set}
+use Rattle.qh_check.specs.{contract.Claims.IsFaceFault, contract.Naming.AreNamed, contract.Naming.AreNamedFaces, declared.fault.FaceFault.FaceFault}
+use Rattle.qh_check.specs.{contract.Pieces.BeginsWith, contract.Pieces.IsOfPlane, contract.Pieces.IsPiece, declared.verdict.SurfaceVerdict.SurfaceVerdict}
+use Rattle.qh_check.specs.contract.Surfaces.{IsHullSurface, IsSurfaceReason, IsSurfaceVerdictOf}
+use Rattle.qh_check.specs.declared.fault.FaceFault.TheVariants.{NoPlane, Above, OtherFace}
 use Rattle.qh_check.specs.declared.verdict.SurfaceVerdict.TheVariants.{Right, OtherPolygons, NoPiece, Open, Twice}
 use Rattle.qh_check.specs.steps.Corners.{HaveCornersIn}
 

@@ -1,9 +1,8 @@
 -- The verdict on polygons as the verdict on the faces that they represent.
-use Rattle.std.proofs.Common.{ℕ, List}
-use Rattle.qh_model.specs.{contract.IdSets.IsIdSet, headline.DistinctIds.AreDistinctIds, headline.Vector.Vector}
+use Rattle.qh_model.proofs.Common.{ℕ, List, IsIdSet, AreDistinctIds, Vector}
 use Rattle.qh_plane.proofs.DistinctLists.{id_set}
-use Rattle.qh_check.specs.contract.{Surfaces.IsSurfaceVerdictOf, Judging.IsTold, Naming.AreNamedFaces}
-use Rattle.qh_check.specs.declared.verdict.SurfaceVerdict.{SurfaceVerdict}
+use Rattle.qh_check.specs.{contract.Surfaces.IsSurfaceVerdictOf, contract.Naming.AreNamedFaces, declared.verdict.SurfaceVerdict.SurfaceVerdict}
+use Rattle.qh_check.specs.contract.Judging.{IsTold}
 
 -- distinct ids are ids of distinct points, so the verdict on the polygons is the verdict on the faces
 pub told : (pts named : List Vector) (faces : List (List ℕ)) (ids : List ℕ) (polygons : List (List ℕ)) (v : SurfaceVerdict)

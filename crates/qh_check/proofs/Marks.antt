@@ -1,8 +1,6 @@
 -- Marks of ids and of corners.
-use Rattle.std.proofs.Common.{◌≡◌, ◌≢◌, ℕ, ◌+◌, ◌<◌, ◌⊎◌, arith, sym, ap, subst, ◌∙◌, inl, inr, Bool, true, false, List, [], ◌∷◌, get_or, length, take}
-use Rattle.std.proofs.{Math.ListN.set, lemmas.Bool.cases_Bool, lemmas.Bool.cases_lt, lemmas.List.get_or-set_other}
-use Rattle.std.specs.Prelude.{filter, not}
-use Rattle.qh_model.specs.{contract.ClosedSurface.Triple, headline.Sets.In, laws.ClosedSurfaceLaws.IsCornerOf}
+use Rattle.qh_model.proofs.Common.{◌≡◌, ◌≢◌, ℕ, ◌+◌, ◌<◌, ◌⊎◌, arith, sym, ap, subst, ◌∙◌, inl, inr, Bool, true, false, List, [], ◌∷◌, get_or, length, take}
+use Rattle.qh_model.proofs.Common.{set, cases_Bool, cases_lt, get_or-set_other, filter, not, Triple, In, IsCornerOf}
 use Rattle.qh_model.proofs.{Members.each_of_three, lists.Filters.in_filter}
 use Rattle.qh_check.specs.steps.CornerMarks.{IsMarked, is_unmarked}
 use Rattle.qh_check.proofs.Prefixes.{each_more, in_more, last_more}

@@ -1,7 +1,6 @@
 -- Lists that are met along others: from one id to the next, and to the end.
-use Rattle.std.proofs.Common.{ℕ, ◌≡◌, ◌≢◌, ◌+◌, ◌<◌, ◌≤◌, arith, sym, subst, inl, inr, List, [], ◌∷◌, ◌++◌, length, get_or, drop}
-use Rattle.std.proofs.lemmas.{Bool.cases_lt, List.append-nil, List.drop_more, List.drop_all}
-use Rattle.std.specs.Prelude.{◌↔◌}
+use Rattle.qh_model.proofs.Common.{ℕ, ◌≡◌, ◌≢◌, ◌+◌, ◌<◌, ◌≤◌, arith, sym, subst, inl, inr, List, [], ◌∷◌, ◌++◌, length, get_or, drop, cases_lt, append-nil}
+use Rattle.qh_model.proofs.Common.{drop_more, drop_all, ◌↔◌}
 use Rattle.qh_check.specs.contract.Pieces.{IsMetAlong}
 
 -- a list without its first member is met if the list is met

@@ -1,6 +1,5 @@
 -- Faces whose corners are distinct ids name themselves.
-use Rattle.std.proofs.Common.{ℕ, ◌<◌, arith, All, List, [], get_or, length, refl, subst}
-use Rattle.qh_model.specs.headline.{Vector.Vector, Sets.In}
+use Rattle.qh_model.proofs.Common.{ℕ, ◌<◌, arith, All, List, [], get_or, length, refl, subst, Vector, In}
 use Rattle.qh_model.proofs.Members.{All-In, In-get_or}
 use Rattle.qh_check.specs.contract.Naming.{AreNamed, AreNamedFaces, IsNamed}
 use Rattle.qh_check.specs.steps.OwnIndices.{AreAllIndices, AreSamePoints}

@@ -1,7 +1,5 @@
 -- Members of the first elements of a list, with one more element.
-use Rattle.std.proofs.Common.{◌≡◌, ℕ, ◌+◌, ◌<◌, ◌⊎◌, List, [], ◌∷◌, get_or, length, take, refl, sym, subst, ◌∙◌, inl, inr}
-use Rattle.std.proofs.lemmas.List.{take_more}
-use Rattle.qh_model.specs.headline.Sets.{In}
+use Rattle.qh_model.proofs.Common.{◌≡◌, ℕ, ◌+◌, ◌<◌, ◌⊎◌, List, [], ◌∷◌, get_or, length, take, refl, sym, subst, ◌∙◌, inl, inr, take_more, In}
 use Rattle.qh_model.proofs.lists.Joined.{in_append, of_append}
 
 -- a member is one of the previous elements, or the last

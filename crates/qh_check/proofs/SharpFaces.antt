@@ -1,17 +1,14 @@
 -- The results of the tests of each edge and each hidden id show that the triangles are all faces of a solid.
-use Rattle.std.proofs.Common.{◌≡◌, ◌≢◌, ℕ, ◌<◌, ◌≤◌, ◌⊎◌, arith, List, [], ◌∷◌, get_or, length, map, refl, sym, ap, subst, ◌∙◌, inl, inr}
-use Rattle.std.proofs.{lemmas.Bool.cases_lt, lemmas.List.Sums.count_by-le-length}
-use Rattle.std.specs.Prelude.{pos, count_by, ◌≤ℤ◌, ◌<ℤ◌}
-use Rattle.qh_model.specs.headline.{Vector.Vector, Predicates.vol, Sets.In, Sets.Members, Dimension.IsDimension}
-use Rattle.qh_model.specs.contract.{ClosedSurface.Triple, ClosedSurface.IsClosed, ClosedSurface.is_edge, IdSets.HasDistinctPoints}
-use Rattle.qh_model.specs.laws.ClosedSurfaceLaws.{IsCornerOf}
+use Rattle.qh_model.proofs.Common.{◌≡◌, ◌≢◌, ℕ, ◌<◌, ◌≤◌, ◌⊎◌, arith, List, [], ◌∷◌, get_or, length, map, refl, sym, ap, subst, ◌∙◌, inl, inr, cases_lt, pos}
+use Rattle.qh_model.proofs.Common.{count_by, ◌≤ℤ◌, ◌<ℤ◌, Vector, vol, In, Members, IsDimension, Triple, IsClosed, is_edge, HasDistinctPoints, IsCornerOf}
+use Rattle.std.proofs.lemmas.List.Sums.{count_by-le-length}
 use Rattle.qh_model.proofs.{Members.In-get_or, algebra.Signs.less_differ, lists.Images.in_map, lists.Images.of_map}
 use Rattle.qh_laws.specs.contract.LocallyConvex.{is_met, IsRound, IsSharpAround, IsLocallyConvex, IsUnder, HasAllUnder}
 use Rattle.qh_laws.proofs.{Convex.local_supports, TriangleFaces.sharp_is_face, Highest.vol-turn}
-use Rattle.qh_check.specs.contract.SharpSurface.{IsTriangleFace, IsSharpSurface}
-use Rattle.qh_check.specs.steps.{Hidden.IsUnderOne, Hidden.IsUnderStep, Sharp.AreSharp, StepKeys.step_in, Triangles.corners}
-use Rattle.qh_check.proofs.{SharpTriangles.ends_differ, SharpTriangles.sharp_around, StepCounts.edges_are, StepCounts.steps_are, StepCounts.closes}
-use Rattle.qh_check.proofs.{StepCounts.once, StepLists.of_turns, StepLists.of_ups}
+use Rattle.qh_check.specs.{contract.SharpSurface.IsTriangleFace, contract.SharpSurface.IsSharpSurface, steps.Hidden.IsUnderOne, steps.Hidden.IsUnderStep}
+use Rattle.qh_check.specs.steps.{Sharp.AreSharp, StepKeys.step_in, Triangles.corners}
+use Rattle.qh_check.proofs.SharpTriangles.{ends_differ, sharp_around}
+use Rattle.qh_check.proofs.{StepCounts.edges_are, StepCounts.steps_are, StepCounts.closes, StepCounts.once, StepLists.of_turns, StepLists.of_ups}
 
 -- a triangle with three corners, beginning with the least
 least_first : (t : Triple) → t.i ≢ t.j → t.j ≢ t.k → t.k ≢ t.i → (u v w : ℕ) × IsRound t u v w × (u < v) × (u < w)

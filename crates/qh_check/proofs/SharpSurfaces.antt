@@ -1,6 +1,5 @@
 -- A sharp surface is the surface of the hull: each triangle goes round all corners of a face.
-use Rattle.std.proofs.Common.{ℕ, List, [], ◌∷◌, arith, refl, sym, subst, inl, inr}
-use Rattle.qh_model.specs.{contract.ClosedSurface.Triple, headline.Vector.Vector, headline.Predicates.place, headline.Sets.Members}
+use Rattle.qh_model.proofs.Common.{ℕ, List, [], ◌∷◌, arith, refl, sym, subst, inl, inr, Triple, Vector, place, Members}
 use Rattle.qh_laws.specs.contract.LocallyConvex.{IsRound}
 use Rattle.qh_check.specs.contract.{SharpSurface.IsSharpSurface, SharpSurface.IsTriangleFace, Pieces.IsMetRound, Pieces.IsPiece}
 use Rattle.qh_check.specs.{contract.Surfaces.IsHullSurface, contract.Surfaces.IsSurfaceVerdictOf, declared.verdict.SurfaceVerdict.TheVariants.Right}

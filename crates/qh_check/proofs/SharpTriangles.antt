@@ -1,8 +1,6 @@
 -- Triangles whose steps pair off with an angle at each edge: the neighbours of each.
-use Rattle.std.proofs.Common.{◌≡◌, ◌≢◌, ℕ, ◌<◌, arith, List, get_or, length, refl, sym, ap, subst, ◌∙◌, inl, inr}
-use Rattle.std.proofs.lemmas.{Bool.cases_lt, Bool.Decides.nat_tests, Int.ints}
-use Rattle.std.specs.{Prelude.pos, Prelude.◌<ℤ◌, List.flat_map}
-use Rattle.qh_model.specs.{headline.Vector.Vector, headline.Predicates.vol, headline.Sets.In, contract.ClosedSurface.Triple}
+use Rattle.qh_model.proofs.Common.{◌≡◌, ◌≢◌, ℕ, ◌<◌, arith, List, get_or, length, refl, sym, ap, subst, ◌∙◌, inl, inr, cases_lt, nat_tests, ints, pos, ◌<ℤ◌}
+use Rattle.qh_model.proofs.Common.{flat_map, Vector, vol, In, Triple}
 use Rattle.qh_model.proofs.{Members.In-get_or, lists.Images.in_map, lists.Joined.in_flat_map}
 use Rattle.qh_model.proofs.algebra.{Signs.equal_negative, Signs.less_le, VectorIdentities.vol-flip, VectorIdentities.vol-third_last}
 use Rattle.qh_laws.specs.contract.LocallyConvex.{IsRound, HasLowNeighbour, IsSharpAround}

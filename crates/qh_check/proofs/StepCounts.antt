@@ -1,14 +1,11 @@
 -- Steps along edges pair off, and each is taken once.
-use Rattle.std.proofs.Common.{◌≡◌, ℕ, suc, ◌+◌, ◌*◌, ◌/◌, ◌%◌, ◌<◌, ◌≤◌, arith, refl, sym, ap, subst, ◌∙◌, inl, inr, Bool, true, false, cond, List, [], ◌∷◌}
-use Rattle.std.proofs.{Common.get_or, Common.length, Common.map, lemmas.Bool.cases_lt, lemmas.Bool.Decides.nat_tests, lemmas.List.Sorted.sum_by-IsPermutation}
-use Rattle.std.specs.{Prelude.count_by, Prelude.filter, Prelude.nat_lt, List.flat_map}
-use Rattle.qh_model.specs.contract.{ClosedSurface.Triple, ClosedSurface.edges, ClosedSurface.is_edge, ClosedPolygons.steps_round}
-use Rattle.qh_model.specs.headline.Vector.{Vector}
-use Rattle.qh_model.proofs.closed_surfaces.{SignedVolume.edge_tests, SignedVolume.is_edge-back, Sums.count, Sums.count-is, Sums.count_kept}
-use Rattle.qh_model.proofs.lists.Counts.{count-map}
-use Rattle.qh_check.specs.declared.convex.steps.TheConstants.{ROOM}
+use Rattle.qh_model.proofs.Common.{◌≡◌, ℕ, suc, ◌+◌, ◌*◌, ◌/◌, ◌%◌, ◌<◌, ◌≤◌, arith, refl, sym, ap, subst, ◌∙◌, inl, inr, Bool, true, false, cond, List, []}
+use Rattle.qh_model.proofs.Common.{◌∷◌, get_or, length, map, cases_lt, nat_tests, sum_by-IsPermutation, count_by, filter, nat_lt, flat_map, Triple, edges}
+use Rattle.qh_model.proofs.Common.{is_edge, steps_round, Vector}
+use Rattle.qh_model.proofs.closed_surfaces.SignedVolume.{edge_tests, is_edge-back}
+use Rattle.qh_model.proofs.{closed_surfaces.Sums.count, closed_surfaces.Sums.count-is, closed_surfaces.Sums.count_kept, lists.Counts.count-map}
+use Rattle.qh_check.specs.{declared.convex.steps.TheConstants.ROOM, steps.Triangles.corners}
 use Rattle.qh_check.specs.steps.StepKeys.{step_in, turns, goes_up, goes_down, back, AreSteps, AreSharpPairs, EdgesRise}
-use Rattle.qh_check.specs.steps.Triangles.{corners}
 
 -- the ends of a step
 abbrev pub ends : Triple → ℕ × ℕ

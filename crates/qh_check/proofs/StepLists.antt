@@ -1,10 +1,8 @@
 -- The steps round triangles in two lists: the steps in the lists, and the triangles to which they belong.
-use Rattle.std.proofs.Common.{◌≡◌, ℕ, suc, ◌<◌, arith, true, List, [], ◌∷◌, get_or, length, map, All, sym, ap, subst, inl, inr}
-use Rattle.std.proofs.lemmas.List.Sorted.{IsPermutation-sym}
-use Rattle.std.specs.{Prelude.filter, List.flat_map}
-use Rattle.qh_model.specs.{headline.Sets.In, contract.ClosedSurface.Triple}
-use Rattle.qh_model.proofs.Members.{All-In, All-of, in_permutation}
-use Rattle.qh_model.proofs.lists.{Filters.in_filter, Filters.of_filter, Images.in_map, Images.of_map, Joined.of_flat_map}
+use Rattle.qh_model.proofs.Common.{◌≡◌, ℕ, suc, ◌<◌, arith, true, List, [], ◌∷◌, get_or, length, map, All, sym, ap, subst, inl, inr, IsPermutation-sym, filter}
+use Rattle.qh_model.proofs.Common.{flat_map, In, Triple}
+use Rattle.qh_model.proofs.{Members.All-In, Members.All-of, Members.in_permutation, lists.Filters.in_filter, lists.Filters.of_filter, lists.Joined.of_flat_map}
+use Rattle.qh_model.proofs.lists.Images.{in_map, of_map}
 use Rattle.qh_laws.specs.contract.LocallyConvex.{IsRound}
 use Rattle.qh_check.specs.steps.{StepKeys.step_in, StepKeys.turns, StepKeys.goes_up, StepKeys.goes_down, StepKeys.back, StepKeys.AreSteps, Triangles.IsBelow}
 

@@ -1,11 +1,9 @@
 -- Verdicts on surfaces: polygons with a fault are no surface, and polygons without a fault are one.
-use Rattle.std.proofs.Common.{ℕ, ◌≢◌, ◌<◌, ◌≤◌, arith, refl, inl, inr, List, [], length, get_or, All}
-use Rattle.qh_model.specs.{contract.ClosedPolygons.AreClosed, contract.ClosedPolygons.step_count, contract.IdSets.IsIdSet, headline.Vector.Vector}
-use Rattle.qh_model.specs.headline.{Predicates.place, Sets.Members, Dimension.IsDimension}
+use Rattle.qh_model.proofs.Common.{ℕ, ◌≢◌, ◌<◌, ◌≤◌, arith, refl, inl, inr, List, [], length, get_or, All, AreClosed, step_count, IsIdSet, Vector, place}
+use Rattle.qh_model.proofs.Common.{Members, IsDimension}
 use Rattle.qh_model.proofs.Members.{All-In, In-get_or}
-use Rattle.qh_check.specs.contract.Claims.{ArePolygonsOf}
+use Rattle.qh_check.specs.{contract.Claims.ArePolygonsOf, declared.findings.Finding.Finding, declared.verdict.SurfaceVerdict.SurfaceVerdict}
 use Rattle.qh_check.specs.contract.Surfaces.{IsFaceSurface, IsHullSurface, IsSurfaceReason, IsSurfaceVerdictOf}
-use Rattle.qh_check.specs.declared.{findings.Finding.Finding, verdict.SurfaceVerdict.SurfaceVerdict}
 use Rattle.qh_check.specs.declared.verdict.SurfaceVerdict.TheVariants.{Right, OtherPolygons, NoPiece, Open, Twice}
 use Rattle.qh_check.specs.steps.{Faces.IsFaceOf, Findings.IsFound}
 use Rattle.qh_bodies.specs.contract.OpenSteps.{IsOpen}

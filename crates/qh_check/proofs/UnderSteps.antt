@@ -1,7 +1,5 @@
 -- Points under the triangle of a step.
-use Rattle.std.proofs.{Common.◌≡◌, Common.ℕ, Common.Bool, Common.arith, Common.false, Common.true, Common.sym, lemmas.Int.ints}
-use Rattle.std.specs.Prelude.{ℤ, pos, not, ◌<ℤ◌, ◌≤ℤ◌}
-use Rattle.qh_model.specs.{headline.Vector.Vector, headline.Predicates.vol, contract.ClosedSurface.Triple}
+use Rattle.qh_model.proofs.Common.{◌≡◌, ℕ, Bool, arith, false, true, sym, ints, ℤ, pos, not, ◌<ℤ◌, ◌≤ℤ◌, Vector, vol, Triple}
 use Rattle.qh_model.proofs.algebra.Signs.{at_most_zero}
 use Rattle.qh_check.specs.steps.Hidden.{IsUnderStep}
 

@@ -1,8 +1,6 @@
 -- The polygons of a set and those of its hull.
-use Rattle.std.proofs.Common.{ℕ, ◌≡◌, ◌≢◌, arith, refl, subst, inl, inr, List}
-use Rattle.std.specs.Prelude.{◌↔◌, Bool, true, false, IsTrue}
-use Rattle.qh_model.specs.{contract.IdSets.IsIdSet, headline.Vector.Vector, headline.Predicates.place, headline.Sets.Members, headline.Dimension.IsDimension}
-use Rattle.qh_model.specs.headline.{Hull.BodyValue, Hull.IsBody, Polygons.ArePolygons, Polygons.AreFaces}
+use Rattle.qh_model.proofs.Common.{ℕ, ◌≡◌, ◌≢◌, arith, refl, subst, inl, inr, List, ◌↔◌, Bool, true, false, IsTrue, IsIdSet, Vector, place, Members}
+use Rattle.qh_model.proofs.Common.{IsDimension, BodyValue, IsBody, ArePolygons, AreFaces}
 use Rattle.qh_model.proofs.{extremes.Dimensions.one_dimension, hulls.Unique.one_polygon_list}
 use Rattle.qh_check.specs.contract.Claims.{ArePolygonsOf}
 

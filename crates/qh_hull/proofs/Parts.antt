@@ -1,12 +1,8 @@
 -- Parts of a set that contain all its extreme ids, collected block after block.
-use Rattle.std.proofs.Common.{ℕ, ◌≡◌, ◌∙◌, ◌⊎◌, inl, inr, List, ◌++◌, take, drop, subst, sym, ap}
-use Rattle.std.proofs.lemmas.List.{take-append-drop}
-use Rattle.std.specs.Prelude.{◌↔◌}
-use Rattle.qh_model.specs.{contract.IdSets.AreIndices, contract.IdSets.IsIdSet, headline.Vector.Vector, headline.Predicates.place}
-use Rattle.qh_model.specs.headline.{Sets.In, Sets.Members, Extreme.Extreme, Extreme.Others, Hull.AreExtremes}
-use Rattle.qh_model.specs.laws.HullLaws.{HasExtremes}
-use Rattle.qh_model.proofs.{extremes.ExtremeIds.combination_within, hulls.ExtremeParts.part_indices, lists.Joined.in_append, lists.Joined.of_append}
-use Rattle.qh_model.proofs.lists.Rising.{rising_back, rising_front}
+use Rattle.qh_model.proofs.Common.{ℕ, ◌≡◌, ◌∙◌, ◌⊎◌, inl, inr, List, ◌++◌, take, drop, subst, sym, ap, take-append-drop, ◌↔◌, AreIndices, IsIdSet, Vector}
+use Rattle.qh_model.proofs.Common.{place, In, Members, Extreme, Others, AreExtremes, HasExtremes}
+use Rattle.qh_model.proofs.{extremes.ExtremeIds.combination_within, hulls.ExtremeParts.part_indices}
+use Rattle.qh_model.proofs.lists.{Joined.in_append, Joined.of_append, Rising.rising_back, Rising.rising_front}
 use Rattle.qh_hull.specs.steps.Parts.{HasExtremesBefore}
 
 -- ---- block after block

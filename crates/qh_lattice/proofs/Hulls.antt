@@ -1,13 +1,9 @@
 -- Hulls of mapped points.
-use Rattle.std.proofs.Common.{◌≡◌, ◌≢◌, ℕ, inl, inr, List, refl, subst, sym}
-use Rattle.std.specs.Prelude.{ℤ, pos, ◌<ℤ◌, ◌↔◌}
-use Rattle.qh_model.specs.headline.{Combination.Combination, Dimension.HasTetrahedron, Dimension.HasTriangle, Dimension.IsDimension}
-use Rattle.qh_model.specs.headline.{Extreme.Extreme, Extreme.Others, Hull.BodyValue, Hull.IsBody}
-use Rattle.qh_model.specs.headline.{Polygons.IsFacePolygon, Polygons.AreFaces, Polygons.IsSegmentFace, Polygons.ArePolygons}
-use Rattle.qh_model.specs.headline.{Sets.Members, SupportingPlane.IsSupportingTriple}
-use Rattle.qh_model.specs.headline.{Predicates.cross, Predicates.vol, Predicates.left, Predicates.AreInLine, Vector.Vector, Vector.origin}
-use Rattle.qh_model.proofs.algebra.Signs.{at_most_zero, not_less}
-use Rattle.qh_model.proofs.combinations.OtherNames.{combination_by_names}
+use Rattle.qh_model.proofs.Common.{◌≡◌, ◌≢◌, ℕ, inl, inr, List, refl, subst, sym, ℤ, pos, ◌<ℤ◌, ◌↔◌, Combination, HasTetrahedron, HasTriangle, IsDimension}
+use Rattle.qh_model.proofs.Common.{Extreme, Others, BodyValue, IsBody, IsFacePolygon, AreFaces, IsSegmentFace, ArePolygons, Members, IsSupportingTriple, cross}
+use Rattle.qh_model.proofs.Common.{vol, AreInLine, Vector, origin}
+use Rattle.qh_model.specs.headline.Predicates.{left}
+use Rattle.qh_model.proofs.{algebra.Signs.at_most_zero, algebra.Signs.not_less, combinations.OtherNames.combination_by_names}
 use Rattle.qh_model.proofs.polygons.Neighbours.{follows_members}
 use Rattle.qh_lattice.specs.contract.LatticeMaps.{Matrix, determinant, moved}
 use Rattle.qh_lattice.specs.laws.MapLaws.{SameSign, at_moved, MovedDimension, MovedFaces, MovedBody}

@@ -1,7 +1,5 @@
 -- Identities of mapped points.
-use Rattle.std.proofs.Common.{◌≡◌, ◌∙◌, refl, [], ◌∷◌, List}
-use Rattle.std.specs.Prelude.{ℤ, pos, ◌+ℤ◌, ◌*ℤ◌, ◌-ℤ◌}
-use Rattle.qh_model.specs.headline.{Predicates.cross, Predicates.vol, Vector.Vector, Vector.origin, Vector.minus, Vector.dot, Vector.cross_product}
+use Rattle.qh_model.proofs.Common.{◌≡◌, ◌∙◌, refl, [], ◌∷◌, List, ℤ, pos, ◌+ℤ◌, ◌*ℤ◌, ◌-ℤ◌, cross, vol, Vector, origin, minus, dot, cross_product}
 use Rattle.qh_model.proofs.algebra.Ring.{Expr, ring, Expr.var, Expr.add, Expr.sub as less, Expr.mul}
 use Rattle.qh_model.proofs.algebra.VectorIdentities.{vec, put, dotE, crossE, subE, VE, vector_path, opposite, oppositeE, dot_comm, dot-origin}
 use Rattle.qh_model.proofs.closed_surfaces.Beyond.{scaled, scaledE}

@@ -1,21 +1,15 @@
 -- Rows of a map as rows of its matrix.
-use Rattle.std.proofs.Common.{ℕ, ◌≡◌, ◌∙◌, ◌<◌, ◌≤◌, ◌+◌, ◌*◌, ◌^◌, refl, subst, sym, ap, arith, below_more, FitsSigned, true, List, [], ◌∷◌, ◌++◌, get_or}
-use Rattle.std.proofs.{Common.length, Math.Seq.get_or-append_seam, lemmas.List.get_or_append_left, lemmas.List.get_or_default}
-use Rattle.std.proofs.lemmas.Int.{to_z-of_z, ints, fits_signed_from_abs}
-use Rattle.std.specs.Prelude.{ℤ, pos, ◌+ℤ◌, ◌-ℤ◌, ◌*ℤ◌, ◌<ℤ◌, unsigned_abs}
-use Rattle.qh_model.specs.{declared.limits.TheConstants.COORDINATE_LIMIT, headline.Limits.IsCoordinate}
-use Rattle.qh_model.specs.headline.{Predicates.cross, Predicates.vol, Predicates.place, Vector.Vector, Vector.origin, Vector.dot}
-use Rattle.qh_model.proofs.algebra.Order.{mul-pos}
-use Rattle.qh_model.proofs.algebra.Ring.{ring, Expr.var, Expr.con, Expr.add, Expr.sub as less, Expr.mul}
+use Rattle.qh_model.proofs.Common.{ℕ, ◌≡◌, ◌∙◌, ◌<◌, ◌≤◌, ◌+◌, ◌*◌, ◌^◌, refl, subst, sym, ap, arith, below_more, FitsSigned, true, List, [], ◌∷◌, ◌++◌, get_or}
+use Rattle.qh_model.proofs.Common.{length, get_or-append_seam, get_or_append_left, get_or_default, to_z-of_z, ints, fits_signed_from_abs, ℤ, pos, ◌+ℤ◌, ◌-ℤ◌}
+use Rattle.qh_model.proofs.Common.{◌*ℤ◌, ◌<ℤ◌, unsigned_abs, IsCoordinate, cross, vol, place, Vector, origin, dot, lt_z, mag, w32, w128, w64, to_z, of_z}
+use Rattle.qh_model.specs.declared.limits.TheConstants.{COORDINATE_LIMIT}
+use Rattle.qh_model.proofs.{algebra.Order.mul-pos, closed_surfaces.Beyond.scaledE}
 use Rattle.qh_model.proofs.algebra.VectorIdentities.{vec, put, dotE, crossE, subE, VE, vector_path}
-use Rattle.qh_model.proofs.closed_surfaces.Beyond.{scaledE}
+use Rattle.qh_model.proofs.algebra.Ring.{ring, Expr.var, Expr.con, Expr.add, Expr.sub as less, Expr.mul}
 use Rattle.qh_pred.proofs.Coordinates.{read_is}
-use Rattle.qh_lattice.specs.contract.LatticeMaps.{Matrix, determinant, moved}
-use Rattle.qh_lattice.specs.declared.row.Row.{Row}
+use Rattle.qh_lattice.specs.{contract.LatticeMaps.Matrix, contract.LatticeMaps.determinant, contract.LatticeMaps.moved, declared.row.Row.Row}
 use Rattle.qh_lattice.specs.declared.row.TheConstants.{PRODUCT_LIMIT, CENTRE_LIMIT}
 use Rattle.qh_lattice.specs.steps.Rows.{along_row, matrix_of, shift_of, times}
-use lib.Signed.{lt_z, mag}
-use mir.{Syntax.w32, Syntax.w128, Syntax.w64, Val.to_z, Val.of_z}
 use Rattle.qh_lattice.proofs.Sums.{through}
 
 -- the product of two coordinates that were read

@@ -1,10 +1,8 @@
 -- The points of a solid and their images have the same ids and the same hulls.
-use Rattle.std.proofs.Common.{◌≡◌, ◌≢◌, ℕ, ◌<◌, List, All, length, sym, ap, subst, ◌∙◌, arith}
-use Rattle.qh_model.specs.headline.{DistinctIds.AreDistinctIds, DistinctIds.IsDistinctId}
-use Rattle.qh_model.specs.headline.{Hull.BodyValue, Hull.HullValue, Hull.IsBody, Hull.IsHull, Predicates.place, Sets.In, Sets.Members, Vector.Vector}
-use Rattle.qh_model.specs.contract.IdSets.{AreIndices, HasDistinctPoints, IsIdSet}
-use Rattle.qh_model.proofs.{DistinctIds.distinct_apart, DistinctIds.ids_within, Members.All-In, extremes.Dimensions.one_dimension}
-use Rattle.qh_model.proofs.hulls.Unique.{distinct_ids_are_unique}
+use Rattle.qh_model.proofs.Common.{◌≡◌, ◌≢◌, ℕ, ◌<◌, List, All, length, sym, ap, subst, ◌∙◌, arith, AreDistinctIds, IsDistinctId, BodyValue, HullValue, IsBody}
+use Rattle.qh_model.proofs.Common.{IsHull, place, In, Members, Vector, AreIndices, HasDistinctPoints, IsIdSet}
+use Rattle.qh_model.proofs.{DistinctIds.distinct_apart, DistinctIds.ids_within, extremes.Dimensions.one_dimension, hulls.Unique.distinct_ids_are_unique}
+use Rattle.qh_model.proofs.Members.{All-In}
 use Rattle.qh_lattice.specs.contract.LatticeMaps.{IsMapped, IsReduced, determinant, moved}
 use Rattle.qh_lattice.proofs.{Images.moved_apart, Images.positive_nonzero, Hulls.Keeps, Hulls.back, Hulls.body, Hulls.dimension, Hulls.keeps}
 

@@ -1,8 +1,6 @@
 -- Sums and differences of numbers of 64 bits that do not overflow.
-use Rattle.std.proofs.Common.{◌≡◌, ℕ, ◌*◌, ◌^◌, ◌≤◌, ◌<◌, arith, FitsSigned}
-use Rattle.std.proofs.lemmas.Int.{to_z-of_z, ints, fits_signed_from_abs}
-use Rattle.std.specs.Prelude.{ℤ, ◌+ℤ◌, ◌-ℤ◌, unsigned_abs}
-use mir.{Syntax.w64, Val.to_z, Val.of_z}
+use Rattle.qh_model.proofs.Common.{◌≡◌, ℕ, ◌*◌, ◌^◌, ◌≤◌, ◌<◌, arith, FitsSigned, to_z-of_z, ints, fits_signed_from_abs, ℤ, ◌+ℤ◌, ◌-ℤ◌, unsigned_abs, w64, to_z}
+use Rattle.qh_model.proofs.Common.{of_z}
 
 -- a number that was converted to 64 bits and back
 abbrev pub through : ℤ → ℤ

@@ -1,12 +1,9 @@
 -- The result for a part: those of its ids that are the lowest of their points and are extreme.
-use Rattle.std.proofs.Common.{◌≡◌, ◌≢◌, ℕ, ◌<◌, List, length, get_or, map, arith, sym, subst, ◌∙◌}
-use Rattle.std.proofs.lemmas.List.{length-map, get_or-map}
-use Rattle.std.specs.List.Sorted.{IsStrictlyIncreasing}
-use Rattle.qh_model.specs.headline.{DistinctIds.AreDistinctIds, Extreme.Extreme, Hull.AreExtremes, Predicates.place, Sets.In, Sets.Members, Text.vertex_number}
-use Rattle.qh_model.specs.headline.Vector.{Vector, origin}
-use Rattle.qh_model.proofs.{Members.In-get_or, Members.rising_once, lists.Images.in_map, lists.Images.of_map, lists.Rising.rising_between}
-use Rattle.qh_model.proofs.renamed.{Lists.rising_map, Positions.at_number, Positions.number_at, Positions.by_position, Positions.points_of, Positions.point_at}
-use Rattle.qh_model.proofs.renamed.Renaming.{IsRenaming, renaming_back, extreme_renamed}
+use Rattle.qh_model.proofs.Common.{◌≡◌, ◌≢◌, ℕ, ◌<◌, List, length, get_or, map, arith, sym, subst, ◌∙◌, length-map, get_or-map, IsStrictlyIncreasing}
+use Rattle.qh_model.proofs.Common.{AreDistinctIds, Extreme, AreExtremes, place, In, Members, vertex_number, Vector, origin}
+use Rattle.qh_model.proofs.{Members.In-get_or, Members.rising_once, lists.Images.in_map, lists.Images.of_map, renamed.Lists.rising_map}
+use Rattle.qh_model.proofs.{lists.Rising.rising_between, renamed.Renaming.IsRenaming, renamed.Renaming.renaming_back, renamed.Renaming.extreme_renamed}
+use Rattle.qh_model.proofs.renamed.Positions.{at_number, number_at, by_position, points_of, point_at}
 use Rattle.qh_laws.specs.laws.TreeLaws.{IsAnswer}
 
 -- the id is the lowest id of its point among the ids

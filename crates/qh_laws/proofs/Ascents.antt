@@ -1,8 +1,7 @@
 -- A walk in a finite list on which a fraction grows at each step ends.
-use Rattle.std.proofs.Common.{◌≡◌, ℕ, zero, suc, ◌+◌, ◌<◌, ◌≤◌, refl, sym, ap, ◌∙◌, arith, List, [], ◌∷◌, Bool, true, false, cond, ◌&&◌, ◌⊎◌, inl, inr}
-use Rattle.std.proofs.lemmas.{Bool.and_from, Bool.and_parts, Bool.and_right, Int.ints, Int.by_lt_z}
-use Rattle.std.specs.Prelude.{ℤ, pos, ◌*ℤ◌, ◌<ℤ◌, int_lt}
-use Rattle.qh_model.specs.headline.Sets.{In}
+use Rattle.qh_model.proofs.Common.{◌≡◌, ℕ, zero, suc, ◌+◌, ◌<◌, ◌≤◌, refl, sym, ap, ◌∙◌, arith, List, [], ◌∷◌, Bool, true, false, cond, ◌&&◌, ◌⊎◌, inl, inr}
+use Rattle.qh_model.proofs.Common.{and_from, and_parts, ints, by_lt_z, ℤ, pos, ◌*ℤ◌, ◌<ℤ◌, int_lt, In}
+use Rattle.std.proofs.lemmas.Bool.{and_right}
 use Rattle.qh_model.proofs.{algebra.Signs.less_le, algebra.Signs.not_less, closed_surfaces.Sums.count}
 use Rattle.qh_laws.proofs.{Greatest.ratio-trans, Signs.above, Signs.above_is, Signs.is_above}
 

@@ -1,19 +1,15 @@
 -- A point between a facet and an inner place is above no facet, and a point above no facet is a convex combination.
-use Rattle.std.proofs.Common.{◌≡◌, ℕ, arith, refl, sym, ◌∙◌, inl, inr, ⊎_elim}
-use Rattle.std.proofs.lemmas.Int.{ints}
-use Rattle.std.specs.Prelude.{ℤ, pos, ◌+ℤ◌, ◌≤ℤ◌, ◌<ℤ◌}
-use Rattle.qh_model.specs.contract.{FinishedSurface.weighted_at, FinishedSurface.middle_at, Surface.start, Surface.end, Surface.IsCorner, Surface.rise}
-use Rattle.qh_model.specs.contract.Surface.Side.{first, second, third}
-use Rattle.qh_model.specs.contract.Weighted.{Weighted, weighted, weighted_dot, plane_of, above}
-use Rattle.qh_model.specs.{headline.Sets.In, headline.Sets.Members}
-use Rattle.qh_model.proofs.algebra.Order.{mul-neg_pos, mul-nonpos, negative_le}
+use Rattle.qh_model.proofs.Common.{◌≡◌, ℕ, arith, refl, sym, ◌∙◌, inl, inr, ⊎_elim, ints, ℤ, pos, ◌+ℤ◌, ◌≤ℤ◌, ◌<ℤ◌, weighted_at, middle_at, end, IsCorner, rise}
+use Rattle.qh_model.proofs.Common.{first, second, third, Weighted, weighted, weighted_dot, plane_of, above, In, Members}
+use Rattle.qh_model.specs.contract.Surface.{start}
+use Rattle.qh_model.proofs.{algebra.Order.mul-neg_pos, algebra.Order.mul-nonpos, algebra.Order.negative_le, surfaces.Simplex.middle_is_below}
 use Rattle.qh_model.proofs.algebra.Signs.{at_most_zero, less_differ, equal_nonpos, equal_negative, equal_positive}
-use Rattle.qh_model.proofs.extremes.{ExtremeIds.listed_itself, ExtremeIds.alternative_in, Faces.face_combination}
-use Rattle.qh_model.proofs.surfaces.{CramersRule.cramer, Determinants.above-together, Determinants.above-turn, Facets.plane-is, Finished.none_beyond}
-use Rattle.qh_model.proofs.surfaces.{Finished.unseen_above, Simplex.middle_is_below, SurfaceLaws.rise_is_vol}
+use Rattle.qh_model.proofs.{extremes.ExtremeIds.listed_itself, extremes.ExtremeIds.alternative_in, extremes.Faces.face_combination, surfaces.CramersRule.cramer}
+use Rattle.qh_model.proofs.surfaces.{Determinants.above-together, Determinants.above-turn, Facets.plane-is, SurfaceLaws.rise_is_vol}
+use Rattle.qh_model.proofs.surfaces.Finished.{none_beyond, unseen_above}
 use Rattle.qh_laws.specs.contract.Seam.{height_over}
 use Rattle.qh_laws.specs.laws.PointLaws.{LevelIsInPolygon, WithinIsBelow, BetweenIsBelow, MiddleIsInner, BetweenFourIsBelow, BelowIsCombination}
-use Rattle.qh_laws.proofs.{Heights.rise_is_height, Heights.blind_rise, Heights.seen_rise}
+use Rattle.qh_laws.proofs.Heights.{rise_is_height, blind_rise, seen_rise}
 
 -- proof of the law `WithinIsBelow`
 pub within_is_below : WithinIsBelow

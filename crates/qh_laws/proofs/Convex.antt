@@ -1,19 +1,14 @@
 -- The laws of locally convex surfaces.
-use Rattle.std.proofs.Common.{◌≡◌, ℕ, ◌≤◌, refl, sym, subst, ◌∙◌, arith, List, [], ◌∷◌, length, inl, inr, ⊎_elim}
-use Rattle.std.proofs.lemmas.Int.{ints}
-use Rattle.std.specs.Prelude.{ℤ, pos, count_by, ◌≤ℤ◌, ◌<ℤ◌}
-use Rattle.qh_model.specs.contract.ClosedSurface.{Triple}
-use Rattle.qh_model.specs.headline.{Predicates.cross, Predicates.vol, Predicates.AreInLine, Sets.In, Sets.Members, Vector.Vector, Vector.minus, Vector.dot}
-use Rattle.qh_model.specs.laws.{ClosedFaceLaws.AreSupporting, ClosedSurfaceLaws.IsCornerOf}
-use Rattle.qh_model.proofs.{algebra.Order.neg-positive, algebra.Signs.less_le, algebra.VectorIdentities.in_line-vol, closed_surfaces.Sums.count}
-use Rattle.qh_model.proofs.{closed_surfaces.Sums.count-is}
+use Rattle.qh_model.proofs.Common.{◌≡◌, ℕ, ◌≤◌, refl, sym, subst, ◌∙◌, arith, List, [], ◌∷◌, length, inl, inr, ⊎_elim, ints, ℤ, pos, count_by, ◌≤ℤ◌, ◌<ℤ◌}
+use Rattle.qh_model.proofs.Common.{Triple, cross, vol, AreInLine, In, Members, Vector, minus, dot, AreSupporting, IsCornerOf}
+use Rattle.qh_model.proofs.{algebra.Order.neg-positive, algebra.VectorIdentities.in_line-vol, closed_surfaces.Sums.count, closed_surfaces.Sums.count-is}
+use Rattle.qh_model.proofs.algebra.Signs.{less_le}
 use Rattle.qh_laws.specs.contract.LocallyConvex.{IsLocallyConvex, HasAllUnder, is_met}
 use Rattle.qh_laws.specs.laws.ConvexLaws.{LocalIsConvex, UnderIsBelow, LocalSupports}
-use Rattle.qh_laws.proofs.{Directions.IsOffEdges, Greatest.IsGreatest, Greatest.greatest, Highest.rise, Highest.depth, Highest.height}
-use Rattle.qh_laws.proofs.{Highest.HighestMet, NoneAbove.middle, NoneAbove.middle-first, NoneAbove.middle-second, NoneAbove.middle-third}
-use Rattle.qh_laws.proofs.{NoneAbove.outwards, NoneAbove.none_above, OffPoints.plus, OffPoints.edge_above, OffPoints.PointOff, OffPoints.PointOffEdges}
-use Rattle.qh_laws.proofs.{OffPoints.off_all, OffPoints.off_edges, Perturbed.AllUp, Rays.Forms, Rays.MeetsSame, Rays.of_all, Rays.count-alike}
-use Rattle.qh_laws.proofs.{UnderTriangles.under_is_below, Walks.walked}
+use Rattle.qh_laws.proofs.{Directions.IsOffEdges, Greatest.IsGreatest, Greatest.greatest, Perturbed.AllUp, UnderTriangles.under_is_below, Walks.walked}
+use Rattle.qh_laws.proofs.{Highest.rise, Highest.depth, Highest.height, Highest.HighestMet, Rays.Forms, Rays.MeetsSame, Rays.of_all, Rays.count-alike}
+use Rattle.qh_laws.proofs.NoneAbove.{middle, middle-first, middle-second, middle-third, outwards, none_above}
+use Rattle.qh_laws.proofs.OffPoints.{plus, edge_above, PointOff, PointOffEdges, off_all, off_edges}
 
 module _ (at : ℕ → Vector) (ts : List Triple) (z d : Vector) (c : IsLocallyConvex at ts z d) where
   -- a triangle that is highest at x, of a list that is not empty

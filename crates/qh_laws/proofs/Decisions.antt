@@ -1,6 +1,5 @@
 -- Decided claims as truth values.
-use Rattle.std.proofs.Common.{◌≡◌, refl, sym, ◌⊎◌, inl, inr, Bool, true, false}
-use Rattle.std.proofs.lemmas.{Bool.both_ways}
+use Rattle.qh_model.proofs.Common.{◌≡◌, refl, sym, ◌⊎◌, inl, inr, Bool, true, false, both_ways}
 
 -- the truth value of a claim
 pub flag : {P : Type 0} → P ⊎ (¬ P) → Bool

@@ -1,9 +1,6 @@
 -- The number of triangles of a closed surface that are met is the same in every direction.
-use Rattle.std.proofs.Common.{◌≡◌, ℕ, ◌+◌, refl, sym, ap, ◌∙◌, arith, List, [], ◌∷◌, Bool, cond, not, inl, inr}
-use Rattle.std.proofs.lemmas.Int.{ints}
-use Rattle.std.specs.Prelude.{ℤ, pos, ◌+ℤ◌, ◌-ℤ◌, neg_ℤ, ◌<ℤ◌}
-use Rattle.qh_model.specs.contract.ClosedSurface.{Triple, edges, IsClosed}
-use Rattle.qh_model.specs.headline.{Predicates.vol, Sets.In, Vector.Vector}
+use Rattle.qh_model.proofs.Common.{◌≡◌, ℕ, ◌+◌, refl, sym, ap, ◌∙◌, arith, List, [], ◌∷◌, Bool, cond, not, inl, inr, ints, ℤ, pos, ◌+ℤ◌, ◌-ℤ◌, neg_ℤ, ◌<ℤ◌}
+use Rattle.qh_model.proofs.Common.{Triple, edges, IsClosed, vol, In, Vector}
 use Rattle.qh_model.proofs.closed_surfaces.{SignedVolume.back, SignedVolume.edges-cancel, Sums.sum_z, Sums.count}
 use Rattle.qh_laws.specs.contract.LocallyConvex.{is_met}
 use Rattle.qh_laws.proofs.{Crossings.crosses, Crossings.part, Crossings.parts_add, Rounds.round_fits, Rounds.flip_round, Signs.above, Signs.above-neg}

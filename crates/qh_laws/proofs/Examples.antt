@@ -1,6 +1,5 @@
 -- An example: the law requires a point, since the empty list has no hull.
-use Rattle.std.proofs.Common.{ℕ, [], arith, inl, inr}
-use Rattle.qh_model.specs.headline.{Dimension.IsDimension, Hull.HullValue, Hull.IsHull, Polygons.ArePolygons, Predicates.place, Sets.In, Sets.Members}
+use Rattle.qh_model.proofs.Common.{ℕ, [], arith, inl, inr, IsDimension, HullValue, IsHull, ArePolygons, place, In, Members}
 
 -- no hull is right for no points
 pub none_of_nothing : (h : HullValue) → ¬ (IsHull [] h)

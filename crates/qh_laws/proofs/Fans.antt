@@ -1,6 +1,5 @@
 -- Fans of small faces and their edges, computed.
-use Rattle.std.proofs.Common.{◌≡◌, ℕ, refl, List, [], ◌∷◌}
-use Rattle.qh_model.specs.headline.Fan.{fan, fans, pairs_round, edge_count}
+use Rattle.qh_model.proofs.Common.{◌≡◌, ℕ, refl, List, [], ◌∷◌, fan, fans, pairs_round, edge_count}
 use Rattle.qh_laws.proofs.Tables.{Shows}
 
 -- ---- fans

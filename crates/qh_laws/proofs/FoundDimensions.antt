@@ -1,8 +1,6 @@
 -- Each set of ids has a dimension, by a search for a tetrahedron, a triangle and a segment.
-use Rattle.std.proofs.Common.{◌≡◌, ◌≢◌, ℕ, List, inl, inr, refl}
-use Rattle.std.specs.Prelude.{pos}
-use Rattle.qh_model.specs.headline.Dimension.{HasTetrahedron, HasTriangle, HasSegment, IsDimension}
-use Rattle.qh_model.specs.headline.{Predicates.cross, Predicates.vol, Predicates.AreInLine, Sets.In, Sets.Members, Vector.Vector, Vector.origin}
+use Rattle.qh_model.proofs.Common.{◌≡◌, ◌≢◌, ℕ, List, inl, inr, refl, pos, HasTetrahedron, HasTriangle, HasSegment, IsDimension, cross, vol, AreInLine, In}
+use Rattle.qh_model.proofs.Common.{Members, Vector, origin}
 use Rattle.qh_model.proofs.Decisions.{Decided, contrary, decided_as, some_or_none, same_id, same_number, same_vector}
 
 module _ (at : ℕ → Vector) (ids : List ℕ) where

@@ -1,16 +1,11 @@
 -- Each supporting triple has a polygon, and the polygons of all triples have a rising list.
-use Rattle.std.proofs.Common.{◌≡◌, ◌∙◌, ℕ, ◌<◌, List, [], ◌∷◌, map, refl, sym, subst, ◌⊎◌, inl, inr}
-use Rattle.std.proofs.lemmas.Bool.{cases_order}
-use Rattle.std.specs.{List.flat_map, Prelude.ℤ, Prelude.pos, Prelude.◌≤ℤ◌, Prelude.◌↔◌}
+use Rattle.qh_model.proofs.Common.{◌≡◌, ◌∙◌, ℕ, ◌<◌, List, [], ◌∷◌, map, refl, sym, subst, ◌⊎◌, inl, inr, cases_order, flat_map, ℤ, pos, ◌≤ℤ◌, ◌↔◌}
+use Rattle.qh_model.proofs.Common.{HasDistinctPoints, Extreme, ComesBefore, RisesFrom, RiseStrictly, IsFacePolygon, AreFaces, cross, vol, AreInLine, In}
+use Rattle.qh_model.proofs.Common.{Members, Supports, IsSupportingTriple, OnPlane, Vector, origin}
 use Rattle.qh_model.proofs.Decisions.{Decided, both, contrary, decided_as, each_or_not, in_or_not, same_vector, at_most_or_above}
-use Rattle.qh_model.proofs.algebra.Order.{zero_or_not}
-use Rattle.qh_model.proofs.extremes.{Dimensions.segment_of_triangle, Directions.along_itself, Directions.from_plane, Directions.square-positive}
-use Rattle.qh_model.proofs.extremes.{ExtremeIds.listed_itself, ExtremeIds.listed_part, SpanningTriples.own_triangle}
-use Rattle.qh_model.proofs.{extremes.Faces.extremes_of_face, lists.Images.in_map, lists.Joined.in_flat_map, polygons.Direction.polygon_as}
-use Rattle.qh_model.specs.{contract.IdSets.HasDistinctPoints, headline.Extreme.Extreme}
-use Rattle.qh_model.specs.headline.Polygons.{ComesBefore, RisesFrom, RiseStrictly, IsFacePolygon, AreFaces}
-use Rattle.qh_model.specs.headline.{Predicates.cross, Predicates.vol, Predicates.AreInLine, Sets.In, Sets.Members, SupportingPlane.Supports}
-use Rattle.qh_model.specs.headline.{SupportingPlane.IsSupportingTriple, SupportingPlane.OnPlane, Vector.Vector, Vector.origin}
+use Rattle.qh_model.proofs.{algebra.Order.zero_or_not, extremes.Directions.along_itself, extremes.Directions.from_plane, extremes.Directions.square-positive}
+use Rattle.qh_model.proofs.{extremes.Dimensions.segment_of_triangle, extremes.ExtremeIds.listed_itself, extremes.ExtremeIds.listed_part, lists.Images.in_map}
+use Rattle.qh_model.proofs.{extremes.SpanningTriples.own_triangle, extremes.Faces.extremes_of_face, lists.Joined.in_flat_map, polygons.Direction.polygon_as}
 use Rattle.qh_polygon.proofs.polygons.Turns.{IsFlat}
 use Rattle.qh_laws.proofs.{FoundPolygons.polygon_found, Sorting.Compare, Sorting.Rises, Sorting.InRow, Sorting.Sorted, Sorting.sorted}
 

@@ -1,18 +1,14 @@
 -- Sets of dimension 2, 1 and 0 have their only polygon.
-use Rattle.std.proofs.Common.{◌≡◌, ◌≢◌, ◌∙◌, ℕ, ◌<◌, List, [], ◌∷◌, length, refl, ap, sym, subst, arith, ◌⊎◌, inl, inr}
-use Rattle.std.proofs.lemmas.{Bool.cases_order, Int.ints, Int.by_lt_z}
-use Rattle.std.specs.Prelude.{ℤ, pos, neg_ℤ, ◌-ℤ◌, ◌*ℤ◌, ◌<ℤ◌}
-use Rattle.qh_model.proofs.Decisions.{Decided, same_id, same_vector}
-use Rattle.qh_model.proofs.algebra.{Order.le_antisym, Order.neg-positive, Ring.ring, Ring.equal_from_zero, Ring.Expr.neg, Signs.less_differ}
-use Rattle.qh_model.proofs.algebra.{Signs.opposite_zero}
+use Rattle.qh_model.proofs.Common.{◌≡◌, ◌≢◌, ◌∙◌, ℕ, ◌<◌, List, [], ◌∷◌, length, refl, ap, sym, subst, arith, ◌⊎◌, inl, inr, cases_order, ints, by_lt_z, ℤ, pos}
+use Rattle.qh_model.proofs.Common.{neg_ℤ, ◌-ℤ◌, ◌*ℤ◌, ◌<ℤ◌, HasDistinctPoints, HasTetrahedron, HasTriangle, HasSegment, Extreme, Follows, IsPolygon}
+use Rattle.qh_model.proofs.Common.{PointsForward, IsFlatFace, IsSegmentFace, cross, vol, AreInLine, In, Members, Vector, origin, minus, cross_product, dot}
+use Rattle.qh_model.proofs.{Decisions.Decided, Decisions.same_id, Decisions.same_vector, polygons.Neighbours.next_member, polygons.Neighbours.follows_members}
+use Rattle.qh_model.proofs.{algebra.Order.le_antisym, algebra.Order.neg-positive, algebra.Ring.Expr.neg, hulls.FlatSets.flat_volume}
+use Rattle.qh_model.proofs.{algebra.Ring.ring, algebra.Ring.equal_from_zero, extremes.ExtremeIds.listed_itself, extremes.ExtremeIds.combination_of_extremes}
+use Rattle.qh_model.proofs.{algebra.Signs.less_differ, algebra.Signs.opposite_zero, extremes.Dimensions.segment_of, extremes.Dimensions.segment_of_triangle}
 use Rattle.qh_model.proofs.algebra.VectorIdentities.{vec, put, dotE, crossE, vector_path, opposite, in_line-left, dot-origin}
-use Rattle.qh_model.proofs.extremes.{Dimensions.segment_of, Dimensions.segment_of_triangle, Directions.cross-flip, Directions.in_line-flip}
-use Rattle.qh_model.proofs.extremes.{Directions.from_plane, Directions.square-positive, ExtremeIds.listed_itself, ExtremeIds.combination_of_extremes}
-use Rattle.qh_model.proofs.{hulls.FlatSets.flat_volume, polygons.Neighbours.next_member, polygons.Neighbours.follows_members}
-use Rattle.qh_model.specs.{contract.IdSets.HasDistinctPoints, headline.Dimension.HasTetrahedron, headline.Dimension.HasTriangle, headline.Dimension.HasSegment}
-use Rattle.qh_model.specs.headline.{Extreme.Extreme, Polygon.Follows, Polygon.IsPolygon, Polygons.PointsForward, Polygons.IsFlatFace, Polygons.IsSegmentFace}
-use Rattle.qh_model.specs.headline.{Polygons.IsPointFace, Predicates.cross, Predicates.vol, Predicates.left, Predicates.AreInLine, Sets.In, Sets.Members}
-use Rattle.qh_model.specs.headline.Vector.{Vector, origin, minus, cross_product, dot}
+use Rattle.qh_model.proofs.extremes.Directions.{cross-flip, in_line-flip, from_plane, square-positive}
+use Rattle.qh_model.specs.headline.{Polygons.IsPointFace, Predicates.left}
 use Rattle.qh_polygon.proofs.{LinesAndPlanes.between_eq, LinesAndPlanes.none, polygons.Turns.IsFlat}
 use Rattle.qh_laws.proofs.FoundPolygons.{polygon_found}
 

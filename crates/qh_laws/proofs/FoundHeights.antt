@@ -1,11 +1,9 @@
 -- A direction along which no two points of a finite set have the same height, and the ids by rising height.
-use Rattle.std.proofs.Common.{◌≡◌, ℕ, ◌+◌, List, [], ◌∷◌, inl, inr, ap, sym, arith}
-use Rattle.std.proofs.{Math.Nat.mul-le-mul_left, lemmas.Int.ints, lemmas.Int.by_lt_z}
+use Rattle.qh_model.proofs.Common.{◌≡◌, ℕ, ◌+◌, List, [], ◌∷◌, inl, inr, ap, sym, arith, mul-le-mul_left, ints, by_lt_z, HasDistinctPoints, In, Vector, dot}
 use Rattle.std.specs.{List.AllByRecursion as Every, Prelude.ℤ, Prelude.pos, Prelude.◌+ℤ◌, Prelude.◌*ℤ◌, Prelude.neg_ℤ, Prelude.◌<ℤ◌, Prelude.◌↔◌}
 use borrow.Author.Differences.{lt_out}
-use Rattle.qh_model.proofs.{Members.every_at, algebra.Order.le_antisym, algebra.VectorIdentities.vector_path, combinations.WeightedTerms.bound}
-use Rattle.qh_model.proofs.extremes.ExtremeIds.{Listed}
-use Rattle.qh_model.specs.{contract.IdSets.HasDistinctPoints, headline.Sets.In, headline.Vector.Vector, headline.Vector.dot}
+use Rattle.qh_model.proofs.Members.{every_at}
+use Rattle.qh_model.proofs.{algebra.Order.le_antisym, algebra.VectorIdentities.vector_path, combinations.WeightedTerms.bound, extremes.ExtremeIds.Listed}
 use Rattle.qh_polygon.proofs.polygons.{TurnLaws.RisesBy, Turns.IsKeyed, Turns.height_of}
 use Rattle.qh_laws.proofs.Sorting.{Compare, Rises, InRow, Sorted, sorted}
 

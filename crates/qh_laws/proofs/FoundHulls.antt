@@ -1,13 +1,10 @@
 -- Each list of points that is not empty has a hull and a text.
-use Rattle.std.proofs.Common.{◌≡◌, ℕ, ◌<◌, List, [], ◌∷◌, length, refl, inl, inr}
-use Rattle.std.specs.List.Sorted.{IsStrictlyIncreasing}
+use Rattle.qh_model.proofs.Common.{◌≡◌, ℕ, ◌<◌, List, [], ◌∷◌, length, refl, inl, inr, IsStrictlyIncreasing, HasDistinctPoints, IsDimension, AreDistinctIds}
+use Rattle.qh_model.proofs.Common.{edge_count, BodyValue, HullValue, IsBody, IsHull, ArePolygons, place, Members, hull_text, Vector}
 use Rattle.qh_model.proofs.{DistinctIds.some_id, DistinctIds.distinct_apart, polygons.EdgeCounts.edges_are_counted}
-use Rattle.qh_model.specs.contract.IdSets.{HasDistinctPoints}
-use Rattle.qh_model.specs.headline.{Dimension.IsDimension, DistinctIds.AreDistinctIds, Fan.edge_count, Hull.BodyValue, Hull.HullValue, Hull.IsBody, Hull.IsHull}
-use Rattle.qh_model.specs.headline.{Polygons.ArePolygons, Predicates.place, Sets.Members, Text.hull_text, Vector.Vector}
 use Rattle.qh_laws.specs.laws.ExistenceLaws.{EveryListHasAHull, EveryListHasAText}
-use Rattle.qh_laws.proofs.{FoundDimensions.dimension_of, FoundFaces.faces_found, FoundFlats.flat_found, FoundFlats.segment_found, FoundFlats.point_found}
-use Rattle.qh_laws.proofs.FoundIds.{distinct_ids_of, extremes_of}
+use Rattle.qh_laws.proofs.{FoundDimensions.dimension_of, FoundFaces.faces_found}
+use Rattle.qh_laws.proofs.{FoundFlats.flat_found, FoundFlats.segment_found, FoundFlats.point_found, FoundIds.distinct_ids_of, FoundIds.extremes_of}
 
 -- ids of distinct points have polygons
 pub polygons_found : (at : ℕ → Vector) (ids : List ℕ) → HasDistinctPoints at (Members ids) → 0 < length ids

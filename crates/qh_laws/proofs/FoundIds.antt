@@ -1,12 +1,10 @@
 -- Rising lists of the ids for which a decided claim holds: distinct ids and extreme ids.
-use Rattle.std.proofs.Common.{◌≡◌, ◌≢◌, ℕ, ◌<◌, inl, inr, List, [], ◌∷◌, length, sym, subst, arith, ⊎_elim}
-use Rattle.std.specs.{List.range_with_len, List.Sorted.IsStrictlyIncreasing, Prelude.◌↔◌}
-use Rattle.qh_model.proofs.Decisions.{Decided, contrary, each_or_not, same_vector}
-use Rattle.qh_model.proofs.{Members.rising_first, Members.rising_tail, combinations.Alternatives.all_lower}
+use Rattle.qh_model.proofs.Common.{◌≡◌, ◌≢◌, ℕ, ◌<◌, inl, inr, List, [], ◌∷◌, length, sym, subst, arith, ⊎_elim, range_with_len, IsStrictlyIncreasing, ◌↔◌}
+use Rattle.qh_model.proofs.Common.{Combination, IsDistinctId, AreDistinctIds, Others, AreExtremes, place, In, Members, Vector}
+use Rattle.qh_model.proofs.{Decisions.Decided, Decisions.contrary, Decisions.each_or_not, Decisions.same_vector, Members.rising_first, Members.rising_tail}
+use Rattle.qh_model.proofs.combinations.Alternatives.{all_lower}
 use Rattle.qh_model.proofs.extremes.ExtremeIds.{Listed, listed_itself, listed_part, apart, alternative_in}
 use Rattle.qh_model.proofs.lists.{Ranges.range_below, Ranges.range_has, Rising.range_rises, Rising.rising_append}
-use Rattle.qh_model.specs.headline.{Combination.Combination, DistinctIds.IsDistinctId, DistinctIds.AreDistinctIds, Extreme.Others, Hull.AreExtremes}
-use Rattle.qh_model.specs.{headline.Predicates.place, headline.Sets.In, headline.Sets.Members, headline.Vector.Vector}
 
 -- the rising list of the members for which P holds
 pub record Passing (P : ℕ → Type 0) (xs : List ℕ) : Type 0 where

@@ -1,13 +1,10 @@
 -- A flat set has a polygon: the cycle over two chains of its ids by height, rotated to begin with its least id.
-use Rattle.std.proofs.Common.{ℕ, zero, suc, ◌<◌, ◌≤◌, ◌++◌, List, [], ◌∷◌, length, get_or, take, drop, refl, arith, ◌⊎◌, inl, inr}
-use Rattle.std.proofs.lemmas.{Bool.cases_lt, Int.by_lt_z}
-use Rattle.std.specs.Prelude.{◌<ℤ◌}
-use Rattle.qh_model.proofs.algebra.{Order.le_antisym, Signs.lt_neg, VectorIdentities.opposite, VectorIdentities.dot-opposite}
-use Rattle.qh_model.proofs.extremes.ExtremeIds.{Listed}
-use Rattle.qh_model.specs.contract.IdSets.{HasDistinctPoints}
-use Rattle.qh_model.specs.headline.{Dimension.HasSegment, Extreme.Extreme, Polygon.IsPolygon, Vector.Vector}
-use Rattle.qh_polygon.proofs.polygons.GoesRound.{GoesRound, goes_round}
-use Rattle.qh_polygon.proofs.polygons.{LeastFirst.polygon_of, Turns.IsFlat, Turns.IsKeyed, Turns.turn_about, Turns.height_of, TwoChains.keyed_opposite}
+use Rattle.qh_model.proofs.Common.{ℕ, zero, suc, ◌<◌, ◌≤◌, ◌++◌, List, [], ◌∷◌, length, get_or, take, drop, refl, arith, ◌⊎◌, inl, inr, cases_lt, by_lt_z, ◌<ℤ◌}
+use Rattle.qh_model.proofs.Common.{HasDistinctPoints, HasSegment, Extreme, IsPolygon, Vector}
+use Rattle.qh_model.proofs.{algebra.Order.le_antisym, algebra.VectorIdentities.opposite, algebra.VectorIdentities.dot-opposite, extremes.ExtremeIds.Listed}
+use Rattle.qh_model.proofs.algebra.Signs.{lt_neg}
+use Rattle.qh_polygon.proofs.polygons.{GoesRound.GoesRound, GoesRound.goes_round, Turns.IsFlat, Turns.IsKeyed, Turns.turn_about, Turns.height_of}
+use Rattle.qh_polygon.proofs.polygons.{LeastFirst.polygon_of, TwoChains.keyed_opposite}
 use Rattle.qh_polygon.specs.steps.Chains.{chain, joined}
 use Rattle.qh_laws.proofs.FoundHeights.{direction, rising}
 

@@ -1,8 +1,6 @@
 -- The greatest of finitely many fractions, and the only member that passes a test.
-use Rattle.std.proofs.Common.{◌≡◌, ℕ, ◌+◌, ◌≤◌, refl, sym, ap, subst, ◌∙◌, arith, List, [], ◌∷◌, Bool, true, false, cond, inl, inr}
-use Rattle.std.proofs.lemmas.Int.{ints, by_lt_z}
-use Rattle.std.specs.Prelude.{ℤ, pos, ◌-ℤ◌, ◌*ℤ◌, ◌≤ℤ◌, ◌<ℤ◌}
-use Rattle.qh_model.specs.headline.Sets.{In}
+use Rattle.qh_model.proofs.Common.{◌≡◌, ℕ, ◌+◌, ◌≤◌, refl, sym, ap, subst, ◌∙◌, arith, List, [], ◌∷◌, Bool, true, false, cond, inl, inr, ints, by_lt_z, ℤ, pos}
+use Rattle.qh_model.proofs.Common.{◌-ℤ◌, ◌*ℤ◌, ◌≤ℤ◌, ◌<ℤ◌, In}
 use Rattle.qh_model.proofs.algebra.{Integers.mul_sub, Integers.mul_swap, Integers.mul_comm, Order.mul-le, Order.mul-pos}
 use Rattle.qh_model.proofs.{algebra.Ring.Expr.mul, algebra.Signs.less_le, closed_surfaces.Sums.count}
 

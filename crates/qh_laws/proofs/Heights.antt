@@ -1,10 +1,7 @@
 -- Heights above facets, and facets in one plane.
-use Rattle.std.proofs.Common.{◌≡◌, ℕ, sym, ◌⊎◌, inl, inr, refl}
-use Rattle.std.specs.Prelude.{pos, ◌≤ℤ◌, ◌<ℤ◌}
-use Rattle.qh_model.specs.contract.{FinishedSurface.weighted_at, Surface.Surface, Surface.rise, Weighted.weighted}
-use Rattle.qh_model.specs.{headline.Vector.Vector, laws.FacetPlanes.IsLevelWith, laws.FacetPlanes.IsLevelFacet}
-use Rattle.qh_model.proofs.algebra.{Order.zero_or_not, Signs.equal_nonpos, Signs.equal_positive}
-use Rattle.qh_model.proofs.surfaces.{Facets.of_corners, SurfaceLaws.rise_is_vol}
+use Rattle.qh_model.proofs.Common.{◌≡◌, ℕ, sym, ◌⊎◌, inl, inr, refl, pos, ◌≤ℤ◌, ◌<ℤ◌, weighted_at, Surface, rise, weighted, Vector, IsLevelWith, IsLevelFacet}
+use Rattle.qh_model.proofs.algebra.Order.{zero_or_not}
+use Rattle.qh_model.proofs.{algebra.Signs.equal_nonpos, algebra.Signs.equal_positive, surfaces.Facets.of_corners, surfaces.SurfaceLaws.rise_is_vol}
 use Rattle.qh_laws.specs.contract.Seam.{height_over}
 
 module _ (at : ℕ → Vector) (m : Surface) (f : ℕ) (p : Vector) where

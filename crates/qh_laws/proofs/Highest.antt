@@ -1,9 +1,6 @@
 -- Triangles that begin at any corner, and their heights along a direction relative to their distances from z.
-use Rattle.std.proofs.Common.{◌≡◌, ℕ, refl, sym, subst, ◌∙◌, arith, List, [], ◌∷◌, true, inl, inr}
-use Rattle.std.proofs.lemmas.Int.{ints}
-use Rattle.std.specs.Prelude.{ℤ, pos, ◌-ℤ◌, ◌*ℤ◌, neg_ℤ, ◌≤ℤ◌, ◌<ℤ◌}
-use Rattle.qh_model.specs.contract.ClosedSurface.{Triple, edges}
-use Rattle.qh_model.specs.headline.{Predicates.cross, Predicates.vol, Sets.In, Vector.Vector}
+use Rattle.qh_model.proofs.Common.{◌≡◌, ℕ, refl, sym, subst, ◌∙◌, arith, List, [], ◌∷◌, true, inl, inr, ints, ℤ, pos, ◌-ℤ◌, ◌*ℤ◌, neg_ℤ, ◌≤ℤ◌, ◌<ℤ◌, Triple}
+use Rattle.qh_model.proofs.Common.{edges, cross, vol, In, Vector}
 use Rattle.qh_model.proofs.algebra.{Order.mul-nonpos, Order.neg-positive, Ring.ring, Ring.Expr.var, Ring.Expr.mul, Ring.Expr.neg, Signs.less_le}
 use Rattle.qh_model.proofs.algebra.VectorIdentities.{vec, put, volE, edge_product, vol-flip}
 use Rattle.qh_laws.specs.contract.LocallyConvex.{IsRound, HasLowNeighbour, is_met}

@@ -1,7 +1,5 @@
 -- Points of a triangle, seen from a place below it: their weights over its corners.
-use Rattle.std.proofs.{Common.◌≡◌, Common.refl, Common.ap, Common.◌∙◌, Common.arith, Common.[], Common.◌∷◌, lemmas.Int.ints}
-use Rattle.std.specs.Prelude.{ℤ, pos, ◌+ℤ◌, ◌-ℤ◌, ◌*ℤ◌, ◌≤ℤ◌, ◌<ℤ◌}
-use Rattle.qh_model.specs.headline.{Predicates.cross, Predicates.vol, Vector.Vector, Vector.minus}
+use Rattle.qh_model.proofs.Common.{◌≡◌, refl, ap, ◌∙◌, arith, [], ◌∷◌, ints, ℤ, pos, ◌+ℤ◌, ◌-ℤ◌, ◌*ℤ◌, ◌≤ℤ◌, ◌<ℤ◌, cross, vol, Vector, minus}
 use Rattle.qh_model.proofs.algebra.{Order.cancel-zero, Ring.ring, Ring.Expr.var, Ring.Expr.add, Ring.Expr.sub as less, Ring.Expr.mul}
 use Rattle.qh_model.proofs.algebra.VectorIdentities.{vec, put, detE, vector_path}
 use Rattle.qh_laws.proofs.UnderTriangles.{above_sum}

@@ -1,11 +1,8 @@
 -- Faces of parts and of the kept ids that close up are the faces of the whole set.
-use Rattle.std.proofs.Common.{ℕ, ◌⊎◌, inl, inr, refl, List}
-use Rattle.std.specs.Prelude.{◌↔◌}
-use Rattle.qh_model.specs.contract.{ClosedPolygons.AreClosedFaces, ClosedPolygons.IsFace, IdSets.HasDistinctPoints}
-use Rattle.qh_model.specs.headline.{Extreme.Extreme, Sets.Members, Vector.Vector}
-use Rattle.qh_model.proofs.{extremes.ExtremeIds.listed_itself, extremes.ExtremeIds.extremes_between, extremes.SameDimension.tetrahedron_by_names}
-use Rattle.qh_model.proofs.surfaces.Complete.{finished_tetrahedron}
-use Rattle.qh_model.proofs.{extremes.Faces.support_of_extremes, polygons.ClosedFaces.closed_faces_are_all, polygons.ClosedFaces.closed_faces_have_extremes}
+use Rattle.qh_model.proofs.Common.{ℕ, ◌⊎◌, inl, inr, refl, List, ◌↔◌, AreClosedFaces, IsFace, HasDistinctPoints, Extreme, Members, Vector}
+use Rattle.qh_model.proofs.extremes.{ExtremeIds.listed_itself, ExtremeIds.extremes_between, SameDimension.tetrahedron_by_names}
+use Rattle.qh_model.proofs.{surfaces.Complete.finished_tetrahedron, polygons.ClosedFaces.closed_faces_are_all, polygons.ClosedFaces.closed_faces_have_extremes}
+use Rattle.qh_model.proofs.extremes.Faces.{support_of_extremes}
 use Rattle.qh_laws.specs.contract.Parts.{AreKept, IsPartFace, AreJoined}
 use Rattle.qh_laws.specs.laws.PartLaws.{FacesOfKept, JoinedAreFaces, JoinedHaveExtremes, PartIsSolid}
 use Rattle.qh_laws.proofs.Parts.{staying_supports, staying_has_polygon, polygon_of_same}

@@ -1,16 +1,14 @@
 -- A point in the plane of a facet that is above no facet beside that plane is above no facet at all.
-use Rattle.std.proofs.Common.{◌≡◌, ℕ, suc, arith, refl, sym, ◌∙◌, ap, inl, inr, Bool, true, false, List, ⊎_elim}
-use Rattle.std.proofs.lemmas.{Bool.and_parts, Int.ints}
-use Rattle.std.specs.Prelude.{ℤ, pos, ◌+ℤ◌, ◌*ℤ◌, neg_ℤ, ◌≤ℤ◌, ◌<ℤ◌, ◌&&◌}
-use Rattle.qh_model.specs.contract.{FinishedSurface.weighted_at, FinishedSurface.middle_at, FinishedSurface.IsFinished, SoundSurface.towards, Surface.Side}
-use Rattle.qh_model.specs.contract.{Surface.Surface, Surface.IsCorner, Surface.rise, Surface.Sees, Weighted.Weighted, Weighted.weighted, Weighted.above}
-use Rattle.qh_model.specs.{headline.Sets.In, headline.Vector.Vector, laws.FacetPlanes.IsLevelFacet, laws.FacetPlanes.IsPlaneWalk}
-use Rattle.qh_model.proofs.algebra.{Integers.one_mul, Order.mul-nonneg, Order.mul-nonneg_nonpos, Order.positive_le, Order.product_zero, Signs.less_differ}
-use Rattle.qh_model.proofs.{algebra.Signs.at_most_zero, algebra.Signs.equal_positive, extremes.Directions.same_plane}
-use Rattle.qh_model.proofs.surfaces.FacetPlanes.{above-last, beyond, on_sees_beyond, sees_beyond_on, level_facets_span, plane_walk_finds_all}
-use Rattle.qh_model.proofs.surfaces.FacetPlanes.{level_itself, level_back, seen_level}
-use Rattle.qh_model.proofs.surfaces.Facets.{middle, sum_blind, sum_level}
-use Rattle.qh_model.proofs.surfaces.{Finished.unseen_above, PerturbedInwards.bound, PerturbedInwards.scale, SurfaceLaws.walk_finds_all}
+use Rattle.qh_model.proofs.Common.{◌≡◌, ℕ, suc, arith, refl, sym, ◌∙◌, ap, inl, inr, Bool, true, false, List, ⊎_elim, and_parts, ints, ℤ, pos, ◌+ℤ◌, ◌*ℤ◌}
+use Rattle.qh_model.proofs.Common.{neg_ℤ, ◌≤ℤ◌, ◌<ℤ◌, ◌&&◌, weighted_at, middle_at, IsFinished, towards, Side, Surface, IsCorner, rise, Sees, Weighted}
+use Rattle.qh_model.proofs.Common.{weighted, above, In, Vector, IsLevelFacet}
+use Rattle.qh_model.specs.laws.FacetPlanes.{IsPlaneWalk}
+use Rattle.qh_model.proofs.{algebra.Integers.one_mul, surfaces.Finished.unseen_above, surfaces.PerturbedInwards.bound, surfaces.PerturbedInwards.scale}
+use Rattle.qh_model.proofs.algebra.Order.{mul-nonneg, mul-nonneg_nonpos, positive_le, product_zero}
+use Rattle.qh_model.proofs.{algebra.Signs.less_differ, algebra.Signs.at_most_zero, algebra.Signs.equal_positive, surfaces.SurfaceLaws.walk_finds_all}
+use Rattle.qh_model.proofs.{extremes.Directions.same_plane, surfaces.Facets.middle, surfaces.Facets.sum_blind, surfaces.Facets.sum_level}
+use Rattle.qh_model.proofs.surfaces.FacetPlanes.{above-last, beyond, on_sees_beyond, sees_beyond_on, level_facets_span, plane_walk_finds_all, level_itself}
+use Rattle.qh_model.proofs.surfaces.FacetPlanes.{level_back, seen_level}
 use Rattle.qh_laws.specs.{contract.Seam.height_over, contract.Seam.IsBelowAll, contract.Seam.IsRing, laws.PointLaws.IsBeside, laws.PointLaws.SidesHideRest}
 use Rattle.qh_laws.proofs.Decisions.{flag, flag-holds, flag-true}
 use Rattle.qh_laws.proofs.Heights.{rise_is_height, blind_rise, seen_rise, level_or_not}

@@ -1,7 +1,6 @@
 -- Lowest ids: the first number for which a decided claim holds, and the first position of each point in the list.
-use Rattle.std.proofs.Common.{◌≡◌, ℕ, zero, suc, ◌<◌, ◌≤◌, inl, inr, List, refl, arith}
+use Rattle.qh_model.proofs.Common.{◌≡◌, ℕ, zero, suc, ◌<◌, ◌≤◌, inl, inr, List, refl, arith, place, Vector}
 use Rattle.qh_model.proofs.Decisions.{Decided, same_vector}
-use Rattle.qh_model.specs.headline.{Predicates.place, Vector.Vector}
 
 -- the first number for which a claim holds
 pub record First (P : ℕ → Type 0) (n : ℕ) : Type 0 where

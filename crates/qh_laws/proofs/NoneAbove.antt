@@ -1,18 +1,14 @@
 -- No corner of a locally convex surface is above a triangle of it: otherwise a direction over the corner would meet two triangles, one at the corner and one
 -- that is highest there.
-use Rattle.std.proofs.Common.{◌≡◌, ℕ, ◌≤◌, refl, sym, ap, subst, ◌∙◌, arith, List, [], ◌∷◌, true, inl, inr}
-use Rattle.std.proofs.lemmas.{Bool.and_from, Int.ints, Int.by_lt_z}
-use Rattle.std.specs.Prelude.{ℤ, pos, ◌+ℤ◌, ◌-ℤ◌, ◌*ℤ◌, neg_ℤ, ◌≤ℤ◌, ◌<ℤ◌}
-use Rattle.qh_model.specs.{contract.ClosedSurface.Triple, contract.ClosedSurface.IsClosed, headline.Predicates.cross, headline.Predicates.vol, headline.Sets.In}
-use Rattle.qh_model.specs.{headline.Vector.Vector, headline.Vector.minus, headline.Vector.dot, laws.ClosedSurfaceLaws.IsCornerOf}
+use Rattle.qh_model.proofs.Common.{◌≡◌, ℕ, ◌≤◌, refl, sym, ap, subst, ◌∙◌, arith, List, [], ◌∷◌, true, inl, inr, and_from, ints, by_lt_z, ℤ, pos, ◌+ℤ◌, ◌-ℤ◌}
+use Rattle.qh_model.proofs.Common.{◌*ℤ◌, neg_ℤ, ◌≤ℤ◌, ◌<ℤ◌, Triple, IsClosed, cross, vol, In, Vector, minus, dot, IsCornerOf}
 use Rattle.qh_model.proofs.algebra.{Order.mul-pos, Ring.ring, Ring.Expr.var, Ring.Expr.add, Ring.Expr.sub as less, Ring.Expr.mul, Ring.Expr.neg}
-use Rattle.qh_model.proofs.algebra.Signs.{equal_positive, negated_positive, not_less}
+use Rattle.qh_model.proofs.{algebra.Signs.equal_positive, algebra.Signs.negated_positive, algebra.Signs.not_less, closed_surfaces.Sums.count}
 use Rattle.qh_model.proofs.algebra.VectorIdentities.{VE, vec, put, subE, crossE, dotE, detE, vol-dot, vol-first, vol-second, vol-third}
-use Rattle.qh_model.proofs.closed_surfaces.Sums.{count}
 use Rattle.qh_laws.specs.contract.LocallyConvex.{is_met}
-use Rattle.qh_laws.proofs.{Directions.IsOffEdges, Directions.met_alike, Greatest.only_one, Highest.rise, Highest.depth, Highest.height}
-use Rattle.qh_laws.proofs.{Highest.HighestMet, OffPoints.plus, OffPoints.minus-plus, OffPoints.edge_above, OffPoints.PointOff, OffPoints.off_all}
-use Rattle.qh_laws.proofs.{Perturbed.AllUp, Perturbed.Rises, Perturbed.risen, Rounds.vol-round, Rounds.vol-outwards}
+use Rattle.qh_laws.proofs.{Directions.IsOffEdges, Directions.met_alike, Rounds.vol-round, Rounds.vol-outwards}
+use Rattle.qh_laws.proofs.{Greatest.only_one, OffPoints.plus, OffPoints.minus-plus, OffPoints.edge_above, OffPoints.PointOff, OffPoints.off_all}
+use Rattle.qh_laws.proofs.{Highest.rise, Highest.depth, Highest.height, Highest.HighestMet, Perturbed.AllUp, Perturbed.Rises, Perturbed.risen}
 
 -- ---- forms of directions from z
 -- the sum of three points, seen from z

@@ -1,14 +1,10 @@
 -- Points near a given one that are off the planes through z and the edges of a surface.
-use Rattle.std.proofs.Common.{◌≡◌, ℕ, refl, sym, ap, subst, ◌∙◌, arith, List, [], ◌∷◌, ◌++◌, map, ◌⊎◌, inl, inr, true}
-use Rattle.std.proofs.lemmas.Int.{ints}
-use Rattle.std.specs.Prelude.{ℤ, pos, ◌+ℤ◌, ◌-ℤ◌, neg_ℤ, ◌<ℤ◌}
-use Rattle.qh_model.specs.contract.ClosedSurface.{Triple, edges}
-use Rattle.qh_model.specs.headline.{Predicates.cross, Predicates.vol, Predicates.AreInLine, Sets.In, Vector.Vector, Vector.origin, Vector.minus, Vector.dot}
-use Rattle.qh_model.proofs.algebra.Signs.{opposite_zero}
+use Rattle.qh_model.proofs.Common.{◌≡◌, ℕ, refl, sym, ap, subst, ◌∙◌, arith, List, [], ◌∷◌, ◌++◌, map, ◌⊎◌, inl, inr, true, ints, ℤ, pos, ◌+ℤ◌, ◌-ℤ◌, neg_ℤ}
+use Rattle.qh_model.proofs.Common.{◌<ℤ◌, Triple, edges, cross, vol, AreInLine, In, Vector, origin, minus, dot}
+use Rattle.qh_model.proofs.{algebra.Signs.opposite_zero, lists.Images.in_map, lists.Images.of_map, lists.Joined.in_append, lists.Joined.of_append}
 use Rattle.qh_model.proofs.algebra.VectorIdentities.{vector_path, vol-dot, in_line-vol, vol-swap_last}
-use Rattle.qh_model.proofs.lists.{Images.in_map, Images.of_map, Joined.in_append, Joined.of_append}
-use Rattle.qh_laws.proofs.{Directions.IsOffEdges, Perturbed.AllUp, Perturbed.Perturbed, Perturbed.perturbed, Rounds.vol-round}
-use Rattle.qh_laws.proofs.{Rounds.vol-outwards, Signs.above, Signs.is_above}
+use Rattle.qh_laws.proofs.Directions.{IsOffEdges}
+use Rattle.qh_laws.proofs.{Perturbed.AllUp, Perturbed.Perturbed, Perturbed.perturbed, Rounds.vol-round, Rounds.vol-outwards, Signs.above, Signs.is_above}
 
 -- z + y
 abbrev pub plus : Vector → Vector → Vector

@@ -1,9 +1,7 @@
 -- Small OFF files, computed: their words and first faults.
-use Rattle.std.proofs.Common.{◌≡◌, ℕ, refl, List, [], ◌∷◌, ◌++◌}
-use Rattle.std.specs.{List.flat_map, Prelude.Some, Prelude.None, Prelude.codes}
+use Rattle.qh_model.proofs.Common.{◌≡◌, ℕ, refl, List, [], ◌∷◌, ◌++◌, flat_map, Some, None, codes, first_fault_in, off_words, Word}
 use Rattle.qh_model.specs.declared.form.Form.TheVariants.{Off}
 use Rattle.qh_model.specs.declared.read_fault.ReadFault.TheVariants.{NoHeader, BadNumber, Count, Short, NotOff}
-use Rattle.qh_model.specs.headline.{Forms.first_fault_in, OffFile.off_words, Words.Word}
 use Rattle.qh_laws.proofs.Tables.{Shows}
 
 abbrev line : List ℕ → List ℕ

@@ -1,16 +1,14 @@
 -- The facets of a part that stay support the whole set, and those in clear planes have its polygons.
-use Rattle.std.proofs.Common.{◌≡◌, ℕ, refl, subst, ◌∙◌, ap, ◌⊎◌, inl, inr, Bool, true, false, List, ◌∷◌, ⊎_elim}
-use Rattle.std.specs.Prelude.{pos, ◌≤ℤ◌, ◌<ℤ◌, ◌↔◌}
-use Rattle.qh_model.specs.contract.{FinishedSurface.IsFinished, IdSets.HasDistinctPoints, Surface.Surface}
-use Rattle.qh_model.specs.headline.{Extreme.Others, Extreme.Extreme, Polygons.IsFacePolygon, Sets.In, Sets.Members, SupportingPlane.Supports}
-use Rattle.qh_model.specs.{headline.SupportingPlane.OnPlane, headline.Vector.Vector, laws.CompletenessLaws.IsLiveCorner, laws.FacetPlanes.IsLevelFacet}
-use Rattle.qh_model.proofs.algebra.{Order.zero_or_not, Signs.at_most_zero, Signs.not_less, Signs.less_differ}
+use Rattle.qh_model.proofs.Common.{◌≡◌, ℕ, refl, subst, ◌∙◌, ap, ◌⊎◌, inl, inr, Bool, true, false, List, ◌∷◌, ⊎_elim, pos, ◌≤ℤ◌, ◌<ℤ◌, ◌↔◌, IsFinished}
+use Rattle.qh_model.proofs.Common.{HasDistinctPoints, Surface, Others, Extreme, IsFacePolygon, In, Members, Supports, OnPlane, Vector, IsLiveCorner}
+use Rattle.qh_model.proofs.Common.{IsLevelFacet}
+use Rattle.qh_model.proofs.{algebra.Order.zero_or_not, surfaces.Finished.facet_area, surfaces.Finished.extremes_are_corners}
+use Rattle.qh_model.proofs.{algebra.Signs.at_most_zero, algebra.Signs.not_less, algebra.Signs.less_differ, surfaces.Inside.finished_with}
 use Rattle.qh_model.proofs.extremes.ExtremeIds.{Listed, listed_itself, listed_part, extremes_between, combination_within}
 use Rattle.qh_model.proofs.extremes.Faces.{extremes_of_face, support_of_extremes}
-use Rattle.qh_model.proofs.surfaces.{Finished.facet_area, Finished.extremes_are_corners, Inside.finished_with}
-use Rattle.qh_laws.specs.contract.{Parts.AreKept, Parts.IsPart, Parts.IsClear, Seam.height_over, Seam.IsBelowAll, Seam.SeesGone, Seam.IsRing}
+use Rattle.qh_laws.specs.contract.Parts.{AreKept, IsPart, IsClear}
+use Rattle.qh_laws.specs.{contract.Seam.height_over, contract.Seam.IsBelowAll, contract.Seam.SeesGone, contract.Seam.IsRing, laws.PointLaws.IsBeside}
 use Rattle.qh_laws.specs.laws.PartLaws.{StrictIsClear, SeamOfOthers, ExtremesAreKept, StayingSupports, StayingHasPolygon}
-use Rattle.qh_laws.specs.laws.PointLaws.{IsBeside}
 use Rattle.qh_laws.proofs.{LevelPoints.sides_hide_rest, LevelPoints.level_point, LevelPoints.level_stay, Rings.ring_hides_rest}
 
 -- proof of the law `ExtremesAreKept`

@@ -1,11 +1,8 @@
 -- A point moved slightly, at a scale of whole numbers, so that finitely many scalar products are positive or not 0.
-use Rattle.std.proofs.Common.{◌≡◌, ℕ, refl, sym, subst, arith, List, [], ◌∷◌, ◌⊎◌, inl, inr}
-use Rattle.std.proofs.lemmas.Int.{ints, by_lt_z}
-use Rattle.std.specs.Prelude.{ℤ, pos, ◌+ℤ◌, ◌*ℤ◌, neg_ℤ, ◌≤ℤ◌, ◌<ℤ◌}
-use Rattle.qh_model.specs.headline.{Sets.In, Vector.Vector, Vector.origin, Vector.dot}
-use Rattle.qh_model.proofs.algebra.Order.{mul-nonneg, mul-le, zero_or_not, le_less}
+use Rattle.qh_model.proofs.Common.{◌≡◌, ℕ, refl, sym, subst, arith, List, [], ◌∷◌, ◌⊎◌, inl, inr, ints, by_lt_z, ℤ, pos, ◌+ℤ◌, ◌*ℤ◌, neg_ℤ, ◌≤ℤ◌, ◌<ℤ◌, In}
+use Rattle.qh_model.proofs.Common.{Vector, origin, dot}
+use Rattle.qh_model.proofs.algebra.{Order.mul-nonneg, Order.mul-le, Order.zero_or_not, Order.le_less, Signs.negated_positive}
 use Rattle.qh_model.proofs.algebra.Ring.{Expr, ring, Expr.var, Expr.add, Expr.mul}
-use Rattle.qh_model.proofs.algebra.Signs.{negated_positive}
 use Rattle.qh_model.proofs.algebra.VectorIdentities.{VE, vec, put, dotE, opposite, dot-opposite}
 use Rattle.qh_model.proofs.{closed_surfaces.Supporting.ceiling, extremes.Directions.square-positive}
 

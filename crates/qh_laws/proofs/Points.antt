@@ -1,10 +1,7 @@
 -- Small sets of points, computed: combinations, extreme ids, distinct ids, dimensions, supporting planes.
-use Rattle.std.proofs.Common.{◌≡◌, ℕ, refl, [], ◌∷◌, arith, inl, inr, ap, subst, sym}
-use Rattle.std.proofs.lemmas.Int.{ints}
-use Rattle.std.specs.Prelude.{pos, negsuc, ◌≤ℤ◌}
-use Rattle.qh_model.specs.contract.Simplex.{one_of}
-use Rattle.qh_model.specs.headline.{Combination.Combination, Dimension.IsDimension, Extreme.Others, Extreme.Extreme, Predicates.cross, Predicates.vol}
-use Rattle.qh_model.specs.headline.{Predicates.left, Sets.Members, SupportingPlane.IsSupportingTriple, Vector.Vector}
+use Rattle.qh_model.proofs.Common.{◌≡◌, ℕ, refl, [], ◌∷◌, arith, inl, inr, ap, subst, sym, ints, pos, negsuc, ◌≤ℤ◌, one_of, Combination, IsDimension, Others}
+use Rattle.qh_model.proofs.Common.{Extreme, cross, vol, Members, IsSupportingTriple, Vector}
+use Rattle.qh_model.specs.headline.Predicates.{left}
 
 -- ---- three points of a line
 abbrev on_line : ℕ → Vector

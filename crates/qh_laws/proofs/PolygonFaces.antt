@@ -1,23 +1,20 @@
 -- A convex polygon along sharp edges is a face: a point in its plane is past none of its sides.
-use Rattle.std.proofs.Common.{◌≡◌, ◌≢◌, ℕ, refl, sym, ap, subst, ◌∙◌, arith, List, [], ◌∷◌, ◌⊎◌, inl, inr}
-use Rattle.std.proofs.lemmas.Int.{ints, by_lt_z}
-use Rattle.std.specs.Prelude.{ℤ, pos, ◌+ℤ◌, ◌-ℤ◌, ◌*ℤ◌, neg_ℤ, ◌≤ℤ◌, ◌<ℤ◌}
-use Rattle.qh_model.specs.{contract.ClosedSurface.Triple, contract.IdSets.HasDistinctPoints, headline.Combination.Combination}
-use Rattle.qh_model.specs.headline.{Extreme.Extreme, Extreme.Others, Polygon.Follows, Polygons.IsFacePolygon, Predicates.cross, Predicates.vol, Predicates.left}
-use Rattle.qh_model.specs.headline.{Sets.In, Sets.Members, SupportingPlane.OnPlane, Vector.Vector, Vector.minus, Vector.cross_product, Vector.dot}
-use Rattle.qh_model.specs.laws.Separator.{Separator}
-use Rattle.qh_model.proofs.algebra.{Integers.zero_mul, Order.cancel-zero, Order.mul-neg_neg, Order.mul-pos_neg, Order.mul-nonneg, Order.mul-nonneg_nonpos}
-use Rattle.qh_model.proofs.algebra.{Order.product_zero, Ring.ring, Ring.Expr.add, Signs.less_le, Signs.negated_positive}
+use Rattle.qh_model.proofs.Common.{◌≡◌, ◌≢◌, ℕ, refl, sym, ap, subst, ◌∙◌, arith, List, [], ◌∷◌, ◌⊎◌, inl, inr, ints, by_lt_z, ℤ, pos, ◌+ℤ◌, ◌-ℤ◌, ◌*ℤ◌, neg_ℤ}
+use Rattle.qh_model.proofs.Common.{◌≤ℤ◌, ◌<ℤ◌, Triple, HasDistinctPoints, Combination, Extreme, Others, Follows, IsFacePolygon, cross, vol, In, Members}
+use Rattle.qh_model.proofs.Common.{OnPlane, Vector, minus, cross_product, dot, Separator}
+use Rattle.qh_model.specs.headline.Predicates.{left}
+use Rattle.qh_model.proofs.{algebra.Integers.zero_mul, extremes.Faces.extremes_of_face}
+use Rattle.qh_model.proofs.algebra.Order.{cancel-zero, mul-neg_neg, mul-pos_neg, mul-nonneg, mul-nonneg_nonpos, product_zero}
+use Rattle.qh_model.proofs.{algebra.Ring.ring, extremes.ExtremeIds.listed_itself, extremes.ExtremeIds.alternative_in, extremes.ExtremeIds.combination_within}
+use Rattle.qh_model.proofs.{algebra.Ring.Expr.add, combinations.Alternatives.all_lower, extremes.Directions.square-positive, polygons.PlaneTurns.level_volume}
+use Rattle.qh_model.proofs.{algebra.Signs.less_le, algebra.Signs.negated_positive, polygons.Neighbours.follows_members, polygons.Neighbours.next_member}
 use Rattle.qh_model.proofs.algebra.VectorIdentities.{vec, put, dotE, vol-linear, dot-minus, opposite, dot-opposite, left-turn, left-flip, in_line-left}
 use Rattle.qh_model.proofs.algebra.VectorIdentities.{in_line-twice, vol-second, vol-third}
-use Rattle.qh_model.proofs.{combinations.Alternatives.all_lower, extremes.Directions.square-positive}
-use Rattle.qh_model.proofs.extremes.{ExtremeIds.listed_itself, ExtremeIds.alternative_in, ExtremeIds.combination_within, Faces.extremes_of_face}
-use Rattle.qh_model.proofs.polygons.{Neighbours.follows_members, Neighbours.next_member, PlaneTurns.level_volume}
 use Rattle.qh_laws.specs.contract.LocallyConvex.{IsRound, HasLowNeighbour, IsSharpEdge, IsSharpPolygon, IsLocallyConvex, HasAllUnder}
 use Rattle.qh_laws.specs.laws.ConvexLaws.{SharpPolygonIsFace}
-use Rattle.qh_laws.proofs.{Convex.member_below, Convex.local_supports, Cycles.in_or_not, Cycles.before_member, Cycles.third_member, Cycles.beyond_volume}
-use Rattle.qh_laws.proofs.{Cycles.none_ahead, Highest.rise, Highest.rise_round, Highest.past_edge, InTriangles.at_corner, NoneAbove.vol-from}
-use Rattle.qh_laws.proofs.{NoneAbove.plusE, OffPoints.plus, Rounds.vol-round, Rounds.vol-outwards, UnderTriangles.above_sum}
+use Rattle.qh_laws.proofs.{Convex.member_below, Convex.local_supports, Highest.rise, Highest.rise_round, Highest.past_edge, NoneAbove.vol-from, NoneAbove.plusE}
+use Rattle.qh_laws.proofs.{Cycles.in_or_not, Cycles.before_member, Cycles.third_member, Cycles.beyond_volume, Cycles.none_ahead, UnderTriangles.above_sum}
+use Rattle.qh_laws.proofs.{InTriangles.at_corner, OffPoints.plus, Rounds.vol-round, Rounds.vol-outwards}
 
 -- the scalar products of a sum
 pub dot-plus : (a b p : Vector) → dot (plus a b) p ≡ dot a p +ℤ dot b p

@@ -1,10 +1,7 @@
 -- The unit square and small lists, computed: polygons, their order and their edges.
-use Rattle.std.proofs.Common.{◌≡◌, ℕ, refl, List, [], ◌∷◌, arith, inl, inr}
-use Rattle.std.proofs.lemmas.Int.{ints}
-use Rattle.std.specs.Prelude.{pos, negsuc, ◌<ℤ◌}
-use Rattle.qh_model.specs.contract.Simplex.{one_of}
-use Rattle.qh_model.specs.headline.{Polygon.Follows, Polygon.TurnsLeft, Polygon.IsPolygon, Polygons.ComesBefore, Polygons.PointsForward, Polygons.IsEdge}
-use Rattle.qh_model.specs.headline.{Predicates.left, Predicates.cross, Sets.Members, Vector.Vector}
+use Rattle.qh_model.proofs.Common.{◌≡◌, ℕ, refl, List, [], ◌∷◌, arith, inl, inr, ints, pos, negsuc, ◌<ℤ◌, one_of, Follows, TurnsLeft, IsPolygon, ComesBefore}
+use Rattle.qh_model.proofs.Common.{PointsForward, IsEdge, cross, Members, Vector}
+use Rattle.qh_model.specs.headline.Predicates.{left}
 use Rattle.qh_model.proofs.{polygons.Cycles.round_holds, surfaces.Simplex.four}
 
 -- ---- the unit square

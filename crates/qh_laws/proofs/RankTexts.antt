@@ -1,9 +1,7 @@
 -- If all outputs are the rank, three numbers determine the text, and the hull need not be computed.
-use Rattle.std.proofs.Common.{◌≡◌, ◌∙◌, ℕ, suc, ◌<◌, ◌++◌, List, [], ◌∷◌, length, refl, ap, sym, arith}
-use Rattle.std.specs.Prelude.{All, decimal}
-use Rattle.qh_model.specs.declared.out.Out.{Out, TheVariants.Rank}
-use Rattle.qh_model.specs.headline.{Dimension.IsDimension, DistinctIds.AreDistinctIds, Hull.HullValue, Predicates.place, Sets.Members, Text.line, Text.spaced}
-use Rattle.qh_model.specs.headline.{Text.rank_text, Text.output_text, Text.hull_text, Text.IsText, Vector.Vector}
+use Rattle.qh_model.proofs.Common.{◌≡◌, ◌∙◌, ℕ, suc, ◌<◌, ◌++◌, List, [], ◌∷◌, length, refl, ap, sym, arith, All, decimal, IsDimension, AreDistinctIds}
+use Rattle.qh_model.proofs.Common.{HullValue, place, Members, line, spaced, output_text, hull_text, IsText, Vector}
+use Rattle.qh_model.specs.{declared.out.Out.Out, declared.out.Out.TheVariants.Rank, headline.Text.rank_text}
 use Rattle.qh_laws.proofs.FoundHulls.{HullOf, rank_is_text}
 
 -- the three numbers of a hull determine its rank

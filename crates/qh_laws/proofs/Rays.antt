@@ -1,11 +1,9 @@
 -- Near a ray that meets or misses each triangle there is a ray that meets the same triangles and is off all planes through z and an edge.
-use Rattle.std.proofs.Common.{◌≡◌, ℕ, refl, sym, ap, subst, ◌∙◌, arith, List, [], ◌∷◌, ◌++◌, Bool, true, false, ◌⊎◌, inl, inr, ⊎_elim}
-use Rattle.std.proofs.lemmas.{Bool.and_parts, Bool.and_from, Bool.and_left, Bool.and_right, Int.ints}
-use Rattle.std.specs.Prelude.{ℤ, pos, neg_ℤ, ◌<ℤ◌}
-use Rattle.qh_model.specs.contract.ClosedSurface.{Triple}
-use Rattle.qh_model.specs.headline.{Predicates.cross, Predicates.vol, Sets.In, Vector.Vector, Vector.minus, Vector.dot}
-use Rattle.qh_model.proofs.algebra.{Signs.less_le, Signs.negated_positive, VectorIdentities.opposite, VectorIdentities.dot-opposite, VectorIdentities.vol-dot}
-use Rattle.qh_model.proofs.{closed_surfaces.Sums.count, lists.Joined.in_append, lists.Joined.of_append}
+use Rattle.qh_model.proofs.Common.{◌≡◌, ℕ, refl, sym, ap, subst, ◌∙◌, arith, List, [], ◌∷◌, ◌++◌, Bool, true, false, ◌⊎◌, inl, inr, ⊎_elim, and_parts, and_from}
+use Rattle.qh_model.proofs.Common.{ints, ℤ, pos, neg_ℤ, ◌<ℤ◌, Triple, cross, vol, In, Vector, minus, dot}
+use Rattle.std.proofs.lemmas.Bool.{and_left, and_right}
+use Rattle.qh_model.proofs.{algebra.Signs.less_le, algebra.Signs.negated_positive, closed_surfaces.Sums.count, lists.Joined.in_append, lists.Joined.of_append}
+use Rattle.qh_model.proofs.algebra.VectorIdentities.{opposite, dot-opposite, vol-dot}
 use Rattle.qh_laws.specs.contract.LocallyConvex.{is_met, IsMissed}
 use Rattle.qh_laws.proofs.{OffPoints.plus, OffPoints.edge_above, OffPoints.vol-plus, Perturbed.AllUp, Signs.above, Signs.above_is, Signs.not_above}
 

@@ -1,11 +1,8 @@
 -- Small point files, computed: their words, numbers, points and first faults.
-use Rattle.std.proofs.Common.{◌≡◌, ℕ, refl, List, [], ◌∷◌, ◌++◌, inl, false, true}
-use Rattle.std.proofs.lemmas.Bool.{leb-true}
-use Rattle.std.specs.Prelude.{pos, negsuc, Some, None, codes}
+use Rattle.qh_model.proofs.Common.{◌≡◌, ℕ, refl, List, [], ◌∷◌, ◌++◌, inl, false, true, leb-true, pos, negsuc, Some, None, codes, first_fault, first_fault_in}
+use Rattle.qh_model.proofs.Common.{number_of, Reads, Vector, Word, data_words, is_blank, is_data}
 use Rattle.qh_model.specs.declared.form.Form.TheVariants.{Qhull}
 use Rattle.qh_model.specs.declared.read_fault.ReadFault.TheVariants.{NoHeader, BadNumber, NotThree, Count, Range, Long, Short}
-use Rattle.qh_model.specs.headline.{FileFault.first_fault, Forms.first_fault_in, Numbers.number_of, PointFile.Reads, Vector.Vector}
-use Rattle.qh_model.specs.headline.Words.{Word, data_words, is_blank, is_data}
 use Rattle.qh_laws.proofs.Tables.{Shows}
 
 -- ---- a point file with comments

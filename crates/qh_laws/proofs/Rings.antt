@@ -1,13 +1,9 @@
 -- The facets that a point sees are connected, so a ring hides the facets inside it.
-use Rattle.std.proofs.Common.{◌≡◌, ℕ, refl, ◌∙◌, ap, Bool, true, false}
-use Rattle.std.proofs.lemmas.Bool.{both_ways, not-true}
-use Rattle.std.specs.Prelude.{pos, ◌≤ℤ◌, not}
-use Rattle.qh_model.specs.contract.{FinishedSurface.weighted_at, FinishedSurface.middle_at, SoundSurface.IsSound}
-use Rattle.qh_model.specs.contract.Surface.{Side, Surface, IsWhole, rise, Sees}
-use Rattle.qh_model.specs.{contract.Weighted.Weighted, contract.Weighted.weighted, headline.Sets.In, laws.Horizons.IsWalked}
+use Rattle.qh_model.proofs.Common.{◌≡◌, ℕ, refl, ◌∙◌, ap, Bool, true, false, both_ways, not-true, pos, ◌≤ℤ◌, not, weighted_at, middle_at, IsSound, Side}
+use Rattle.qh_model.proofs.Common.{Surface, IsWhole, rise, Sees, Weighted, weighted, In, IsWalked}
 use Rattle.qh_model.proofs.{algebra.Signs.at_most_zero, algebra.Signs.not_less, surfaces.SurfaceLaws.walk_finds_all}
 use Rattle.qh_laws.specs.{contract.Seam.IsRing, laws.PointLaws.RingHidesRest}
-use Rattle.qh_laws.proofs.{Heights.blind_rise, Heights.blind_height, Heights.seen_rise}
+use Rattle.qh_laws.proofs.Heights.{blind_rise, blind_height, seen_rise}
 
 -- a walk over the facets that p sees reaches a facet that stays from one that does not stay only through the ring
 ring_hides : (m : Surface) (home : ℕ → Weighted) (o : Weighted) → IsWhole m → IsSound m home o → (stay : ℕ → Bool) (p : Weighted)

@@ -1,8 +1,7 @@
 -- The text of a square with another point in it: written, read, and written again.
-use Rattle.std.proofs.Common.{◌≡◌, ℕ, refl, List, [], ◌∷◌, ◌++◌, arith}
-use Rattle.std.specs.{Fmt.digits, Prelude.pos, Prelude.codes}
+use Rattle.qh_model.proofs.Common.{◌≡◌, ℕ, refl, List, [], ◌∷◌, ◌++◌, arith, pos, codes, HullValue, ReadsOff, place, line, hull_text, Vector, on_line}
+use Rattle.std.specs.Fmt.{digits}
 use Rattle.qh_model.specs.declared.out.Out.TheVariants.{Off}
-use Rattle.qh_model.specs.headline.{Hull.HullValue, OffFile.ReadsOff, Predicates.place, Text.line, Text.hull_text, Vector.Vector, Words.on_line}
 use Rattle.qh_laws.proofs.Texts.{point, square_corners, square}
 
 -- the text of the square: the point in the middle has no line, so vertex 0 is point 1

@@ -1,8 +1,6 @@
 -- The signs round one triangle with z below it: those of its edges and corners with d and x.
-use Rattle.std.proofs.Common.{◌≡◌, refl, ap, ◌∙◌, arith, [], Bool, true, ⊎_elim}
-use Rattle.std.proofs.lemmas.{Bool.and_from, Int.ints}
-use Rattle.std.specs.Prelude.{ℤ, pos, ◌+ℤ◌, ◌-ℤ◌, ◌*ℤ◌, neg_ℤ, ◌<ℤ◌}
-use Rattle.qh_model.specs.headline.{Predicates.cross, Predicates.vol, Vector.Vector, Vector.minus}
+use Rattle.qh_model.proofs.Common.{◌≡◌, refl, ap, ◌∙◌, arith, [], Bool, true, ⊎_elim, and_from, ints, ℤ, pos, ◌+ℤ◌, ◌-ℤ◌, ◌*ℤ◌, neg_ℤ, ◌<ℤ◌, cross, vol, Vector}
+use Rattle.qh_model.proofs.Common.{minus}
 use Rattle.qh_model.proofs.algebra.{Order.zero_product, Ring.ring, Ring.ring_zero, Ring.Expr.add, Ring.Expr.sub as less, Ring.Expr.mul, Ring.Expr.neg}
 use Rattle.qh_model.proofs.algebra.{Signs.negated_positive, VectorIdentities.vec, VectorIdentities.put, VectorIdentities.volE, VectorIdentities.detE}
 use Rattle.qh_laws.proofs.Crossings.{signs_fit}

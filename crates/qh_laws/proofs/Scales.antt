@@ -1,10 +1,8 @@
 -- Hulls at another scale.
-use Rattle.std.proofs.Common.{◌≡◌, ℕ, ◌<◌, refl, sym, ap, subst, ◌∙◌, arith, List}
-use Rattle.std.proofs.lemmas.Int.{ints}
-use Rattle.std.specs.Prelude.{ℤ, pos, ◌*ℤ◌, ◌≤ℤ◌, ◌<ℤ◌, ◌↔◌}
-use Rattle.qh_model.specs.{contract.ClosedSurface.Triple, contract.IdSets.HasDistinctPoints, headline.Combination.Combination, headline.Combination.IsBalanced}
-use Rattle.qh_model.specs.headline.{Extreme.Extreme, Extreme.Others, Polygons.IsFacePolygon, Polygons.AreFaces, Predicates.cross, Predicates.vol}
-use Rattle.qh_model.specs.headline.{Predicates.left, Predicates.AreInLine, Sets.Members, SupportingPlane.IsSupportingTriple, Vector.Vector, Vector.origin}
+use Rattle.qh_model.proofs.Common.{◌≡◌, ℕ, ◌<◌, refl, sym, ap, subst, ◌∙◌, arith, List, ints, ℤ, pos, ◌*ℤ◌, ◌≤ℤ◌, ◌<ℤ◌, ◌↔◌, Triple, HasDistinctPoints}
+use Rattle.qh_model.proofs.Common.{Combination, IsBalanced, Extreme, Others, IsFacePolygon, AreFaces, cross, vol, AreInLine, Members, IsSupportingTriple}
+use Rattle.qh_model.proofs.Common.{Vector, origin}
+use Rattle.qh_model.specs.headline.Predicates.{left}
 use Rattle.qh_model.proofs.algebra.Order.{mul-pos, mul-pos_neg, mul-nonneg_nonpos, cancel-pos, cancel-nonpos, cancel-zero, product_zero}
 use Rattle.qh_model.proofs.{algebra.Signs.less_le, algebra.VectorIdentities.vector_path, closed_surfaces.Beyond.scaled, closed_surfaces.Beyond.cross-scaled}
 use Rattle.qh_laws.proofs.ScaledPoints.{volume_scaled, left-scaled, balanced_up, cancel-both, balanced_down}

@@ -1,6 +1,5 @@
 -- Signs of whole numbers as tests, and the possible signs round a triangle.
-use Rattle.std.proofs.{Common.◌≡◌, Common.arith, Common.refl, Common.Bool, Common.true, Common.false, Common.not, Common.◌&&◌, Common.◌||◌, lemmas.Int.ints}
-use Rattle.std.specs.Prelude.{ℤ, pos, ◌+ℤ◌, ◌-ℤ◌, ◌*ℤ◌, neg_ℤ, int_lt, ◌≤ℤ◌, ◌<ℤ◌}
+use Rattle.qh_model.proofs.Common.{◌≡◌, arith, refl, Bool, true, false, not, ◌&&◌, ◌||◌, ints, ℤ, pos, ◌+ℤ◌, ◌-ℤ◌, ◌*ℤ◌, neg_ℤ, int_lt, ◌≤ℤ◌, ◌<ℤ◌}
 use Rattle.qh_model.proofs.algebra.Order.{mul-pos, mul-pos_neg, mul-neg_pos, mul-neg_neg, le_less, neg-positive, negative_le}
 
 -- true if a number is above 0

@@ -1,7 +1,5 @@
 -- Boxes with a slab: a bound along one direction from bounds along two.
-use Rattle.std.proofs.{Common.◌≡◌, Common.refl, Common.[], Common.◌∷◌, Common.arith, lemmas.Int.ints}
-use Rattle.std.specs.Prelude.{ℤ, ◌+ℤ◌, ◌*ℤ◌, ◌≤ℤ◌, ◌<ℤ◌}
-use Rattle.qh_model.specs.headline.Vector.{Vector, dot}
+use Rattle.qh_model.proofs.Common.{◌≡◌, refl, [], ◌∷◌, arith, ints, ℤ, ◌+ℤ◌, ◌*ℤ◌, ◌≤ℤ◌, ◌<ℤ◌, Vector, dot}
 use Rattle.qh_model.proofs.algebra.{Order.mul-le, Ring.Expr, Ring.ring, Ring.Expr.var, Ring.Expr.add, Ring.Expr.sub as less, Ring.Expr.mul}
 use Rattle.qh_model.proofs.algebra.VectorIdentities.{vec, dotE, put, VE}
 use Rattle.qh_laws.specs.laws.PointLaws.{less_times, SlabIsBelow}

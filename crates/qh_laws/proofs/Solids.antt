@@ -1,12 +1,9 @@
 -- Sharp polygons that close up are the faces of a solid.
-use Rattle.std.proofs.Common.{◌≡◌, ℕ, refl, sym, List, [], ◌∷◌, inl, inr}
-use Rattle.std.specs.Prelude.{pos}
-use Rattle.qh_model.specs.contract.{ClosedPolygons.IsFace, ClosedSurface.Triple, ClosedSurface.IsClosedSurface, IdSets.HasDistinctPoints}
-use Rattle.qh_model.specs.headline.{Dimension.IsDimension, Extreme.Extreme, Polygon.Follows, Polygons.IsFacePolygon, Predicates.vol, Sets.In, Sets.Members}
-use Rattle.qh_model.specs.headline.{SupportingPlane.IsSupportingTriple, Vector.Vector}
-use Rattle.qh_model.specs.laws.ClosedFaceLaws.{AreSupporting, TriangleOfPlane}
-use Rattle.qh_model.proofs.{algebra.Signs.less_differ, closed_surfaces.Supporting.closed_miss_no_plane, closed_surfaces.Supporting.closed_miss_no_extreme}
-use Rattle.qh_model.proofs.polygons.{ClosedFaces.closed_faces_are_all, Edges.seen_from, Neighbours.next_member}
+use Rattle.qh_model.proofs.Common.{◌≡◌, ℕ, refl, sym, List, [], ◌∷◌, inl, inr, pos, IsFace, Triple, IsClosedSurface, HasDistinctPoints, IsDimension, Extreme}
+use Rattle.qh_model.proofs.Common.{Follows, IsFacePolygon, vol, In, Members, IsSupportingTriple, Vector, AreSupporting}
+use Rattle.qh_model.specs.laws.ClosedFaceLaws.{TriangleOfPlane}
+use Rattle.qh_model.proofs.{algebra.Signs.less_differ, polygons.ClosedFaces.closed_faces_are_all, polygons.Edges.seen_from}
+use Rattle.qh_model.proofs.{closed_surfaces.Supporting.closed_miss_no_plane, closed_surfaces.Supporting.closed_miss_no_extreme, polygons.Neighbours.next_member}
 use Rattle.qh_laws.specs.contract.LocallyConvex.{IsRound, IsSharpEdge, ArePolygonsOf, IsLocallyConvex, HasAllUnder}
 use Rattle.qh_laws.specs.laws.ConvexLaws.{SharpPolygonsAreFaces, SharpIsSolid, TrianglePolygonsAreFaces, TrianglePolygonsHaveExtremes}
 use Rattle.qh_laws.proofs.{Convex.local_supports, Cycles.third_member, PolygonFaces.sharp_polygon_is_face}

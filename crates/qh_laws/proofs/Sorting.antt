@@ -1,7 +1,5 @@
 -- Insertion sort: the members of a list, each before the next.
-use Rattle.std.proofs.Common.{◌≡◌, ◌∙◌, List, [], ◌∷◌, ◌⊎◌, inl, inr, ⊎_elim, refl}
-use Rattle.std.specs.Prelude.{◌↔◌}
-use Rattle.qh_model.specs.headline.Sets.{In}
+use Rattle.qh_model.proofs.Common.{◌≡◌, ◌∙◌, List, [], ◌∷◌, ◌⊎◌, inl, inr, ⊎_elim, refl, ◌↔◌, In}
 
 -- one element comes before the other, or they are equal
 abbrev pub Compare : {X : Type 0} → (X → X → Type 0) → X → X → Type 0

@@ -1,8 +1,7 @@
 -- The texts of the hulls of a tetrahedron and of a square, computed.
-use Rattle.std.proofs.Common.{◌≡◌, ℕ, refl, List, [], ◌∷◌, ◌++◌}
-use Rattle.std.specs.{Fmt.digits, Prelude.pos, Prelude.codes}
+use Rattle.qh_model.proofs.Common.{◌≡◌, ℕ, refl, List, [], ◌∷◌, ◌++◌, pos, codes, HullValue, place, line, hull_text, vertex_number, Vector}
+use Rattle.std.specs.Fmt.{digits}
 use Rattle.qh_model.specs.declared.out.Out.TheVariants.{Rank, Fx, Off, OffTriangles}
-use Rattle.qh_model.specs.headline.{Hull.HullValue, Predicates.place, Text.line, Text.hull_text, Text.vertex_number, Vector.Vector}
 
 abbrev pub point : ℕ → ℕ → ℕ → Vector
 point x y z = record { x = pos x; y = pos y; z = pos z }

@@ -1,11 +1,9 @@
 -- Any tree over the parts of a list of points results in the extreme ids of the list, and their hull is that of all points.
-use Rattle.std.proofs.Common.{◌≡◌, ◌≢◌, ℕ, ◌<◌, List, length, arith, sym, subst, ◌∙◌, ◌⊎◌, inl, inr}
-use Rattle.std.specs.List.Sorted.{IsStrictlyIncreasing}
-use Rattle.qh_model.specs.headline.{Combination.Combination, DistinctIds.AreDistinctIds, Extreme.Extreme, Extreme.Others, Hull.AreExtremes, Predicates.place}
-use Rattle.qh_model.specs.headline.{Sets.In, Sets.Members, Vector.Vector}
-use Rattle.qh_model.proofs.{Decisions.Decided, Decisions.in_or_not, DistinctIds.distinct_apart, combinations.OtherNames.combination_by_names}
-use Rattle.qh_model.proofs.extremes.ExtremeIds.{combination_within, members_are_combinations}
-use Rattle.qh_model.proofs.hulls.{SameSets.body_of_part, Unique.rising_list_is_unique, Unique.body_is_unique}
+use Rattle.qh_model.proofs.Common.{◌≡◌, ◌≢◌, ℕ, ◌<◌, List, length, arith, sym, subst, ◌∙◌, ◌⊎◌, inl, inr, IsStrictlyIncreasing, Combination, AreDistinctIds}
+use Rattle.qh_model.proofs.Common.{Extreme, Others, AreExtremes, place, In, Members, Vector}
+use Rattle.qh_model.proofs.{Decisions.Decided, Decisions.in_or_not, DistinctIds.distinct_apart, hulls.Unique.rising_list_is_unique, hulls.Unique.body_is_unique}
+use Rattle.qh_model.proofs.{combinations.OtherNames.combination_by_names, extremes.ExtremeIds.combination_within, extremes.ExtremeIds.members_are_combinations}
+use Rattle.qh_model.proofs.hulls.SameSets.{body_of_part}
 use Rattle.qh_laws.specs.laws.TreeLaws.{Tree, part, join, extremes, IsGiven, IsUnion, ComesOut, AnyTreeOfUnions, HullOfAnyTree}
 use Rattle.qh_laws.proofs.{Answers.IsLowest, Answers.answer_is, Lowest.lowest_id}
 

@@ -1,9 +1,7 @@
 -- A triangle with its neighbours strictly below it is a face: a polygon of three sides.
-use Rattle.std.proofs.Common.{◌≡◌, ◌≢◌, ℕ, ◌<◌, ◌≤◌, refl, sym, ap, subst, ◌∙◌, arith, List, [], ◌∷◌, inl, inr}
-use Rattle.std.proofs.lemmas.Int.{ints}
-use Rattle.std.specs.Prelude.{pos, ◌<ℤ◌}
-use Rattle.qh_model.specs.contract.ClosedSurface.{Triple}
-use Rattle.qh_model.specs.headline.{Polygon.Follows, Polygon.TurnsLeft, Predicates.cross, Predicates.left, Predicates.AreInLine, Sets.In, Vector.Vector}
+use Rattle.qh_model.proofs.Common.{◌≡◌, ◌≢◌, ℕ, ◌<◌, ◌≤◌, refl, sym, ap, subst, ◌∙◌, arith, List, [], ◌∷◌, inl, inr, ints, pos, ◌<ℤ◌, Triple, Follows}
+use Rattle.qh_model.proofs.Common.{TurnsLeft, cross, AreInLine, In, Vector}
+use Rattle.qh_model.specs.headline.Predicates.{left}
 use Rattle.qh_model.proofs.algebra.VectorIdentities.{left-turn, left-dot, in_line-vol, in_line-last, vol-first}
 use Rattle.qh_model.proofs.extremes.Directions.{square-positive}
 use Rattle.qh_laws.specs.contract.LocallyConvex.{IsRound, HasLowNeighbour, IsSharpAround, IsSharpEdge, IsSharpPolygon}

@@ -1,10 +1,8 @@
 -- A point under a triangle of a surface, in its cone from z, is above no triangle with z and the corners below it.
-use Rattle.std.proofs.{Common.◌≡◌, Common.refl, Common.ap, Common.◌∙◌, Common.arith, Common.[], Common.◌∷◌, lemmas.Int.ints}
-use Rattle.std.specs.Prelude.{ℤ, pos, ◌+ℤ◌, ◌-ℤ◌, ◌*ℤ◌, neg_ℤ, ◌≤ℤ◌, ◌<ℤ◌}
-use Rattle.qh_model.specs.headline.{Predicates.cross, Predicates.vol, Vector.Vector, Vector.minus, Vector.dot}
-use Rattle.qh_model.proofs.algebra.{Integers.mul_add, Order.mul-nonneg_nonpos, Order.cancel-nonpos, Ring.ring}
+use Rattle.qh_model.proofs.Common.{◌≡◌, refl, ap, ◌∙◌, arith, [], ◌∷◌, ints, ℤ, pos, ◌+ℤ◌, ◌-ℤ◌, ◌*ℤ◌, neg_ℤ, ◌≤ℤ◌, ◌<ℤ◌, cross, vol, Vector, minus, dot}
+use Rattle.qh_model.proofs.algebra.{Integers.mul_add, Order.mul-nonneg_nonpos, Order.cancel-nonpos}
+use Rattle.qh_model.proofs.algebra.{Ring.ring, VectorIdentities.vec, VectorIdentities.put, VectorIdentities.volE, VectorIdentities.detE, VectorIdentities.dotE}
 use Rattle.qh_model.proofs.algebra.Ring.Expr.{var, add, sub as less, mul, neg}
-use Rattle.qh_model.proofs.algebra.VectorIdentities.{vec, put, volE, detE, dotE}
 use Rattle.qh_laws.proofs.NoneAbove.{vol-from}
 
 -- p in terms of the corners, seen from z, along any n

@@ -1,16 +1,14 @@
 -- A triangle that is highest along a direction, relative to its distance from z, is met in that direction: a walk over the highest triangles, from a place
 -- inside one of them, reaches it.
-use Rattle.std.proofs.Common.{◌≡◌, ℕ, refl, sym, ap, subst, ◌∙◌, arith, List, [], ◌∷◌, Bool, true, false, not, ◌&&◌, ◌⊎◌, inl, inr}
-use Rattle.std.proofs.lemmas.{Bool.and_parts, Int.ints}
-use Rattle.std.specs.Prelude.{ℤ, pos, ◌-ℤ◌, ◌*ℤ◌, neg_ℤ, ◌<ℤ◌}
-use Rattle.qh_model.specs.{contract.ClosedSurface.Triple, contract.ClosedSurface.edges, headline.Predicates.vol, headline.Sets.In, headline.Vector.Vector}
-use Rattle.qh_model.proofs.algebra.{Integers.mul_comm, Order.mul-pos, Order.mul-pos_neg, Order.neg-positive, Ring.ring, Ring.Expr.var}
-use Rattle.qh_model.proofs.algebra.{Ring.Expr.mul, Ring.Expr.neg, Signs.equal_negative}
+use Rattle.qh_model.proofs.Common.{◌≡◌, ℕ, refl, sym, ap, subst, ◌∙◌, arith, List, [], ◌∷◌, Bool, true, false, not, ◌&&◌, ◌⊎◌, inl, inr, and_parts, ints, ℤ}
+use Rattle.qh_model.proofs.Common.{pos, ◌-ℤ◌, ◌*ℤ◌, neg_ℤ, ◌<ℤ◌, Triple, edges, vol, In, Vector}
+use Rattle.qh_model.proofs.algebra.{Integers.mul_comm, Ring.ring}
+use Rattle.qh_model.proofs.algebra.{Order.mul-pos, Order.mul-pos_neg, Order.neg-positive, Ring.Expr.var, Ring.Expr.mul, Ring.Expr.neg, Signs.equal_negative}
 use Rattle.qh_laws.specs.contract.LocallyConvex.{IsRound, HasLowNeighbour, IsConvexAround, is_met}
-use Rattle.qh_laws.proofs.{Ascents.Next, Ascents.ascent, Crossings.signs_fit, Crossings.GoesOn, Crossings.goes_on, Crossings.Begins, Crossings.begins}
-use Rattle.qh_laws.proofs.{Directions.IsOffEdges, Greatest.IsGreatest, Highest.rise, Highest.rise_round, Highest.depth, Highest.height}
-use Rattle.qh_laws.proofs.{Highest.HighestMet, Highest.neighbour_greatest, Highest.round_next, Highest.edge_of, Rounds.round_fits, Rounds.flip_round}
-use Rattle.qh_laws.proofs.{Rounds.turn_product, Rounds.vol-round, Rounds.vol-outwards, Signs.above, Signs.above_is, Signs.below_is, Signs.above-neg}
+use Rattle.qh_laws.proofs.{Ascents.Next, Ascents.ascent, Rounds.round_fits, Rounds.flip_round, Rounds.turn_product, Rounds.vol-round, Rounds.vol-outwards}
+use Rattle.qh_laws.proofs.{Crossings.signs_fit, Crossings.GoesOn, Crossings.goes_on, Crossings.Begins, Crossings.begins, Directions.IsOffEdges}
+use Rattle.qh_laws.proofs.{Greatest.IsGreatest, Signs.above, Signs.above_is, Signs.below_is, Signs.above-neg}
+use Rattle.qh_laws.proofs.Highest.{rise, rise_round, depth, height, HighestMet, neighbour_greatest, round_next, edge_of}
 
 -- ---- the walk from q to x over triangles that are highest at x
 module _ (at : ℕ → Vector) (z : Vector) (ts : List Triple) (inside : (t : Triple) → In t ts → vol (at t.i) (at t.j) (at t.k) z <ℤ pos 0)

@@ -1,8 +1,5 @@
 -- The areas of the pieces in the plane of a face add up to that of the face.
-use Rattle.std.proofs.Common.{◌≡◌, ℕ, arith, sym, ◌∙◌, List, [], ◌∷◌}
-use Rattle.std.proofs.lemmas.Int.{ints}
-use Rattle.std.specs.Prelude.{filter, pos}
-use Rattle.qh_model.specs.headline.{Predicates.cross, Vector.Vector, Vector.dot}
+use Rattle.qh_model.proofs.Common.{◌≡◌, ℕ, arith, sym, ◌∙◌, List, [], ◌∷◌, ints, filter, pos, cross, Vector, dot}
 use Rattle.qh_model.proofs.algebra.VectorIdentities.{vector_path, left-dot, dot-origin}
 use Rattle.qh_model.proofs.closed_surfaces.Sums.{sum_z}
 use Rattle.qh_laws.proofs.PolygonFaces.{dot-plus}

@@ -1,9 +1,6 @@
 -- Closed paths over the corners of a polygon. If they take no reversed side, and each other step as often as the step back, they take all sides equally often.
-use Rattle.std.proofs.Common.{◌≡◌, ℕ, ◌≤◌, arith, refl, sym, subst, ◌∙◌, inl, inr, ⊎_elim, List, [], ◌∷◌, false, cond, eqb}
-use Rattle.std.proofs.lemmas.{Bool.cases_Bool, Bool.eqb-true, Int.ints}
-use Rattle.std.specs.{List.flat_map, Prelude.ℤ, Prelude.pos, Prelude.◌+ℤ◌, Prelude.◌-ℤ◌}
-use Rattle.qh_model.specs.headline.Polygon.{FollowsAlong, Follows}
-use Rattle.qh_model.specs.contract.{ClosedPolygons.steps_along, ClosedPolygons.steps_round, ClosedSurface.is_edge}
+use Rattle.qh_model.proofs.Common.{◌≡◌, ℕ, ◌≤◌, arith, refl, sym, subst, ◌∙◌, inl, inr, ⊎_elim, List, [], ◌∷◌, false, cond, eqb, cases_Bool, eqb-true, ints}
+use Rattle.qh_model.proofs.Common.{flat_map, ℤ, pos, ◌+ℤ◌, ◌-ℤ◌, FollowsAlong, Follows, steps_along, steps_round, is_edge}
 use Rattle.qh_model.proofs.{Decisions.Decided, closed_surfaces.SignedVolume.edge_tests, closed_surfaces.SignedVolume.eqb-refl, closed_surfaces.Sums.sum_z}
 use Rattle.qh_laws_surface.proofs.StepCounts.{alike_tests, times, pair_ends, Beside, follows_or_not, IsOdd, sum-append, sum_off, lead, lead-odd}
 

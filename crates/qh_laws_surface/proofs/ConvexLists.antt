@@ -1,15 +1,12 @@
 -- Lists of corners of which each three, in order, turn left. Polygons are lists of this kind, beginning at any of their corners, and so are lists that go round
 -- some of their corners.
-use Rattle.std.proofs.Common.{◌≡◌, ℕ, arith, refl, [], ◌≢◌, ◌+◌, sym, ap, subst, ◌∙◌, inl, inr, ⊎_elim, ◌⊎◌, List, ◌∷◌, ◌++◌, take, drop, append_assoc}
-use Rattle.std.proofs.Common.{append-nil}
-use Rattle.std.proofs.lemmas.{Int.ints, List.take-append-drop, List.drop_more}
-use Rattle.std.specs.Prelude.{pos, ◌+ℤ◌, ◌*ℤ◌, ◌≤ℤ◌, ◌<ℤ◌}
-use native.Mathlib.Decide.{ℕ_discrete}
-use Rattle.qh_model.specs.headline.{Predicates.cross, Predicates.left, Sets.In, Sets.Once, Vector.Vector, Vector.minus}
-use Rattle.qh_model.specs.headline.Polygon.{FollowsAlong, Follows, TurnsLeft, IsPolygon}
-use Rattle.qh_model.proofs.{Decisions.Decided, Decisions.same_id, lists.Joined.in_append, lists.Joined.of_append, lists.Ordered.Ordered}
-use Rattle.qh_model.proofs.polygons.Cycles.{AlongPath, AroundCycle, round_told}
-use Rattle.qh_model.proofs.algebra.{Order.mul-pos, Order.mul-nonneg, Order.cancel-pos, Order.positive_le, Ring.ring, Ring.Expr, Ring.Expr.add, Ring.Expr.mul}
+use Rattle.qh_model.proofs.Common.{◌≡◌, ℕ, arith, refl, [], ◌≢◌, ◌+◌, sym, ap, subst, ◌∙◌, inl, inr, ⊎_elim, ◌⊎◌, List, ◌∷◌, ◌++◌, take, drop, append_assoc}
+use Rattle.qh_model.proofs.Common.{append-nil, ints, take-append-drop, drop_more, pos, ◌+ℤ◌, ◌*ℤ◌, ◌≤ℤ◌, ◌<ℤ◌, ℕ_discrete, cross, In, Once, Vector, minus}
+use Rattle.qh_model.proofs.Common.{FollowsAlong, Follows, TurnsLeft, IsPolygon}
+use Rattle.qh_model.specs.headline.Predicates.{left}
+use Rattle.qh_model.proofs.{Decisions.Decided, Decisions.same_id, algebra.Ring.ring, algebra.Ring.Expr, algebra.Ring.Expr.add, algebra.Ring.Expr.mul}
+use Rattle.qh_model.proofs.{lists.Joined.in_append, lists.Joined.of_append, polygons.Cycles.AlongPath, polygons.Cycles.AroundCycle, polygons.Cycles.round_told}
+use Rattle.qh_model.proofs.{lists.Ordered.Ordered, algebra.Order.mul-pos, algebra.Order.mul-nonneg, algebra.Order.cancel-pos, algebra.Order.positive_le}
 use Rattle.qh_model.proofs.algebra.VectorIdentities.{vec, put, dotE, crossE, left-turn, left-flip, in_line-left, in_line-last}
 use Rattle.qh_check.specs.contract.Pieces.{IsMetAlong, IsMetRound}
 

@@ -1,21 +1,18 @@
 -- Each spot of a face that lies on no line through two of its corners is covered by one piece.
-use Rattle.std.proofs.Common.{◌≡◌, ℕ, ◌+◌, arith, refl, sym, ap, subst, ◌∙◌, inl, inr, List, [], ◌∷◌, Bool, true, false, cond}
-use Rattle.std.proofs.lemmas.{Bool.false_from_ne_true, Bool.cases_Bool, Bool.and_parts, Int.ints, Bool.Decides.Decides-int_eq}
-use Rattle.std.specs.{List.flat_map, Ordering.int_eq, Prelude.filter, Prelude.count_by, Prelude.pos}
-use Rattle.qh_model.specs.{contract.ClosedPolygons.steps_round, headline.Predicates.cross, headline.Predicates.vol, headline.Sets.In, headline.Sets.Members}
-use Rattle.qh_model.specs.{headline.Vector.Vector, laws.FaceLaws.IsAlong}
-use Rattle.qh_model.proofs.{algebra.VectorIdentities.vol-first, closed_surfaces.Sums.sum_z, closed_surfaces.Sums.count, closed_surfaces.Sums.count-is}
-use Rattle.qh_model.proofs.extremes.Directions.{along_back, zero_along, vol_along}
+use Rattle.qh_model.proofs.Common.{◌≡◌, ℕ, ◌+◌, arith, refl, sym, ap, subst, ◌∙◌, inl, inr, List, [], ◌∷◌, Bool, true, false, cond, false_from_ne_true}
+use Rattle.qh_model.proofs.Common.{cases_Bool, and_parts, ints, Decides-int_eq, flat_map, int_eq, filter, count_by, pos, steps_round, cross, vol, In, Members}
+use Rattle.qh_model.proofs.Common.{Vector, IsAlong}
+use Rattle.qh_model.proofs.{algebra.VectorIdentities.vol-first, extremes.Directions.along_back, extremes.Directions.zero_along, extremes.Directions.vol_along}
+use Rattle.qh_model.proofs.closed_surfaces.Sums.{sum_z, count, count-is}
 use Rattle.qh_laws.proofs.{Crossings.number, Signs.above}
 use Rattle.qh_check.specs.contract.Surfaces.{IsFaceSurface}
-use Rattle.qh_laws_surface.specs.contract.Measures.{lies_in}
-use Rattle.qh_laws_surface.specs.contract.Covering.{Spot, spot_height, spot_turn, covers, IsOffLines}
-use Rattle.qh_laws_surface.proofs.{ConvexLists.AllTurn, ConvexLists.polygon_turns, FaceWays.goes_round_once, HullSurface.corner_triple, HullSurface.corner_face}
-use Rattle.qh_laws_surface.proofs.{SharedCorners.same_face, SharedCorners.same_plane, StepCounts.sum-append}
+use Rattle.qh_laws_surface.specs.contract.{Measures.lies_in, Covering.Spot, Covering.spot_height, Covering.spot_turn, Covering.covers, Covering.IsOffLines}
+use Rattle.qh_laws_surface.proofs.{ConvexLists.AllTurn, ConvexLists.polygon_turns, SpotTriangles.over, SpotTriangles.over-odd}
+use Rattle.qh_laws_surface.proofs.{FaceWays.goes_round_once, SpotHeights.along_height, SpotHeights.above_along, SpotHeights.off_line, SpotHeights.all_level}
+use Rattle.qh_laws_surface.proofs.{HullSurface.corner_triple, HullSurface.corner_face, SharedCorners.same_face, SharedCorners.same_plane, StepCounts.sum-append}
 use Rattle.qh_laws_surface.proofs.PlanePieces.{PieceOf, normal, has_i, has_j, has_k, OverFace, on, all_alike, lies_level, parts, piece, part_member, part_turns}
-use Rattle.qh_laws_surface.proofs.{PlanePieces.of_face, PlanePieces.in_parts, SpotTriangles.over, SpotTriangles.over-odd}
+use Rattle.qh_laws_surface.proofs.PlanePieces.{of_face, in_parts}
 use Rattle.qh_laws_surface.proofs.SpotFans.{Off, covered, covers_along, round_over, all_left, InTriangle, in_triangle}
-use Rattle.qh_laws_surface.proofs.SpotHeights.{along_height, above_along, off_line, all_level}
 
 -- a spot that a piece covers lies in its plane
 pub covers_height : {at : ℕ → Vector} {A : ℕ → Type 0} {q : List ℕ} (p : PieceOf at A q) (s : Spot)

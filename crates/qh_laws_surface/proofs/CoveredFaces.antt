@@ -1,15 +1,12 @@
 -- The pieces of a surface of a solid cover each face once.
-use Rattle.std.proofs.Common.{◌≡◌, ℕ, ◌≤◌, arith, refl, sym, subst, inl, inr, List, [], ◌∷◌, Bool, true}
-use Rattle.std.proofs.lemmas.Bool.{cases_Bool, and_parts, Decides.Decides-int_eq}
-use Rattle.std.specs.{Ordering.int_eq, Prelude.count_by, Prelude.pos}
-use Rattle.qh_model.specs.contract.{ClosedPolygons.steps_round, ClosedPolygons.IsFace, IdSets.HasDistinctPoints}
-use Rattle.qh_model.specs.headline.{Dimension.IsDimension, Predicates.cross, Sets.In, Sets.Members, Vector.Vector}
+use Rattle.qh_model.proofs.Common.{◌≡◌, ℕ, ◌≤◌, arith, refl, sym, subst, inl, inr, List, [], ◌∷◌, Bool, true, cases_Bool, and_parts, Decides-int_eq, int_eq}
+use Rattle.qh_model.proofs.Common.{count_by, pos, steps_round, IsFace, HasDistinctPoints, IsDimension, cross, In, Members, Vector}
 use Rattle.qh_model.proofs.{Decisions.Decided, Decisions.some_or_none, closed_surfaces.Sums.count, closed_surfaces.Sums.count-is}
 use Rattle.qh_check.specs.contract.Surfaces.{IsFaceSurface, IsHullSurface}
 use Rattle.qh_laws_surface.specs.contract.Measures.{lies_in}
-use Rattle.qh_laws_surface.proofs.PlanePieces.{Begun, begun, piece_of, pieces_of, in_face, of_corners}
 use Rattle.qh_laws_surface.specs.contract.Covering.{Spot, spot_height, covers, reaches, IsOffLines}
 use Rattle.qh_laws_surface.specs.laws.CoverLaws.{PiecesLieInFaces, SpotsLieInFaces, FacesAreCovered, PiecesAreApart, FacesAreCoveredOnce}
+use Rattle.qh_laws_surface.proofs.PlanePieces.{Begun, begun, piece_of, pieces_of, in_face, of_corners}
 use Rattle.qh_laws_surface.proofs.{Covered.covers_height, Covered.height_flat, Covered.one_covers, FaceSpots.none_right, FaceSpots.right_of}
 use Rattle.qh_laws_surface.proofs.WholeFaces.{face_reaches, inside_face, reached, covered_once}
 

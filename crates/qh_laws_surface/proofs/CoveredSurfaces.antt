@@ -1,17 +1,14 @@
 -- Pieces that cover each face once are a surface.
-use Rattle.std.proofs.Common.{◌≡◌, ◌≢◌, ℕ, ◌<◌, ◌≤◌, arith, refl, sym, subst, ◌∙◌, inl, inr, List, ◌∷◌, true, length}
-use Rattle.std.specs.{List.flat_map, Prelude.count_by}
-use Rattle.qh_model.specs.contract.{ClosedPolygons.steps_round, IdSets.HasDistinctPoints}
-use Rattle.qh_model.specs.headline.{Dimension.IsDimension, Extreme.Extreme, Polygon.Follows, Polygons.AreFaces, Polygons.IsFacePolygon, Predicates.cross}
-use Rattle.qh_model.specs.headline.{Sets.In, Sets.Members, SupportingPlane.OnPlane, Vector.Vector}
-use Rattle.qh_model.proofs.{Decisions.Decided, lists.Joined.of_flat_map}
-use Rattle.qh_model.proofs.polygons.{Neighbours.follows_members, Neighbours.next_member, OtherFace.other_face, Steps.on_round, Unique.one_polygon}
+use Rattle.qh_model.proofs.Common.{◌≡◌, ◌≢◌, ℕ, ◌<◌, ◌≤◌, arith, refl, sym, subst, ◌∙◌, inl, inr, List, ◌∷◌, true, length, flat_map, count_by, steps_round}
+use Rattle.qh_model.proofs.Common.{HasDistinctPoints, IsDimension, Extreme, Follows, AreFaces, IsFacePolygon, cross, In, Members, OnPlane, Vector}
+use Rattle.qh_model.proofs.{Decisions.Decided, lists.Joined.of_flat_map, polygons.Steps.on_round}
+use Rattle.qh_model.proofs.polygons.{Neighbours.follows_members, Neighbours.next_member, OtherFace.other_face, Unique.one_polygon}
 use Rattle.qh_check.specs.contract.{Pieces.IsPiece, Surfaces.IsFaceSurface}
-use Rattle.qh_laws_surface.proofs.{ConvexLists.first_two, FirstFace.first_face, HullSurface.faces_of, HullSurface.some_member}
+use Rattle.qh_laws_surface.proofs.{ConvexLists.first_two, HullSurface.faces_of, HullSurface.some_member, SegmentCounts.diagonal_alike, SegmentCounts.side_once}
+use Rattle.qh_laws_surface.proofs.FirstFace.{first_face}
 use Rattle.qh_laws_surface.proofs.PlanePieces.{Begun, begun, PieceOf, piece_of, in_face, normal, side_turn, follows_apart}
 use Rattle.qh_laws_surface.proofs.StepCounts.{times, Has, step_times, none_there, is_there, there_or_not, Beside, beside_or_not}
 use Rattle.qh_laws_surface.specs.{contract.Covering.Spot, contract.Covering.covers, contract.Covering.IsOffLines, laws.CoverLaws.CoveringIsSurface}
-use Rattle.qh_laws_surface.proofs.SegmentCounts.{diagonal_alike, side_once}
 
 module _ (at : ℕ → Vector) (ids : List ℕ) (d : HasDistinctPoints at (Members ids)) (solid : IsDimension at (Members ids) 3)
     (qs : List (List ℕ)) (are : (q : List ℕ) → In q qs → IsPiece at (Members ids) q) (faces : List (List ℕ)) (fs : AreFaces at (Members ids) faces)

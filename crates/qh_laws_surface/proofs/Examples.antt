@@ -1,7 +1,5 @@
 -- Computed examples: a square, its halves, their areas and a cone over it; spots inside it, on its border, outside and above it.
-use Rattle.std.proofs.Common.{◌≡◌, ℕ, arith, refl, List, [], ◌∷◌, true, false}
-use Rattle.std.specs.Prelude.{ℤ, pos, negsuc, count_by}
-use Rattle.qh_model.specs.headline.{Predicates.cross, Predicates.vol, Predicates.place, Vector.Vector}
+use Rattle.qh_model.proofs.Common.{◌≡◌, ℕ, arith, refl, List, [], ◌∷◌, true, false, ℤ, pos, negsuc, count_by, cross, vol, place, Vector}
 use Rattle.qh_laws_surface.specs.contract.Measures.{doubled_area, doubled_areas, cone_volume}
 use Rattle.qh_laws_surface.specs.contract.Covering.{Spot, spot_height, spot_turn, covers, reaches}
 

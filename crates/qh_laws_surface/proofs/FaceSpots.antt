@@ -1,19 +1,18 @@
 -- Spots of a face: inside it, off all lines through two of its corners, and inside polygons whose corners are corners of the face.
-use Rattle.std.proofs.Common.{◌⊎◌, ◌≡◌, ◌≢◌, ℕ, arith, refl, sym, ap, subst, ◌∙◌, inl, inr, List, [], ◌∷◌, Bool, true, not, map}
-use Rattle.std.proofs.lemmas.{Bool.cases_Bool, Bool.not-true, Bool.Decides.Decides-int_eq, Int.ints, Int.by_lt_z}
-use Rattle.std.specs.{List.list_all, Prelude.ℤ, Prelude.pos, Prelude.◌+ℤ◌, Prelude.◌*ℤ◌, Prelude.◌≤ℤ◌, Prelude.◌<ℤ◌, Prelude.int_lt}
-use Rattle.qh_model.specs.contract.ClosedPolygons.{steps_round}
-use Rattle.qh_model.specs.headline.{Polygon.Follows, Predicates.cross, Predicates.left, Sets.In, Vector.Vector, Vector.dot}
-use Rattle.qh_model.proofs.{Members.each_of_three, polygons.Neighbours.follows_members, polygons.Steps.on_round}
-use Rattle.qh_model.proofs.algebra.{Order.cancel-pos, Order.mul-nonneg, Order.mul-pos, Order.positive_le, VectorIdentities.dot-origin}
-use Rattle.qh_model.proofs.lists.{Images.of_map, Images.in_map, Joined.in_append}
+use Rattle.qh_model.proofs.Common.{◌⊎◌, ◌≡◌, ◌≢◌, ℕ, arith, refl, sym, ap, subst, ◌∙◌, inl, inr, List, [], ◌∷◌, Bool, true, not, map, cases_Bool, not-true}
+use Rattle.qh_model.proofs.Common.{Decides-int_eq, ints, by_lt_z, list_all, ℤ, pos, ◌+ℤ◌, ◌*ℤ◌, ◌≤ℤ◌, ◌<ℤ◌, int_lt, steps_round, Follows, cross, In, Vector}
+use Rattle.qh_model.proofs.Common.{dot}
+use Rattle.qh_model.specs.headline.Predicates.{left}
+use Rattle.qh_model.proofs.{Members.each_of_three, lists.Joined.in_append}
+use Rattle.qh_model.proofs.{polygons.Neighbours.follows_members, algebra.VectorIdentities.dot-origin, lists.Images.of_map, lists.Images.in_map}
+use Rattle.qh_model.proofs.{polygons.Steps.on_round, algebra.Order.cancel-pos, algebra.Order.mul-nonneg, algebra.Order.mul-pos, algebra.Order.positive_le}
 use Rattle.qh_laws.proofs.{Perturbed.Rises, Signs.above, Signs.is_above, Signs.above_is}
 use Rattle.qh_laws_surface.proofs.ConvexLists.{one_apart, AllTurn, polygon_turns, side_left, not_right}
 use Rattle.qh_laws_surface.proofs.PlanePieces.{OverFace, on, all_pass, pass_all}
-use Rattle.qh_laws_surface.specs.contract.Covering.{Spot, spot_height, spot_turn, covers, IsOffLines}
-use Rattle.qh_laws_surface.proofs.{SpotFans.all_left, SpotFans.InTriangle, SpotFans.in_triangle, SpotTurns.spot_turn-back, SpotTurns.turns_mixed}
-use Rattle.qh_laws_surface.proofs.NearSpots.{Near, near, form_level}
+use Rattle.qh_laws_surface.proofs.{SpotFans.all_left, SpotFans.InTriangle, SpotFans.in_triangle, NearSpots.Near, NearSpots.near, NearSpots.form_level}
+use Rattle.qh_laws_surface.proofs.SpotTurns.{spot_turn-back, turns_mixed}
 use Rattle.qh_laws_surface.proofs.PlaneSpots.{turn_form, numbers, turn_of, between, between_turn, between_level}
+use Rattle.qh_laws_surface.specs.contract.Covering.{Spot, spot_height, spot_turn, covers, IsOffLines}
 
 -- ---- tests
 -- true if the spot lies to the right of no step

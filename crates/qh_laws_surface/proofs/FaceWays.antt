@@ -1,13 +1,10 @@
 -- The pieces of a surface that lie in the plane of a face go round the face once.
-use Rattle.std.proofs.Common.{◌≡◌, ◌≢◌, ℕ, ◌+◌, ◌<◌, ◌≤◌, arith, refl, sym, subst, ◌∙◌, inl, inr, ⊎_elim, ◌⊎◌, List, [], ◌∷◌, length}
-use Rattle.std.proofs.lemmas.{Bool.cases_lt, Bool.cases_order, Int.ints}
-use Rattle.std.specs.{List.flat_map, Prelude.ℤ, Prelude.pos, Prelude.◌≤ℤ◌, Prelude.◌<ℤ◌}
-use Rattle.qh_model.specs.contract.{ClosedPolygons.steps_round, ClosedSurface.Triple, ClosedSurface.edges, ClosedSurface.is_edge, ClosedSurface.IsClosedSurface}
-use Rattle.qh_model.specs.headline.{Extreme.Extreme, Polygon.Follows, Polygons.IsFacePolygon, Predicates.cross, Sets.In, Sets.Members, Vector.Vector}
-use Rattle.qh_model.specs.headline.SupportingPlane.{IsSupportingTriple, OnPlane}
-use Rattle.qh_model.proofs.{Decisions.Decided, Decisions.in_or_not, Decisions.same_id, lists.Filters.in_filter, lists.Joined.of_flat_map}
-use Rattle.qh_model.proofs.closed_surfaces.{Sums.sum_z, Sums.count-is, Supporting.closed_miss_no_plane}
-use Rattle.qh_model.proofs.polygons.{Edges.seen_from, Neighbours.follows_members, Unique.one_polygon}
+use Rattle.qh_model.proofs.Common.{◌≡◌, ◌≢◌, ℕ, ◌+◌, ◌<◌, ◌≤◌, arith, refl, sym, subst, ◌∙◌, inl, inr, ⊎_elim, ◌⊎◌, List, [], ◌∷◌, length, cases_lt}
+use Rattle.qh_model.proofs.Common.{cases_order, ints, flat_map, ℤ, pos, ◌≤ℤ◌, ◌<ℤ◌, steps_round, Triple, edges, is_edge, IsClosedSurface, Extreme, Follows}
+use Rattle.qh_model.proofs.Common.{IsFacePolygon, cross, In, Members, Vector, IsSupportingTriple, OnPlane}
+use Rattle.qh_model.proofs.{Decisions.Decided, Decisions.in_or_not, Decisions.same_id, closed_surfaces.Sums.sum_z, closed_surfaces.Sums.count-is}
+use Rattle.qh_model.proofs.{lists.Filters.in_filter, lists.Joined.of_flat_map, polygons.Edges.seen_from}
+use Rattle.qh_model.proofs.{closed_surfaces.Supporting.closed_miss_no_plane, polygons.Neighbours.follows_members, polygons.Unique.one_polygon}
 use Rattle.qh_check.specs.contract.Surfaces.{IsFaceSurface}
 use Rattle.qh_laws_surface.specs.contract.Measures.{lies_in}
 use Rattle.qh_laws_surface.proofs.{Chains.AreWays, Chains.all_arrivals, Chains.equally_often, ConvexLists.AllTurn, ConvexLists.turned, ConvexLists.no_back}

@@ -1,11 +1,9 @@
 -- Areas of polygons, seen along a normal: by fans, and by the area that a corner sweeps along the steps.
-use Rattle.std.proofs.Common.{◌≡◌, ℕ, arith, refl, ◌∙◌, inl, List, [], ◌∷◌}
-use Rattle.std.proofs.lemmas.Int.{ints}
-use Rattle.std.specs.{List.flat_map, Prelude.ℤ, Prelude.pos, Prelude.◌+ℤ◌, Prelude.◌≤ℤ◌, Prelude.◌<ℤ◌}
-use Rattle.qh_model.specs.contract.ClosedPolygons.{steps_along, steps_round}
-use Rattle.qh_model.specs.headline.{Predicates.cross, Predicates.left, Vector.Vector}
-use Rattle.qh_model.proofs.{closed_surfaces.Sums.sum_z, lists.Ordered.Ordered}
-use Rattle.qh_model.proofs.algebra.{Ring.ring, Ring.Expr.add, VectorIdentities.left-flip, VectorIdentities.vec, VectorIdentities.put, VectorIdentities.leftE}
+use Rattle.qh_model.proofs.Common.{◌≡◌, ℕ, arith, refl, ◌∙◌, inl, List, [], ◌∷◌, ints, flat_map, ℤ, pos, ◌+ℤ◌, ◌≤ℤ◌, ◌<ℤ◌, steps_along, steps_round, cross}
+use Rattle.qh_model.proofs.Common.{Vector}
+use Rattle.qh_model.specs.headline.Predicates.{left}
+use Rattle.qh_model.proofs.{closed_surfaces.Sums.sum_z, lists.Ordered.Ordered, algebra.Ring.ring, algebra.Ring.Expr.add}
+use Rattle.qh_model.proofs.algebra.VectorIdentities.{left-flip, vec, put, leftE}
 use Rattle.qh_laws_surface.proofs.{ConvexLists.AllTurn, ConvexLists.Turn, StepCounts.IsOdd, StepCounts.sum-append}
 
 -- the sum of the turns of the triangles of a and two neighbours each

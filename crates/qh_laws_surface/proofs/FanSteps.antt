@@ -1,9 +1,6 @@
 -- The steps round the triangles of fans: those of the polygons, and the diagonals in both directions.
-use Rattle.std.proofs.Common.{◌≡◌, ℕ, ◌≤◌, arith, refl, sym, ap, ◌∙◌, inl, inr, ⊎_elim, ◌⊎◌, List, [], ◌∷◌, ◌++◌, length}
-use Rattle.std.proofs.lemmas.{Int.ints, List.Concat.flat_map-append}
-use Rattle.std.specs.{List.flat_map, Prelude.ℤ, Prelude.◌+ℤ◌}
-use Rattle.qh_model.specs.contract.{ClosedPolygons.steps_along, ClosedPolygons.steps_round, ClosedPolygons.AreClosed, ClosedSurface.Triple, ClosedSurface.edges}
-use Rattle.qh_model.specs.headline.{Fan.triangles_along, Fan.fan, Fan.fans, Sets.In, Sets.Once}
+use Rattle.qh_model.proofs.Common.{◌≡◌, ℕ, ◌≤◌, arith, refl, sym, ap, ◌∙◌, inl, inr, ⊎_elim, ◌⊎◌, List, [], ◌∷◌, ◌++◌, length, ints, flat_map-append, flat_map}
+use Rattle.qh_model.proofs.Common.{ℤ, ◌+ℤ◌, steps_along, steps_round, AreClosed, Triple, edges, triangles_along, fan, fans, In, Once}
 use Rattle.qh_model.proofs.closed_surfaces.Sums.{sum_z}
 use Rattle.qh_laws_surface.proofs.StepCounts.{times, Has, closed_times, pair_ends, IsOdd, sum-append, lead, lead-odd, lead_sum}
 

@@ -1,18 +1,14 @@
 -- A solid has a face: a plane at an extreme id is turned until it has an edge, and then until it has a triangle.
-use Rattle.std.proofs.Common.{◌≡◌, ◌≢◌, ℕ, arith, refl, sym, ap, subst, ◌∙◌, inl, inr, ⊎_elim, ◌⊎◌, List, [], ◌∷◌, Bool, true}
-use Rattle.std.proofs.lemmas.Int.{ints, by_lt_z}
-use Rattle.std.specs.Prelude.{ℤ, pos, ◌+ℤ◌, ◌-ℤ◌, ◌*ℤ◌, neg_ℤ, ◌≤ℤ◌, ◌<ℤ◌}
-use Rattle.qh_model.specs.{contract.IdSets.HasDistinctPoints, laws.FaceLaws.IsAlong, laws.Separator.Separator}
-use Rattle.qh_model.specs.headline.{Dimension.IsDimension, Dimension.HasTetrahedron, Extreme.Extreme, Extreme.Others, Predicates.cross, Predicates.AreInLine}
-use Rattle.qh_model.specs.headline.{Sets.In, Sets.Members, SupportingPlane.IsSupportingTriple}
-use Rattle.qh_model.specs.headline.Vector.{Vector, minus, origin, dot, cross_product}
-use Rattle.qh_model.proofs.{polygons.PlaneTurns.parallel_dot, surfaces.VisibleFacets.Least, surfaces.VisibleFacets.least}
+use Rattle.qh_model.proofs.Common.{◌≡◌, ◌≢◌, ℕ, arith, refl, sym, ap, subst, ◌∙◌, inl, inr, ⊎_elim, ◌⊎◌, List, [], ◌∷◌, Bool, true, ints, by_lt_z, ℤ, pos, ◌+ℤ◌}
+use Rattle.qh_model.proofs.Common.{◌-ℤ◌, ◌*ℤ◌, neg_ℤ, ◌≤ℤ◌, ◌<ℤ◌, HasDistinctPoints, IsAlong, Separator, IsDimension, HasTetrahedron, Extreme, Others, cross}
+use Rattle.qh_model.proofs.Common.{AreInLine, In, Members, IsSupportingTriple, Vector, minus, origin, dot, cross_product}
+use Rattle.qh_model.proofs.{polygons.PlaneTurns.parallel_dot, algebra.Ring.ring, extremes.ExtremeIds.separated, extremes.ExtremeIds.members_are_combinations}
+use Rattle.qh_model.proofs.{surfaces.VisibleFacets.Least, surfaces.VisibleFacets.least, algebra.Integers.zero_mul}
 use Rattle.qh_model.proofs.Decisions.{Decided, test, told, holds, same_id, same_number, same_vector, contrary, less_or_not, some_or_none, both}
-use Rattle.qh_model.proofs.algebra.{Integers.zero_mul, Order.cancel-zero, Order.product_zero, Order.mul-pos, Order.le_antisym, Order.zero_or_not, Ring.ring}
-use Rattle.qh_model.proofs.algebra.{Ring.Expr.var, Ring.Expr.add, Ring.Expr.mul, Ring.Expr.neg, Ring.Expr.con, Ring.Expr.sub as less, Signs.less_differ}
+use Rattle.qh_model.proofs.algebra.Order.{cancel-zero, product_zero, mul-pos, le_antisym, zero_or_not}
 use Rattle.qh_model.proofs.algebra.VectorIdentities.{vec, put, dotE, crossE, vector_path, dot_comm, dot-minus, dot-origin, vol-dot}
-use Rattle.qh_model.proofs.extremes.ExtremeIds.{separated, members_are_combinations}
 use Rattle.qh_model.proofs.extremes.Directions.{square-positive, parallel_normal, normal_along, dot_along, at_most_along, in_line-flip}
+use Rattle.qh_model.proofs.algebra.{Ring.Expr.var, Ring.Expr.add, Ring.Expr.mul, Ring.Expr.neg, Ring.Expr.con, Ring.Expr.sub as less, Signs.less_differ}
 use Rattle.qh_laws_surface.proofs.SharedCorners.{tetrahedron}
 
 -- a u + b w

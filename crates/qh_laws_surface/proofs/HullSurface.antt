@@ -1,18 +1,14 @@
 -- The faces of a solid are a surface of its hull, and so are their fans. The polygons of a right body are a surface, too.
-use Rattle.std.proofs.Common.{map, ◌≡◌, ℕ, ◌<◌, arith, refl, sym, ap, subst, ◌∙◌, inl, inr, List, [], ◌∷◌, ◌++◌, length}
-use Rattle.std.proofs.lemmas.List.{length-append}
-use Rattle.std.specs.{List.flat_map, Prelude.pos, Prelude.◌≤ℤ◌}
-use native.Mathlib.Decide.{ℕ_discrete}
-use mathlib.Core.Logic.{dite}
-use Rattle.qh_model.specs.contract.{ClosedSurface.Triple, ClosedSurface.edges, IdSets.HasDistinctPoints}
-use Rattle.qh_model.specs.contract.ClosedPolygons.{steps_round, AreClosed, IsFace}
-use Rattle.qh_model.specs.headline.{Dimension.IsDimension, Fan.triangles_along, Fan.fan, Fan.fans, Hull.BodyValue, Hull.IsBody, Polygons.AreFaces}
-use Rattle.qh_model.specs.headline.{Polygons.IsFacePolygon, Polygons.ArePolygons, Predicates.cross, Predicates.vol, Predicates.left, Sets.In, Sets.Once}
-use Rattle.qh_model.specs.headline.{Sets.Members, SupportingPlane.IsSupportingTriple, Vector.Vector, Vector.dot}
-use Rattle.qh_model.proofs.{extremes.Dimensions.one_dimension, extremes.Directions.square-positive, lists.Images.of_map, lists.Joined.of_flat_map}
-use Rattle.qh_model.proofs.{lists.Lexicographic.rising-ordered, polygons.Edges.seen_from, polygons.Edges.one_face_a_step, polygons.PlaneTurns.level_along}
-use Rattle.qh_model.proofs.{polygons.PlaneTurns.level_volume, polygons.Steps.faces_close, polygons.Steps.on_round, polygons.Steps.ordered_once}
-use Rattle.qh_model.proofs.algebra.{Order.cancel-nonpos, Order.mul-nonneg_nonpos, Order.positive_le, Signs.less_differ, VectorIdentities.in_line-left}
+use Rattle.qh_model.proofs.Common.{map, ◌≡◌, ℕ, ◌<◌, arith, refl, sym, ap, subst, ◌∙◌, inl, inr, List, [], ◌∷◌, ◌++◌, length, length-append, flat_map, pos}
+use Rattle.qh_model.proofs.Common.{◌≤ℤ◌, ℕ_discrete, dite, Triple, edges, HasDistinctPoints, steps_round, AreClosed, IsFace, IsDimension, triangles_along, fan}
+use Rattle.qh_model.proofs.Common.{fans, BodyValue, IsBody, AreFaces, IsFacePolygon, ArePolygons, cross, vol, In, Once, Members, IsSupportingTriple, Vector}
+use Rattle.qh_model.proofs.Common.{dot}
+use Rattle.qh_model.specs.headline.Predicates.{left}
+use Rattle.qh_model.proofs.{extremes.Dimensions.one_dimension, lists.Joined.of_flat_map, lists.Lexicographic.rising-ordered, algebra.Signs.less_differ}
+use Rattle.qh_model.proofs.{extremes.Directions.square-positive, polygons.Steps.faces_close, polygons.Steps.on_round, polygons.Steps.ordered_once}
+use Rattle.qh_model.proofs.lists.Images.{of_map}
+use Rattle.qh_model.proofs.polygons.{Edges.seen_from, Edges.one_face_a_step, PlaneTurns.level_along, PlaneTurns.level_volume}
+use Rattle.qh_model.proofs.algebra.{Order.cancel-nonpos, Order.mul-nonneg_nonpos, Order.positive_le, VectorIdentities.in_line-left}
 use Rattle.qh_check.specs.contract.{Pieces.BeginsWith, Pieces.IsMetAlong, Pieces.IsPiece, Surfaces.IsFaceSurface, Surfaces.IsHullSurface}
 use Rattle.qh_check.proofs.FirstCorners.{some_corners, HasFace}
 use Rattle.qh_laws_surface.specs.laws.SurfaceLaws.{BodyIsSurface, FansAreSurface}

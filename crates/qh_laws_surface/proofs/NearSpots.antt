@@ -1,18 +1,16 @@
 -- A spot in the plane of a polygon, moved slightly within the plane, off all lines through two corners.
-use Rattle.std.proofs.Common.{◌≡◌, ◌≢◌, ℕ, zero, suc, ◌<◌, arith, refl, sym, ap, subst, ◌∙◌, inl, inr, ⊎_elim, ◌⊎◌, List, [], ◌∷◌, ◌++◌, map}
-use Rattle.std.proofs.lemmas.Int.{ints}
-use Rattle.std.specs.{List.flat_map, Prelude.filter, Prelude.ℤ, Prelude.pos, Prelude.negsuc, Prelude.◌+ℤ◌, Prelude.◌≤ℤ◌, Prelude.◌<ℤ◌}
-use Rattle.qh_model.specs.headline.{Predicates.cross, Predicates.left, Sets.In, Vector.Vector, Vector.origin, Vector.minus, Vector.dot, Vector.cross_product}
-use Rattle.qh_model.proofs.{extremes.Directions.square-positive, lists.Filters.in_filter, lists.Filters.of_filter, lists.Images.in_map, lists.Images.of_map}
-use Rattle.qh_model.proofs.{lists.Joined.in_append, lists.Joined.of_append, lists.Joined.in_flat_map, lists.Ordered.Ordered}
+use Rattle.qh_model.proofs.Common.{◌≡◌, ◌≢◌, ℕ, zero, suc, ◌<◌, arith, refl, sym, ap, subst, ◌∙◌, inl, inr, ⊎_elim, ◌⊎◌, List, [], ◌∷◌, ◌++◌, map, ints}
+use Rattle.qh_model.proofs.Common.{flat_map, filter, ℤ, pos, negsuc, ◌+ℤ◌, ◌≤ℤ◌, ◌<ℤ◌, cross, In, Vector, origin, minus, dot, cross_product}
+use Rattle.qh_model.specs.headline.Predicates.{left}
+use Rattle.qh_model.proofs.{extremes.Directions.square-positive, lists.Ordered.Ordered, algebra.Ring.ring, algebra.Ring.Expr.add}
+use Rattle.qh_model.proofs.{lists.Filters.in_filter, lists.Filters.of_filter, algebra.Order.mul-pos, algebra.Order.mul-nonneg, algebra.Order.positive_le}
+use Rattle.qh_model.proofs.lists.{Images.in_map, Images.of_map, Joined.in_append, Joined.of_append, Joined.in_flat_map}
 use Rattle.qh_model.proofs.Decisions.{Decided, test, told, holds, contrary, same_id, less_or_not, both, in_or_not}
-use Rattle.qh_model.proofs.algebra.{Order.mul-pos, Order.mul-nonneg, Order.positive_le, Ring.ring, Ring.Expr.add}
 use Rattle.qh_model.proofs.algebra.VectorIdentities.{vec, put, dotE, crossE, subE, leftE, dot-minus, left-flip}
 use Rattle.qh_laws.proofs.Perturbed.{Rises, AllUp, AllOff, risen, perturbed}
-use Rattle.qh_laws_surface.proofs.ConvexLists.{AllTurn, Turn, turned, one_apart}
-use Rattle.qh_laws_surface.specs.contract.Covering.{Spot, spot_height, spot_turn}
-use Rattle.qh_laws_surface.proofs.SpotTurns.{scale-positive}
+use Rattle.qh_laws_surface.proofs.{ConvexLists.AllTurn, ConvexLists.Turn, ConvexLists.turned, ConvexLists.one_apart, SpotTurns.scale-positive}
 use Rattle.qh_laws_surface.proofs.PlaneSpots.{triple, turn_form, height_form, spot_at, numbers, turn_at, height_at, level_at, turn_of}
+use Rattle.qh_laws_surface.specs.contract.Covering.{Spot, spot_height, spot_turn}
 
 -- ---- three corners of a list of which each three, in order, turn left
 ordered_two : (R : ℕ → ℕ → Type 0) (q : List ℕ) → Ordered R q → (x y : ℕ) → In x q → In y q → x ≢ y → R x y ⊎ R y x

@@ -1,10 +1,7 @@
 -- Pieces of faces: each three of their corners turn left, their steps are steps of their faces, and some lie in the plane of one face.
-use Rattle.std.proofs.Common.{◌≡◌, ◌≢◌, ℕ, refl, sym, subst, inl, inr, List, ◌∷◌, ◌≤◌, arith, [], Bool, true}
-use Rattle.std.proofs.lemmas.Bool.{cases_Bool, and_parts, Decides.Decides-int_eq}
-use Rattle.std.specs.{List.flat_map, List.list_all, Ordering.int_eq, Prelude.filter, Prelude.pos}
-use Rattle.qh_model.specs.contract.{ClosedPolygons.IsFace, ClosedPolygons.steps_round, IdSets.HasDistinctPoints}
-use Rattle.qh_model.specs.headline.{Dimension.IsDimension, Polygon.Follows, Polygons.IsFacePolygon, Predicates.cross, Predicates.vol, Sets.In, Sets.Members}
-use Rattle.qh_model.specs.headline.{SupportingPlane.IsSupportingTriple, Vector.Vector}
+use Rattle.qh_model.proofs.Common.{◌≡◌, ◌≢◌, ℕ, refl, sym, subst, inl, inr, List, ◌∷◌, ◌≤◌, arith, [], Bool, true, cases_Bool, and_parts, Decides-int_eq}
+use Rattle.qh_model.proofs.Common.{flat_map, list_all, int_eq, filter, pos, IsFace, steps_round, HasDistinctPoints, IsDimension, Follows, IsFacePolygon, cross}
+use Rattle.qh_model.proofs.Common.{vol, In, Members, IsSupportingTriple, Vector}
 use Rattle.qh_model.proofs.{Decisions.Decided, lists.Filters.of_filter, lists.Joined.of_flat_map, polygons.Neighbours.follows_members, polygons.Steps.on_round}
 use Rattle.qh_check.specs.contract.{Pieces.BeginsWith, Pieces.IsMetRound, Pieces.IsPiece, Surfaces.IsFaceSurface, Surfaces.IsHullSurface}
 use Rattle.qh_check.proofs.{FirstCorners.some_corners, FirstCorners.HasFace, MetBehind.round_has}

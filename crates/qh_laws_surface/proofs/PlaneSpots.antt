@@ -1,11 +1,10 @@
 -- Spots of a plane, given by three whole numbers or by weights of three corners. Their turns and heights are scalar products.
-use Rattle.std.proofs.Common.{◌≡◌, ℕ, ◌<◌, arith, refl, sym, ap, ◌∙◌, [], ◌∷◌, ◌+◌}
-use Rattle.std.proofs.lemmas.Int.{ints}
-use Rattle.std.specs.Prelude.{ℤ, pos, ◌+ℤ◌, ◌*ℤ◌, ◌-ℤ◌}
-use Rattle.qh_model.specs.headline.{Predicates.cross, Predicates.left, Predicates.vol, Vector.Vector, Vector.minus, Vector.dot, Vector.cross_product}
+use Rattle.qh_model.proofs.Common.{◌≡◌, ℕ, ◌<◌, arith, refl, sym, ap, ◌∙◌, [], ◌∷◌, ◌+◌, ints, ℤ, pos, ◌+ℤ◌, ◌*ℤ◌, ◌-ℤ◌, cross, vol, Vector, minus, dot}
+use Rattle.qh_model.proofs.Common.{cross_product}
+use Rattle.qh_model.specs.headline.Predicates.{left}
 use Rattle.qh_model.proofs.algebra.{Integers.zero_mul, Integers.mul_add, Order.product_zero}
-use Rattle.qh_model.proofs.algebra.Ring.{ring, Expr.var, Expr.add, Expr.mul, Expr.sub as less}
 use Rattle.qh_model.proofs.algebra.VectorIdentities.{vec, put, dotE, subE, vol-dot, vol-first, vol-second, vol-third}
+use Rattle.qh_model.proofs.algebra.Ring.{ring, Expr.var, Expr.add, Expr.mul, Expr.sub as less}
 use Rattle.qh_laws_surface.specs.contract.Covering.{Spot, way_to, spot_height, spot_turn}
 use Rattle.qh_laws_surface.proofs.SpotTurns.{turn_way, left_way, cramer, way_height}
 

@@ -1,22 +1,19 @@
 -- Equally many pieces cover two spots on both sides of a segment between corners of a face. So they take its steps equally often in both directions.
-use Rattle.std.proofs.Common.{⊎_elim, ◌≡◌, ◌≢◌, ℕ, ◌+◌, ◌≤◌, arith, refl, sym, subst, ◌∙◌, inl, inr, ◌⊎◌, List, [], ◌∷◌, Bool, true, false}
-use Rattle.std.proofs.lemmas.{Bool.false_from_ne_true, Int.ints}
-use Rattle.std.specs.{List.flat_map, Prelude.count_by, Prelude.pos, Prelude.◌≤ℤ◌, Prelude.◌<ℤ◌}
-use Rattle.qh_model.specs.contract.ClosedPolygons.{steps_round}
-use Rattle.qh_model.specs.headline.{Polygon.Follows, Predicates.cross, Predicates.left, Sets.In, Sets.Once, Sets.Members, Vector.Vector}
-use Rattle.qh_model.proofs.{Decisions.Decided, Decisions.same_id, lists.Ordered.Ordered, polygons.Neighbours.follows_members, polygons.Steps.on_round}
-use Rattle.qh_model.proofs.closed_surfaces.Sums.{count, count-is}
+use Rattle.qh_model.proofs.Common.{⊎_elim, ◌≡◌, ◌≢◌, ℕ, ◌+◌, ◌≤◌, arith, refl, sym, subst, ◌∙◌, inl, inr, ◌⊎◌, List, [], ◌∷◌, Bool, true, false}
+use Rattle.qh_model.proofs.Common.{false_from_ne_true, ints, flat_map, count_by, pos, ◌≤ℤ◌, ◌<ℤ◌, steps_round, Follows, cross, In, Once, Members, Vector}
+use Rattle.qh_model.specs.headline.Predicates.{left}
+use Rattle.qh_model.proofs.{Decisions.Decided, Decisions.same_id, polygons.Steps.on_round, closed_surfaces.Sums.count, closed_surfaces.Sums.count-is}
+use Rattle.qh_model.proofs.{lists.Ordered.Ordered, polygons.Neighbours.follows_members}
 use Rattle.qh_laws.proofs.{Crossings.number, Signs.above}
-use Rattle.qh_laws_surface.specs.contract.Measures.{lies_in}
+use Rattle.qh_laws_surface.specs.contract.{Measures.lies_in, Covering.Spot, Covering.spot_height, Covering.spot_turn, Covering.covers, Covering.IsOffLines}
 use Rattle.qh_laws_surface.proofs.ConvexLists.{AllTurn, Turn, side_left, turned, not_first, not_second, first_two, no_back, not_right, third_corner}
 use Rattle.qh_laws_surface.proofs.PlanePieces.{PieceOf, third, OverFace, on, parts, piece, in_parts, part_member, part_turns, all_alike, kept_alike}
 use Rattle.qh_laws_surface.proofs.PlanePieces.{diagonal_kept, side_kept, none_back}
 use Rattle.qh_laws_surface.proofs.StepCounts.{times, times-more, none_there, taken, not_taken, Beside, follows_or_not}
-use Rattle.qh_laws_surface.specs.contract.Covering.{Spot, spot_height, spot_turn, covers, IsOffLines}
-use Rattle.qh_laws_surface.proofs.{CoveredFaces.none_counted, SpotFans.all_left, SpotHeights.above_alike, SpotTurns.spot_turn-back}
-use Rattle.qh_laws_surface.proofs.Covered.{covers_flat, covers_other, count_parts}
+use Rattle.qh_laws_surface.proofs.{CoveredFaces.none_counted, SegmentSpots.to_left, SegmentSpots.to_right, SegmentSpots.both_left, SegmentSpots.agree}
+use Rattle.qh_laws_surface.proofs.SpotFans.{all_left}
+use Rattle.qh_laws_surface.proofs.{SpotHeights.above_alike, SpotTurns.spot_turn-back, Covered.covers_flat, Covered.covers_other, Covered.count_parts}
 use Rattle.qh_laws_surface.proofs.FaceSpots.{left_of, of_left, turns, covers_face, off_lines, inside_side}
-use Rattle.qh_laws_surface.proofs.SegmentSpots.{to_left, to_right, both_left, agree}
 
 -- ---- lists in which each three, in order, turn left have each member once
 once_ordered : (n : Vector) (at : ℕ → Vector) (a : ℕ) (q : List ℕ) → Ordered (Turn n at a) q → Once q

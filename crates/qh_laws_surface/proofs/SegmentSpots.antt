@@ -1,17 +1,15 @@
 -- Two spots close to the segment between two corners of a polygon, one on either side, and on the same side of all other lines.
-use Rattle.std.proofs.Common.{◌≡◌, ◌≢◌, ℕ, ◌<◌, arith, refl, sym, ap, subst, ◌∙◌, inl, inr, ⊎_elim, ◌⊎◌, List, [], ◌∷◌}
-use Rattle.std.proofs.lemmas.Int.{ints, by_lt_z}
-use Rattle.std.specs.Prelude.{ℤ, pos, ◌+ℤ◌, ◌*ℤ◌, ◌≤ℤ◌, ◌<ℤ◌}
-use Rattle.qh_model.specs.headline.{Predicates.cross, Predicates.left, Predicates.vol, Sets.In, Vector.Vector, Vector.origin, Vector.dot}
-use Rattle.qh_model.proofs.Decisions.{Decided, same_id, same_number, both, contrary}
-use Rattle.qh_model.proofs.algebra.{Integers.mul_comm, Integers.zero_mul, VectorIdentities.left-flip}
+use Rattle.qh_model.proofs.Common.{◌≡◌, ◌≢◌, ℕ, ◌<◌, arith, refl, sym, ap, subst, ◌∙◌, inl, inr, ⊎_elim, ◌⊎◌, List, [], ◌∷◌, ints, by_lt_z, ℤ, pos, ◌+ℤ◌, ◌*ℤ◌}
+use Rattle.qh_model.proofs.Common.{◌≤ℤ◌, ◌<ℤ◌, cross, vol, In, Vector, origin, dot}
+use Rattle.qh_model.specs.headline.Predicates.{left}
+use Rattle.qh_model.proofs.{Decisions.Decided, Decisions.same_id, Decisions.same_number, Decisions.both, Decisions.contrary, algebra.VectorIdentities.left-flip}
+use Rattle.qh_model.proofs.algebra.Integers.{mul_comm, zero_mul}
 use Rattle.qh_model.proofs.algebra.Order.{mul-pos, mul-nonneg, product_zero, positive_le, le_less}
 use Rattle.qh_laws.proofs.Perturbed.{AllUp, AllOff, perturbed}
-use Rattle.qh_laws_surface.proofs.ConvexLists.{AllTurn, none_twice, none_back}
-use Rattle.qh_laws_surface.specs.contract.Covering.{Spot, spot_height, spot_turn}
+use Rattle.qh_laws_surface.proofs.{ConvexLists.AllTurn, ConvexLists.none_twice, ConvexLists.none_back, SpotTurns.spot_turn-back}
 use Rattle.qh_laws_surface.proofs.PlaneSpots.{triple, turn_form, between, between_turn, between_level}
-use Rattle.qh_laws_surface.proofs.SpotTurns.{spot_turn-back}
 use Rattle.qh_laws_surface.proofs.NearSpots.{near_one, Near, natural, chosen, in_chosen, of_chosen, pairs, in_pairs, three_turn, form_some, form_level}
+use Rattle.qh_laws_surface.specs.contract.Covering.{Spot, spot_height, spot_turn}
 
 module _ (at : ℕ → Vector) (i j k : ℕ) (r : List ℕ) (turns : AllTurn (cross (at i) (at j) (at k)) at (i ∷ j ∷ k ∷ r))
     (level : (l : ℕ) → In l (i ∷ j ∷ k ∷ r) → vol (at i) (at j) (at k) (at l) ≡ pos 0)

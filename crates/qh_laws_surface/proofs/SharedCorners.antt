@@ -1,19 +1,14 @@
 -- Two faces of a solid share no diagonal: two corners that they share are neighbours in both.
-use Rattle.std.proofs.Common.{◌≡◌, ◌≢◌, ℕ, arith, refl, sym, ap, subst, ◌∙◌, inl, inr, ⊎_elim, ◌⊎◌, List, [], ◌∷◌}
-use Rattle.std.proofs.lemmas.Int.{ints, by_lt_z}
-use Rattle.std.specs.Prelude.{ℤ, pos, ◌*ℤ◌, neg_ℤ, ◌≤ℤ◌, ◌<ℤ◌}
-use native.Mathlib.Decide.{ℕ_discrete}
-use Rattle.qh_model.specs.{contract.IdSets.HasDistinctPoints, laws.FaceLaws.IsAlong}
-use Rattle.qh_model.specs.headline.{Dimension.IsDimension, Dimension.HasTetrahedron, Extreme.Extreme, Polygon.Follows, Polygons.IsFacePolygon, Sets.In}
-use Rattle.qh_model.specs.headline.{Sets.Members, SupportingPlane.IsSupportingTriple, SupportingPlane.OnPlane, Vector.minus, Vector.dot, Vector.Vector}
-use Rattle.qh_model.specs.headline.Predicates.{cross, vol, left}
-use Rattle.qh_model.proofs.Decisions.{Decided, same_id}
+use Rattle.qh_model.proofs.Common.{◌≡◌, ◌≢◌, ℕ, arith, refl, sym, ap, subst, ◌∙◌, inl, inr, ⊎_elim, ◌⊎◌, List, [], ◌∷◌, ints, by_lt_z, ℤ, pos, ◌*ℤ◌, neg_ℤ}
+use Rattle.qh_model.proofs.Common.{◌≤ℤ◌, ◌<ℤ◌, ℕ_discrete, HasDistinctPoints, IsAlong, IsDimension, HasTetrahedron, Extreme, Follows, IsFacePolygon, In}
+use Rattle.qh_model.proofs.Common.{Members, IsSupportingTriple, OnPlane, minus, dot, Vector, cross, vol}
+use Rattle.qh_model.specs.headline.Predicates.{left}
+use Rattle.qh_model.proofs.{Decisions.Decided, Decisions.same_id, polygons.PlaneTurns.level_volume, polygons.PlaneTurns.level_parallel}
 use Rattle.qh_model.proofs.algebra.Order.{cancel-zero, product_zero, le_antisym, mul-pos_neg, mul-nonneg_nonpos, mul-pos}
-use Rattle.qh_model.proofs.algebra.Integers.{mul_neg}
+use Rattle.qh_model.proofs.{algebra.Integers.mul_neg, polygons.LeftOfEdge.below, polygons.Unique.one_polygon}
 use Rattle.qh_model.proofs.algebra.VectorIdentities.{opposite, dot-opposite, vol-dot, vol-swap_last, vol-first, vol-second, vol-third, left-turn, left-flip}
 use Rattle.qh_model.proofs.extremes.Directions.{square-positive, from_plane, along_or_opposite, dot_along}
-use Rattle.qh_model.proofs.polygons.{Edges.seen_from, Edges.one_face_each_way, LeftOfEdge.below, Neighbours.next_member, Neighbours.follows_members}
-use Rattle.qh_model.proofs.polygons.{PlaneTurns.level_volume, PlaneTurns.level_parallel, Unique.one_polygon}
+use Rattle.qh_model.proofs.polygons.{Edges.seen_from, Edges.one_face_each_way, Neighbours.next_member, Neighbours.follows_members}
 use Rattle.qh_laws_surface.proofs.ConvexLists.{Turn, turned, no_back, first_two, not_first, not_second, IsTurn}
 
 -- equality of two lists is decided

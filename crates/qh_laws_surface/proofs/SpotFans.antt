@@ -1,19 +1,17 @@
 -- A spot that lies strictly inside a polygon lies in exactly one triangle of its fan, and any other spot in no triangle.
-use Rattle.std.proofs.Common.{◌≡◌, ◌≢◌, ℕ, arith, refl, sym, ap, ◌∙◌, inl, inr, ◌⊎◌, List, [], ◌∷◌, Bool, true, false, not, ◌&&◌}
+use Rattle.qh_model.proofs.Common.{◌≡◌, ◌≢◌, ℕ, arith, refl, sym, ap, ◌∙◌, inl, inr, ◌⊎◌, List, [], ◌∷◌, Bool, true, false, not, ◌&&◌, false_from_ne_true}
+use Rattle.qh_model.proofs.Common.{cases_Bool, and_parts, ints, list_all, ℤ, pos, ◌+ℤ◌, ◌*ℤ◌, ◌≤ℤ◌, ◌<ℤ◌, steps_along, steps_round, FollowsAlong, In, Vector}
 use Rattle.std.proofs.Math.Bool.{and-false}
-use Rattle.std.proofs.lemmas.{Bool.false_from_ne_true, Bool.cases_Bool, Bool.and_parts, Int.ints}
-use Rattle.std.specs.{List.list_all, Prelude.ℤ, Prelude.pos, Prelude.◌+ℤ◌, Prelude.◌*ℤ◌, Prelude.◌≤ℤ◌, Prelude.◌<ℤ◌}
-use Rattle.qh_model.specs.contract.ClosedPolygons.{steps_along, steps_round}
-use Rattle.qh_model.specs.headline.{Polygon.FollowsAlong, Predicates.left, Sets.In, Vector.Vector}
-use Rattle.qh_model.proofs.{closed_surfaces.Sums.sum_z, lists.Ordered.Ordered, polygons.Neighbours.along_members}
-use Rattle.qh_model.proofs.algebra.Order.{mul-pos, mul-nonneg, cancel-pos, positive_le}
+use Rattle.qh_model.specs.headline.Predicates.{left}
+use Rattle.qh_model.proofs.{closed_surfaces.Sums.sum_z, algebra.Order.mul-pos, algebra.Order.mul-nonneg, algebra.Order.cancel-pos, algebra.Order.positive_le}
+use Rattle.qh_model.proofs.{lists.Ordered.Ordered, polygons.Neighbours.along_members}
 use Rattle.qh_laws.proofs.{Crossings.number, Signs.above, Signs.is_above, Signs.above_is}
 use Rattle.qh_laws_surface.proofs.{PlanePieces.all_pass, PlanePieces.pass_all, StepCounts.Has, StepCounts.way_follows}
 use Rattle.qh_laws_surface.proofs.ConvexLists.{AllTurn, Turn, Next, next_members, next_ordered, side_left, turned, first_two, not_first, not_second, none_back}
 use Rattle.qh_laws_surface.proofs.ConvexLists.{not_right}
-use Rattle.qh_laws_surface.specs.contract.Covering.{Spot, spot_turn}
 use Rattle.qh_laws_surface.proofs.SpotTurns.{spot_turn-back, spot_turns-add, scale-positive, turns_mixed}
 use Rattle.qh_laws_surface.proofs.SpotTriangles.{all_three, OffLines, tri, tri_parts, over, over-odd, not_both, one_of}
+use Rattle.qh_laws_surface.specs.contract.Covering.{Spot, spot_turn}
 
 module _ (n : Vector) (at : ℕ → Vector) (s : Spot) where
   abbrev T : ℕ → ℕ → ℤ

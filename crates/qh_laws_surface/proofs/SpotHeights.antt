@@ -1,17 +1,14 @@
 -- Heights of a spot over planes, and the side of another plane on which a spot in a triangle lies.
-use Rattle.std.proofs.Common.{◌≡◌, ◌≢◌, ℕ, arith, sym, ap, ◌∙◌}
-use Rattle.std.proofs.lemmas.Int.{ints}
-use Rattle.std.specs.Prelude.{◌↔◌, ℤ, pos, ◌+ℤ◌, ◌*ℤ◌, ◌≤ℤ◌, ◌<ℤ◌}
-use Rattle.qh_model.specs.{headline.Predicates.cross, headline.Predicates.vol, headline.Predicates.left, headline.Vector.Vector, headline.Vector.minus}
-use Rattle.qh_model.specs.{headline.Vector.dot, headline.Vector.cross_product, headline.Vector.origin, laws.FaceLaws.IsAlong}
-use Rattle.qh_model.proofs.polygons.PlaneTurns.{parallel_dot, level_parallel}
-use Rattle.qh_model.proofs.algebra.{Integers.zero_mul, Order.cancel-zero, Order.cancel-nonpos, Order.product_zero, Order.mul-nonneg_nonpos, Order.positive_le}
+use Rattle.qh_model.proofs.Common.{◌≡◌, ◌≢◌, ℕ, arith, sym, ap, ◌∙◌, ints, ◌↔◌, ℤ, pos, ◌+ℤ◌, ◌*ℤ◌, ◌≤ℤ◌, ◌<ℤ◌, cross, vol, Vector, minus, dot, cross_product}
+use Rattle.qh_model.proofs.Common.{origin, IsAlong}
+use Rattle.qh_model.specs.headline.Predicates.{left}
+use Rattle.qh_model.proofs.{polygons.PlaneTurns.parallel_dot, polygons.PlaneTurns.level_parallel, algebra.Integers.zero_mul}
+use Rattle.qh_model.proofs.algebra.Order.{cancel-zero, cancel-nonpos, product_zero, mul-nonneg_nonpos, positive_le}
 use Rattle.qh_model.proofs.algebra.VectorIdentities.{vector_path, dot_comm, vol-dot, vol-first}
 use Rattle.qh_model.proofs.extremes.Directions.{at_least_along, Parallel, parallel_product, square-positive, from_plane, dot_along, positive_along, zero_along}
 use Rattle.qh_laws.proofs.Signs.{above, is_above, above_is}
-use Rattle.qh_laws_surface.proofs.StepCounts.{alike_tests}
+use Rattle.qh_laws_surface.proofs.{StepCounts.alike_tests, SpotTurns.way_height, SpotTurns.weighed_ways}
 use Rattle.qh_laws_surface.specs.contract.Covering.{Spot, way_to, spot_height, spot_turn}
-use Rattle.qh_laws_surface.proofs.SpotTurns.{way_height, weighed_ways}
 
 -- a spot in the plane of i, j and k, with respect to any point of the plane
 level_way : (at : ℕ → Vector) (i j k u : ℕ) (s : Spot) → spot_height at i j k s ≡ pos 0 → vol (at i) (at j) (at k) (at u) ≡ pos 0

@@ -1,13 +1,12 @@
 -- A spot in triangles, by the signs of its turns: the triangles over the sides of a triangle add up to it.
-use Rattle.std.proofs.Common.{◌≡◌, ℕ, ◌+◌, arith, refl, Bool, true, eqb, not, ◌&&◌, ◌≢◌, sym, ap, subst, ◌∙◌, inl, inr, ⊎_elim, false}
-use Rattle.std.proofs.{Math.Bool.and_assoc, Math.Bool.and_comm, lemmas.Bool.eqb-true, lemmas.Int.ints}
-use Rattle.std.specs.Prelude.{ℤ, pos, ◌+ℤ◌, ◌-ℤ◌, ◌*ℤ◌}
-use Rattle.qh_model.specs.headline.Vector.{Vector}
+use Rattle.qh_model.proofs.Common.{◌≡◌, ℕ, ◌+◌, arith, refl, Bool, true, eqb, not, ◌&&◌, ◌≢◌, sym, ap, subst, ◌∙◌, inl, inr, ⊎_elim, false, eqb-true, ints, ℤ}
+use Rattle.qh_model.proofs.Common.{pos, ◌+ℤ◌, ◌-ℤ◌, ◌*ℤ◌, Vector}
+use Rattle.std.proofs.Math.Bool.{and_assoc, and_comm}
 use Rattle.qh_model.proofs.{Decisions.Decided, Decisions.same_id, algebra.Order.zero_product}
 use Rattle.qh_laws.proofs.Crossings.{both, each, gives, given, number}
 use Rattle.qh_laws.proofs.Signs.{same, fits_sum, above, not_above, above_is, above_product, above-neg, sum_fits}
-use Rattle.qh_laws_surface.proofs.ConvexLists.{Turn, first_two, not_first, not_second}
-use Rattle.qh_laws_surface.proofs.{StepCounts.IsOdd, SpotTurns.spot_turn-back, SpotTurns.turn_pairs}
+use Rattle.qh_laws_surface.proofs.{ConvexLists.Turn, ConvexLists.first_two, ConvexLists.not_first, ConvexLists.not_second, StepCounts.IsOdd}
+use Rattle.qh_laws_surface.proofs.SpotTurns.{spot_turn-back, turn_pairs}
 use Rattle.qh_laws_surface.specs.contract.Covering.{Spot, spot_turn}
 
 -- a test of six truth values, in all cases

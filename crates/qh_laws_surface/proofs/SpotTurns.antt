@@ -1,8 +1,7 @@
 -- The turns of a spot about the corners of a polygon, and the relations between them.
-use Rattle.std.proofs.Common.{◌≡◌, ℕ, arith, refl, sym, ap, ◌∙◌, [], ◌∷◌}
-use Rattle.std.proofs.lemmas.Int.{ints}
-use Rattle.std.specs.Prelude.{◌-ℤ◌, ℤ, pos, ◌+ℤ◌, ◌*ℤ◌, neg_ℤ, ◌<ℤ◌}
-use Rattle.qh_model.specs.headline.{Predicates.cross, Predicates.left, Vector.minus, Vector.Vector, Vector.dot, Vector.cross_product}
+use Rattle.qh_model.proofs.Common.{◌≡◌, ℕ, arith, refl, sym, ap, ◌∙◌, [], ◌∷◌, ints, ◌-ℤ◌, ℤ, pos, ◌+ℤ◌, ◌*ℤ◌, neg_ℤ, ◌<ℤ◌, cross, minus, Vector, dot}
+use Rattle.qh_model.proofs.Common.{cross_product}
+use Rattle.qh_model.specs.headline.Predicates.{left}
 use Rattle.qh_model.proofs.algebra.Ring.{ring, Expr, Expr.var, Expr.add, Expr.mul, Expr.neg, Expr.con, Expr.sub as less}
 use Rattle.qh_model.proofs.algebra.Order.{product_zero}
 use Rattle.qh_model.proofs.algebra.VectorIdentities.{dot-minus, left-linear, VE, vec, put, dotE, crossE, subE, leftE}

@@ -1,12 +1,9 @@
 -- The number of times that lists of steps and polygons take a step, and sums over steps of functions that change their sign with a step.
-use Rattle.std.proofs.Common.{◌≡◌, ℕ, ◌+◌, ◌<◌, ◌≤◌, arith, refl, sym, ap, subst, ◌∙◌, inl, inr, ⊎_elim, ◌⊎◌, List, [], ◌∷◌, ◌++◌, Bool, true, map, false, cond}
-use Rattle.std.proofs.lemmas.{Bool.cases_Bool, Bool.cases_lt, Int.ints}
-use Rattle.std.specs.{List.flat_map, Prelude.◌↔◌, Prelude.filter, Prelude.ℤ, Prelude.pos, Prelude.◌+ℤ◌, Prelude.◌-ℤ◌, Prelude.neg_ℤ}
-use Rattle.qh_model.specs.contract.ClosedPolygons.{steps_along, steps_round, AreClosed, step_count}
-use Rattle.qh_model.specs.contract.ClosedSurface.{is_edge}
-use Rattle.qh_model.specs.headline.{Polygon.FollowsAlong, Polygon.Follows, Sets.In, Sets.Once}
-use Rattle.qh_model.proofs.Decisions.{Decided, test, told, holds, contrary, same_number}
-use Rattle.qh_model.proofs.{lists.Filters.of_filter, lists.Images.in_map, lists.Joined.of_flat_map, lists.Joined.once_append, polygons.Steps.on_round}
+use Rattle.qh_model.proofs.Common.{◌≡◌, ℕ, ◌+◌, ◌<◌, ◌≤◌, arith, refl, sym, ap, subst, ◌∙◌, inl, inr, ⊎_elim, ◌⊎◌, List, [], ◌∷◌, ◌++◌, Bool, true, map, false}
+use Rattle.qh_model.proofs.Common.{cond, cases_Bool, cases_lt, ints, flat_map, ◌↔◌, filter, ℤ, pos, ◌+ℤ◌, ◌-ℤ◌, neg_ℤ, steps_along, steps_round, AreClosed}
+use Rattle.qh_model.proofs.Common.{step_count, is_edge, FollowsAlong, Follows, In, Once}
+use Rattle.qh_model.proofs.{Decisions.Decided, Decisions.test, Decisions.told, Decisions.holds, Decisions.contrary, Decisions.same_number, lists.Images.in_map}
+use Rattle.qh_model.proofs.{lists.Filters.of_filter, lists.Joined.of_flat_map, lists.Joined.once_append, polygons.Steps.on_round}
 use Rattle.qh_model.proofs.closed_surfaces.Sums.{count, count-is, sum_z, count_kept, sum_z-same_counts}
 use Rattle.qh_model.proofs.closed_surfaces.SignedVolume.{edge_tests, back, is_edge-back}
 

@@ -1,12 +1,10 @@
 -- A surface in pieces encloses the volume of the hull.
-use Rattle.std.proofs.Common.{◌≡◌, ℕ, arith, refl, sym, ap, subst, ◌∙◌, inl, inr, List, [], ◌∷◌, Bool, true, false, cond}
-use Rattle.std.proofs.lemmas.{Bool.cases_Bool, Int.ints}
-use Rattle.std.specs.Prelude.{filter, ℤ, pos, ◌+ℤ◌, ◌*ℤ◌}
-use Rattle.qh_model.specs.headline.{Extreme.Extreme, Sets.In, Sets.Once, Sets.Members, SupportingPlane.OnPlane, Vector.Vector, Vector.dot}
-use Rattle.qh_model.specs.headline.Predicates.{cross, vol, left}
-use Rattle.qh_model.proofs.{closed_surfaces.Sums.sum_z, extremes.Directions.square-positive, lists.Filters.of_filter, lists.Lexicographic.rising-ordered}
-use Rattle.qh_model.proofs.algebra.Integers.{mul_add, add_mul}
-use Rattle.qh_model.proofs.polygons.{PlaneTurns.level_volume, Steps.ordered_once, Unique.one_polygon}
+use Rattle.qh_model.proofs.Common.{◌≡◌, ℕ, arith, refl, sym, ap, subst, ◌∙◌, inl, inr, List, [], ◌∷◌, Bool, true, false, cond, cases_Bool, ints, filter, ℤ, pos}
+use Rattle.qh_model.proofs.Common.{◌+ℤ◌, ◌*ℤ◌, Extreme, In, Once, Members, OnPlane, Vector, dot, cross, vol}
+use Rattle.qh_model.specs.headline.Predicates.{left}
+use Rattle.qh_model.proofs.{closed_surfaces.Sums.sum_z, polygons.PlaneTurns.level_volume, polygons.Steps.ordered_once, polygons.Unique.one_polygon}
+use Rattle.qh_model.proofs.{extremes.Directions.square-positive, lists.Lexicographic.rising-ordered, algebra.Integers.mul_add, algebra.Integers.add_mul}
+use Rattle.qh_model.proofs.lists.Filters.{of_filter}
 use Rattle.qh_laws.proofs.ScaledPoints.{cancel-both}
 use Rattle.qh_check.specs.contract.Surfaces.{IsFaceSurface}
 use Rattle.qh_laws_surface.specs.contract.Measures.{lies_in, volume_along, cone_volume, cone_volumes}

@@ -1,11 +1,8 @@
 -- A replacement decreases the signed volume: at the apex the contribution of a remaining facet is unchanged, that of a facet of the cone is 0, and that of a
 -- removed facet was above 0.
-use Rattle.std.proofs.Common.{◌≡◌, ℕ, zero, suc, ◌+◌, arith, ap, ◌∙◌, refl, subst, true, false, cond, inl, inr, List, [], ◌∷◌, slice_index, zero-add}
-use Rattle.std.proofs.lemmas.{Bool.cases_Bool, Bool.both_ways, Int.ints}
-use Rattle.std.specs.Prelude.{ℤ, pos, ◌+ℤ◌, ◌<ℤ◌, ◌≤ℤ◌}
-use Rattle.qh_model.specs.contract.{ClosedSurface.signed_volume, ClosedSurface.triples_from, ClosedSurface.triples_of, FinishedSurface.middle_at}
-use Rattle.qh_model.specs.contract.StoredSurface.{StoredFacet, facet_at, live_from, surface_of}
-use Rattle.qh_model.specs.{contract.Surface.Surface, headline.Predicates.vol, headline.Sets.In, headline.Vector.Vector}
+use Rattle.qh_model.proofs.Common.{◌≡◌, ℕ, zero, suc, ◌+◌, arith, ap, ◌∙◌, refl, subst, true, false, cond, inl, inr, List, [], ◌∷◌, slice_index, zero-add}
+use Rattle.qh_model.proofs.Common.{cases_Bool, both_ways, ints, ℤ, pos, ◌+ℤ◌, ◌<ℤ◌, ◌≤ℤ◌, signed_volume, triples_from, triples_of, middle_at, StoredFacet}
+use Rattle.qh_model.proofs.Common.{facet_at, live_from, surface_of, Surface, vol, In, Vector}
 use Rattle.qh_model.proofs.Members.{in_at, In-get_or}
 use Rattle.qh_model.proofs.{algebra.Signs.less_le, algebra.Signs.equal_le, algebra.VectorIdentities.vol-third, closed_surfaces.SignedVolume.volume_is_constant}
 use Rattle.qh_mesh.specs.contract.{Replacement.is_listed, Replacement.IsKept, SoundMesh.facet_vol, SoundMesh.IsSoundMesh, SoundMesh.AreVisible}

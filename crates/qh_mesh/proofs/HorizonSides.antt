@@ -1,21 +1,18 @@
 -- The horizon of listed facets: its edges, its balance, and how it is collected.
-use Rattle.std.proofs.Common.{◌≡◌, ℕ, ◌+◌, ◌/◌, ◌<◌, ◌≤◌, arith, ap, sym, ◌∙◌, refl, subst, Bool, true, false, cond, not, inl, inr, List, [], ◌∷◌, All, length}
-use Rattle.std.proofs.Common.{map, slice_index}
-use Rattle.std.proofs.lemmas.{Bool.cases_Bool, Bool.not-true, Bool.not_from_false, List.Filters.sum_by-filter_both, List.Sums.sum_by-cons}
-use Rattle.std.specs.Prelude.{filter, count_by, flat_map}
-use Rattle.qh_model.specs.contract.{StoredSurface.StoredFacet, StoredSurface.facet_at, Surface.Side, Surface.Side.first, Surface.Side.second}
-use Rattle.qh_model.specs.{contract.Surface.Side.third, headline.Sets.In}
-use Rattle.qh_model.proofs.Members.{All-In, All-of, In-get_or, in_at}
-use Rattle.qh_model.proofs.lists.{Counts.count-map, Counts.count_twins, Filters.in_filter, Filters.of_filter, Filters.once_filter, Filters.filter_image}
-use Rattle.qh_model.proofs.{lists.OnceEach.once_place, surfaces.Stored.live_inside}
-use Rattle.qh_mesh.specs.contract.Edges.{edge_of, facet_of, side_of_edge, twin_of}
+use Rattle.qh_model.proofs.Common.{◌≡◌, ℕ, ◌+◌, ◌/◌, ◌<◌, ◌≤◌, arith, ap, sym, ◌∙◌, refl, subst, Bool, true, false, cond, not, inl, inr, List, [], ◌∷◌, All}
+use Rattle.qh_model.proofs.Common.{length, map, slice_index, cases_Bool, not-true, sum_by-cons, filter, count_by, flat_map, StoredFacet, facet_at, Side, first}
+use Rattle.qh_model.proofs.Common.{second, third, In}
+use Rattle.std.proofs.lemmas.{Bool.not_from_false, List.Filters.sum_by-filter_both}
+use Rattle.qh_model.proofs.{Members.All-In, Members.All-of, Members.In-get_or, Members.in_at, lists.Counts.count-map, lists.Counts.count_twins}
+use Rattle.qh_model.proofs.lists.{Filters.in_filter, Filters.of_filter, Filters.once_filter, Filters.filter_image, OnceEach.once_place}
+use Rattle.qh_model.proofs.surfaces.Stored.{live_inside}
+use Rattle.qh_mesh.specs.{contract.Edges.edge_of, contract.Edges.facet_of, contract.Edges.side_of_edge, contract.Edges.twin_of, steps.Surfaces.IsSurface}
 use Rattle.qh_mesh.specs.contract.Replacement.{sides_of, is_listed, horizon, IsLive, AreFacets, IsKept}
-use Rattle.qh_mesh.specs.declared.slots.End.{End, TheVariants.Start, TheVariants.Finish}
+use Rattle.qh_mesh.specs.{declared.slots.End.End, declared.slots.End.TheVariants.Start, declared.slots.End.TheVariants.Finish, steps.Places.Removed}
 use Rattle.qh_mesh.specs.steps.Horizons.{corner, other, edge_side, IsBalanced, HasSidesInside, is_open, three_sides, open_sides}
-use Rattle.qh_mesh.specs.steps.{Kept.side_of, Kept.outer_of, Kept.is_live, Kept.removed, Places.Removed, Surfaces.IsSurface, Twins.HasTwin, Twins.HasTwins}
-use Rattle.qh_mesh.proofs.EdgeSides.{edge-facet, twin-is, side-is, noted-is}
+use Rattle.qh_mesh.specs.steps.{Kept.side_of, Kept.outer_of, Kept.is_live, Kept.removed, Twins.HasTwin, Twins.HasTwins}
+use Rattle.qh_mesh.proofs.{EdgeSides.edge-facet, EdgeSides.twin-is, EdgeSides.side-is, EdgeSides.noted-is, Mates.meets}
 use Rattle.qh_mesh.proofs.ListedFacets.{listed_live, in_sides, of_sides, once_sides, in_listed, listed_in, unlisted_at}
-use Rattle.qh_mesh.proofs.Mates.{meets}
 
 module _ (old : List StoredFacet) (vs : List ℕ) where
   -- the edge at a position of the horizon

@@ -1,8 +1,7 @@
 -- Lists of facets without repetition, and the list of their sides.
-use Rattle.std.proofs.Common.{◌≡◌, ◌≢◌, ℕ, ◌+◌, ◌*◌, ◌/◌, ◌<◌, ◌++◌, arith, sym, refl, subst, true, false, cond, nat_eq, inl, inr, List, [], ◌∷◌, length}
-use Rattle.std.proofs.{Common.slice_index, lemmas.Bool.both_ways, lemmas.Bool.cases_lt, lemmas.Bool.eq-eqb, lemmas.Bool.Decides.eqb_tells}
-use Rattle.qh_model.specs.contract.{StoredSurface.StoredFacet, Surface.Side, Surface.Side.first, Surface.Side.second, Surface.Side.third}
-use Rattle.qh_model.specs.headline.Sets.{In, Once}
+use Rattle.qh_model.proofs.Common.{◌≡◌, ◌≢◌, ℕ, ◌+◌, ◌*◌, ◌/◌, ◌<◌, ◌++◌, arith, sym, refl, subst, true, false, cond, nat_eq, inl, inr, List, [], ◌∷◌, length}
+use Rattle.qh_model.proofs.Common.{slice_index, both_ways, cases_lt, eq-eqb, StoredFacet, Side, first, second, third, In, Once}
+use Rattle.std.proofs.lemmas.Bool.Decides.{eqb_tells}
 use Rattle.qh_model.proofs.{Members.All-In, Members.In-get_or, lists.Joined.once_append, lists.OnceEach.once_place}
 use Rattle.qh_mesh.specs.contract.{Edges.edge_of, Replacement.sides_of, Replacement.is_listed, Replacement.IsLive, Replacement.AreFacets}
 use Rattle.qh_mesh.proofs.EdgeSides.{edge-facet}

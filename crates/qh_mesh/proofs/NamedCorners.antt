@@ -1,9 +1,7 @@
 -- A surface remains one if its corners are renamed.
-use Rattle.std.proofs.Common.{◌≡◌, ℕ, ◌/◌, ap, sym, ◌∙◌, refl, List, map, reverse}
-use Rattle.std.proofs.lemmas.List.{length-map}
-use Rattle.qh_model.specs.contract.StoredSurface.{named_facet, StoredFacet, facet_at}
-use Rattle.qh_model.proofs.lists.Counts.{count-map}
-use Rattle.qh_model.proofs.surfaces.{Named.stored_named, Named.stored_part, Named.start_named, Named.end_named, Stored.in_live}
+use Rattle.qh_model.proofs.Common.{◌≡◌, ℕ, ◌/◌, ap, sym, ◌∙◌, refl, List, map, reverse, length-map, named_facet, StoredFacet, facet_at}
+use Rattle.qh_model.proofs.{lists.Counts.count-map, surfaces.Stored.in_live}
+use Rattle.qh_model.proofs.surfaces.Named.{stored_named, stored_part, start_named, end_named}
 use Rattle.qh_mesh.specs.contract.{Edges.edge_end, Edges.edge_start, Edges.side_of_edge, Edges.twin_of, Replacement.IsLive}
 use Rattle.qh_mesh.specs.steps.{Kept.is_live, Kept.outer_of, Surfaces.IsSurface, Twins.HasTwins}
 use Rattle.qh_mesh.proofs.Pools.{pool_same}

@@ -1,10 +1,8 @@
 -- The free places, as they are allocated and freed.
-use Rattle.std.proofs.Common.{◌≡◌, ◌≢◌, ℕ, ◌<◌, ◌≤◌, inl, inr, max, arith, ap, sym, ◌∙◌, refl, subst, Bool, true, false, cond, List, [], ◌∷◌, ◌++◌, length}
-use Rattle.std.proofs.Common.{reverse, set}
-use Rattle.std.proofs.lemmas.{Bool.both_ways, Bool.cases_lt, List.get_or_append_left, List.get_or_push, List.length_push, List.length-reverse}
-use Rattle.std.proofs.lemmas.List.{length-set, get_or-set_same, get_or-set_other, append_assoc, reverse-append, append-nil, Sums.sum_by-set, Sums.sum_by_push}
-use Rattle.qh_model.specs.contract.StoredSurface.{StoredFacet, facet_at, no_facet, surface_of}
-use Rattle.qh_model.specs.headline.Sets.{In}
+use Rattle.qh_model.proofs.Common.{◌≡◌, ◌≢◌, ℕ, ◌<◌, ◌≤◌, inl, inr, max, arith, ap, sym, ◌∙◌, refl, subst, Bool, true, false, cond, List, [], ◌∷◌, ◌++◌, length}
+use Rattle.qh_model.proofs.Common.{reverse, set, both_ways, cases_lt, get_or_append_left, get_or_push, length_push, length-set, get_or-set_same}
+use Rattle.qh_model.proofs.Common.{get_or-set_other, append_assoc, reverse-append, append-nil, sum_by-set, StoredFacet, facet_at, no_facet, surface_of, In}
+use Rattle.std.proofs.lemmas.List.{length-reverse, Sums.sum_by_push}
 use Rattle.qh_model.proofs.{lists.Joined.of_append, lists.Joined.once_append, surfaces.Stored.live_inside, surfaces.Stored.live_len}
 use Rattle.qh_mesh.specs.{contract.Replacement.IsLive, steps.Kept.is_live, steps.Places.IsPool, steps.Places.IsVacant, steps.Places.live_count}
 

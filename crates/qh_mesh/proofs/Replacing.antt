@@ -1,18 +1,16 @@
 -- The steps of a replacement form a replacement, and their result is a surface.
-use Rattle.std.proofs.Common.{◌≡◌, ℕ, ◌/◌, ◌<◌, arith, ap, sym, ◌∙◌, refl, subst, false, inl, inr, List, length, ◌≢◌, ◌⊎◌, slice_index, reverse, length-append}
-use Rattle.std.proofs.lemmas.{Bool.cases_Bool, Bool.both_ways, Bool.false_from_ne_true, List.length-map, List.get_or-map}
-use Rattle.qh_model.specs.{contract.StoredSurface.StoredFacet, contract.StoredSurface.facet_at, headline.Sets.In}
+use Rattle.qh_model.proofs.Common.{◌≡◌, ℕ, ◌/◌, ◌<◌, arith, ap, sym, ◌∙◌, refl, subst, false, inl, inr, List, length, ◌≢◌, ◌⊎◌, slice_index, reverse}
+use Rattle.qh_model.proofs.Common.{length-append, cases_Bool, both_ways, false_from_ne_true, length-map, get_or-map, StoredFacet, facet_at, In}
 use Rattle.qh_model.proofs.{Members.All-of, Members.In-get_or, lists.Joined.in_append, lists.Joined.once_left, surfaces.Stored.live_inside}
-use Rattle.qh_mesh.specs.contract.Edges.{side_of_edge, twin_of}
+use Rattle.qh_mesh.specs.{contract.Edges.side_of_edge, contract.Edges.twin_of, declared.slots.End.TheVariants.Start, declared.slots.End.TheVariants.Finish}
 use Rattle.qh_mesh.specs.contract.Replacement.{is_listed, horizon, IsLive, AreFacets, IsKept, IsReplacement, IsCone}
-use Rattle.qh_mesh.specs.declared.{facets.FacetSide.FacetSide, slots.End.End, slots.End.TheVariants.Start, slots.End.TheVariants.Finish}
-use Rattle.qh_mesh.specs.steps.{Cones.bare, Horizons.side_at, Horizons.no_side, Horizons.corner, Horizons.other, Horizons.edge_side, Horizons.IsBalanced}
-use Rattle.qh_mesh.specs.steps.{Horizons.IsMate, Kept.is_live, Kept.outer_of, Places.IsVacant, Rebuilt.IsCleared, Rebuilt.IsChosen, Rebuilt.IsConed}
-use Rattle.qh_mesh.specs.steps.{Rebuilt.IsPrepared, Rebuilt.IsReady, Rebuilt.IsRebuilt, Surfaces.IsSurface, Twins.HasTwin}
-use Rattle.qh_mesh.proofs.FallingVolumes.{step_falls}
+use Rattle.qh_mesh.specs.{declared.facets.FacetSide.FacetSide, declared.slots.End.End, steps.Kept.is_live, steps.Kept.outer_of, steps.Surfaces.IsSurface}
+use Rattle.qh_mesh.specs.steps.{Cones.bare, Places.IsVacant, Twins.HasTwin}
+use Rattle.qh_mesh.specs.steps.Horizons.{side_at, no_side, corner, other, edge_side, IsBalanced, IsMate}
+use Rattle.qh_mesh.specs.steps.Rebuilt.{IsCleared, IsChosen, IsConed, IsPrepared, IsReady, IsRebuilt}
+use Rattle.qh_mesh.proofs.{FallingVolumes.step_falls, ListedFacets.listed_in, ListedFacets.unlisted_at, Mates.has_mate, Mates.mate_only, Mates.mate_twice}
 use Rattle.qh_mesh.proofs.HorizonSides.{edge, on_horizon, horizon_twin, same_place, horizon_balanced, gone, stays}
-use Rattle.qh_mesh.proofs.{ListedFacets.listed_in, ListedFacets.unlisted_at, Mates.has_mate, Mates.mate_only, Mates.mate_twice, Pools.places_are}
-use Rattle.qh_mesh.proofs.{Rewiring.twins_after, Rewiring.IsStep, Rewiring.rewired, SoundMeshes.step_is_sound, SoundMeshes.step_is_closed}
+use Rattle.qh_mesh.proofs.{Pools.places_are, Rewiring.twins_after, Rewiring.IsStep, Rewiring.rewired, SoundMeshes.step_is_sound, SoundMeshes.step_is_closed}
 
 module _ (old chosen : List StoredFacet) (free left vs : List ℕ) (hs : List FacetSide) (made : List ℕ)
     (s : IsSurface old free) (a : AreFacets old vs) (p : IsPrepared old chosen left vs hs made) where

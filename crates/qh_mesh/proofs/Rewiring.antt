@@ -1,11 +1,9 @@
 -- After a replacement twins are mutual again, and a replacement of the facets that a point sees is a step of Quickhull.
-use Rattle.std.proofs.Common.{slice_index, ◌≡◌, ℕ, ◌/◌, ◌<◌, ◌⊎◌, arith, ap, sym, ◌∙◌, refl, true, false, inl, inr, List, length, subst}
-use Rattle.std.proofs.lemmas.Bool.{cases_Bool, true_from_ne_false, false_from_ne_true}
-use Rattle.std.specs.Prelude.{pos}
-use Rattle.qh_model.specs.contract.{FinishedSurface.weighted_at, Rewired.IsHorizonSide, Rewired.LinksTo, Rewired.IsRewired}
-use Rattle.qh_model.specs.contract.StoredSurface.{StoredFacet, facet_at, surface_of}
-use Rattle.qh_model.specs.contract.Surface.{Side, Surface, start, end, Sees, IsBlindTo, rise, Side.first, Side.second, Side.third}
-use Rattle.qh_model.specs.{contract.Weighted.Weighted, headline.Sets.In, headline.Vector.Vector}
+use Rattle.qh_model.proofs.Common.{slice_index, ◌≡◌, ℕ, ◌/◌, ◌<◌, ◌⊎◌, arith, ap, sym, ◌∙◌, refl, true, false, inl, inr, List, length, subst, cases_Bool}
+use Rattle.qh_model.proofs.Common.{false_from_ne_true, pos, weighted_at, IsHorizonSide, IsRewired, StoredFacet, facet_at, surface_of, Side, Surface, end, Sees}
+use Rattle.qh_model.proofs.Common.{IsBlindTo, rise, first, second, third, Weighted, In, Vector}
+use Rattle.std.proofs.lemmas.Bool.{true_from_ne_false}
+use Rattle.qh_model.specs.contract.{Rewired.LinksTo, Surface.start}
 pub use Rattle.qh_model.proofs.surfaces.Stored.{live_in, in_live}
 use Rattle.qh_model.proofs.{Members.In-get_or, Members.in_at, algebra.Signs.not_less, surfaces.SurfaceLaws.rise_is_vol, surfaces.SurfaceLaws.horizon_is_known}
 use Rattle.qh_mesh.specs.contract.Edges.{edge_end, edge_of, edge_start, facet_of, side_of_edge, twin_of}

@@ -1,14 +1,12 @@
 -- Sound meshes: the simplex, the result of a step, and that both are closed.
-use Rattle.std.proofs.Common.{slice_index, ◌≡◌, ℕ, arith, rules, refl, [], ◌≢◌, sym, inl, inr, List, ◌∷◌, subst}
-use Rattle.std.proofs.lemmas.{Bool.cases_Bool, Int.ints, Int.by_lt_z}
-use Rattle.std.specs.Prelude.{pos, ◌≤ℤ◌, ◌<ℤ◌}
-use Rattle.qh_model.specs.contract.{ClosedSurface.signed_volume, ClosedSurface.triples_of, FinishedSurface.weighted_at, FinishedSurface.middle_at}
-use Rattle.qh_model.specs.contract.{FinishedSurface.IsFinished, StoredSurface.StoredFacet, StoredSurface.surface_of, Weighted.Weighted, Weighted.weighted}
-use Rattle.qh_model.specs.{headline.Predicates.vol, headline.Sets.In, headline.Vector.Vector, laws.SimplexSurface.simplex_surface}
-use Rattle.qh_model.proofs.algebra.{Signs.less_le, Signs.not_less, VectorIdentities.vol-flip_last}
+use Rattle.qh_model.proofs.Common.{slice_index, ◌≡◌, ℕ, arith, rules, refl, [], ◌≢◌, sym, inl, inr, List, ◌∷◌, subst, cases_Bool, ints, by_lt_z, pos, ◌≤ℤ◌}
+use Rattle.qh_model.proofs.Common.{◌<ℤ◌, signed_volume, triples_of, weighted_at, middle_at, IsFinished, StoredFacet, surface_of, Weighted, weighted, vol, In}
+use Rattle.qh_model.proofs.Common.{Vector, simplex_surface}
+use Rattle.qh_model.proofs.{algebra.Signs.less_le, algebra.Signs.not_less, surfaces.Named.IsNamed, surfaces.Named.sound_named, surfaces.Named.whole_named}
+use Rattle.qh_model.proofs.{algebra.VectorIdentities.vol-flip_last, surfaces.Simplex.four, surfaces.Simplex.middle-turned, surfaces.Simplex.simplex_sound}
 use Rattle.qh_model.proofs.surfaces.Closed.{of_facets, sound_is_closed, sound_has_volume, seen_volume}
-use Rattle.qh_model.proofs.surfaces.{Named.IsNamed, Named.sound_named, Named.whole_named, Rewired.replace_keeps, Simplex.four, Simplex.middle-turned}
-use Rattle.qh_model.proofs.surfaces.{Simplex.simplex_sound, Stored.live_in, Stored.in_live, Stored.live_is_listed_once, SurfaceLaws.rise_is_vol}
+use Rattle.qh_model.proofs.surfaces.Rewired.{replace_keeps}
+use Rattle.qh_model.proofs.surfaces.{Stored.live_in, Stored.in_live, Stored.live_is_listed_once, SurfaceLaws.rise_is_vol}
 use Rattle.qh_mesh.specs.contract.Replacement.{is_listed, IsLive}
 use Rattle.qh_mesh.specs.contract.SoundMesh.{simplex_facets, facet_vol, IsSoundMesh, IsClosedMesh, AreVisible}
 use Rattle.qh_mesh.proofs.Rewiring.{IsStep, rewired}

@@ -1,10 +1,9 @@
 -- The writes of the loops of a replacement after one more turn.
-use Rattle.std.proofs.Common.{slice_index, ◌≡◌, ◌≢◌, ℕ, ◌+◌, ◌/◌, ◌<◌, arith, ap, sym, ◌∙◌, refl, subst, cond, ◌⊎◌, inl, inr, List, length, get_or, set}
-use Rattle.std.proofs.lemmas.List.{get_or-set_same, get_or-set_other, length-set, Sums.sum_by-set}
-use Rattle.qh_model.specs.contract.StoredSurface.{StoredFacet, facet_at, no_facet}
-use Rattle.qh_model.specs.contract.Surface.{Side, Side.first, Side.second, Side.third}
-use Rattle.qh_mesh.specs.{contract.Edges.edge_of, contract.Edges.side_of_edge, contract.Edges.twin_of, declared.facets.FacetSide.FacetSide}
-use Rattle.qh_mesh.specs.steps.{Cones.bare, Cones.Joined, Horizons.side_at, Kept.is_live, Kept.outer_of, Kept.with_twin, Writes.Scattered}
+use Rattle.qh_model.proofs.Common.{slice_index, ◌≡◌, ◌≢◌, ℕ, ◌+◌, ◌/◌, ◌<◌, arith, ap, sym, ◌∙◌, refl, subst, cond, ◌⊎◌, inl, inr, List, length, get_or, set}
+use Rattle.qh_model.proofs.Common.{get_or-set_same, get_or-set_other, length-set, sum_by-set, StoredFacet, facet_at, no_facet, Side, first, second, third}
+use Rattle.qh_mesh.specs.{contract.Edges.edge_of, contract.Edges.side_of_edge, contract.Edges.twin_of, steps.Cones.bare, steps.Cones.Joined}
+use Rattle.qh_mesh.specs.{declared.facets.FacetSide.FacetSide, steps.Horizons.side_at, steps.Kept.is_live, steps.Kept.outer_of, steps.Kept.with_twin}
+use Rattle.qh_mesh.specs.steps.Writes.{Scattered}
 use Rattle.qh_mesh.proofs.{EdgeSides.edge_is, NumberCases.same_or, NumberCases.below_next}
 
 -- one more write, at a new position

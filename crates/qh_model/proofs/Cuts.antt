@@ -1,9 +1,8 @@
 -- Cuts into blocks.
-use Rattle.std.proofs.Common.{ℕ, zero, suc, ◌≡◌, ◌+◌, ◌*◌, ◌-◌, ◌≤◌, ◌<◌, List, [], ◌∷◌, ◌++◌, length, min, Bool, true, false, nat_lt, le_refl, refl, subst}
-use Rattle.std.proofs.{Common.arith, Math.Seq.get_or-append_seam}
-use Rattle.std.proofs.lemmas.{Grind.div_ceil_times, Grind.common_steps, List.get_or_append_left, Nat.mul-le}
-use Rattle.qh_model.specs.contract.Cut.{IsCut, IsEvenCut, block_count, bound, blocks_of, positions}
-use Rattle.qh_model.specs.declared.limits.TheConstants.{BLOCK_LIMIT, POINT_LIMIT}
+use Rattle.qh_model.proofs.Common.{ℕ, zero, suc, ◌≡◌, ◌+◌, ◌*◌, ◌-◌, ◌≤◌, ◌<◌, List, [], ◌∷◌, ◌++◌, length, min, Bool, true, false, nat_lt, refl, subst, arith}
+use Rattle.qh_model.proofs.Common.{get_or-append_seam, common_steps, get_or_append_left, IsCut, IsEvenCut, block_count, bound, blocks_of, positions}
+use Rattle.qh_model.proofs.Common.{BLOCK_LIMIT, POINT_LIMIT}
+use Rattle.std.proofs.{Common.le_refl, lemmas.Grind.div_ceil_times, lemmas.Nat.mul-le}
 use Rattle.qh_model.specs.laws.CutLaws.{IsInBlock, BlocksCover, BlocksAreApart, BlocksAreInside, BlocksAreNotEmpty}
 
 -- a multiple of the size before the end of the last block is below m

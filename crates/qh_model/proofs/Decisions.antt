@@ -1,11 +1,7 @@
 -- Decided claims about pairs, members of a list, ids, numbers and vectors.
-use Rattle.std.proofs.Common.{◌≡◌, ℕ, ◌⊎◌, inl, inr, ⊎_elim, List, [], ◌∷◌, refl, sym, subst, ap, Bool, true, false}
-use Rattle.std.proofs.lemmas.Int.{by_lt_z}
-use Rattle.std.specs.Prelude.{ℤ, ◌≤ℤ◌, ◌<ℤ◌}
-use native.Mathlib.Decide.{ℕ_discrete}
-use lib.IntN.{ℤ_discrete}
+use Rattle.qh_model.proofs.Common.{◌≡◌, ℕ, ◌⊎◌, inl, inr, ⊎_elim, List, [], ◌∷◌, refl, sym, subst, ap, Bool, true, false, by_lt_z, ℤ, ◌≤ℤ◌, ◌<ℤ◌, ℕ_discrete}
+use Rattle.qh_model.proofs.Common.{ℤ_discrete, Vector, In}
 use Rattle.qh_model.proofs.algebra.{Signs.not_less, VectorIdentities.vector_path}
-use Rattle.qh_model.specs.headline.{Vector.Vector, Sets.In}
 
 -- a claim holds or not
 abbrev pub Decided : Type 0 → Type 0

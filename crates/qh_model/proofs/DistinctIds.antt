@@ -1,9 +1,6 @@
 -- Facts about the distinct ids of a list of points.
-use Rattle.std.proofs.Common.{ℕ, zero, suc, ◌+◌, ◌<◌, ◌≤◌, List, [], ◌∷◌, length, get_or, add-one, arith, sym, All}
-use Rattle.std.proofs.lemmas.List.Elements.{All-from_get_or}
-use Rattle.std.specs.List.Sorted.{IsStrictlyIncreasing}
-use Rattle.qh_model.specs.contract.IdSets.{HasDistinctPoints}
-use Rattle.qh_model.specs.headline.{DistinctIds.AreDistinctIds, Predicates.place, Sets.In, Sets.Members, Vector.Vector}
+use Rattle.qh_model.proofs.Common.{ℕ, zero, suc, ◌+◌, ◌<◌, ◌≤◌, List, [], ◌∷◌, length, get_or, add-one, arith, sym, All, All-from_get_or, IsStrictlyIncreasing}
+use Rattle.qh_model.proofs.Common.{HasDistinctPoints, AreDistinctIds, place, In, Members, Vector}
 use Rattle.qh_model.proofs.Members.{In-get_or, in_at}
 
 -- distinct ids are indices of points

@@ -1,3 +1,4 @@
+pub mod Common
 pub mod Cuts
 pub mod Decisions
 pub mod DistinctIds

@@ -1,9 +1,7 @@
 -- Members of lists: by index, by the predicates of std, in lists of rising numbers, and facts about each member.
-use Rattle.std.proofs.Common.{◌∙◌, ℕ, zero, suc, ◌<◌, List, [], ◌∷◌, ◌++◌, length, add-one, arith, refl, sym, subst, inl, inr, All, get_or, ◌≡◌, IsPermutation}
-use Rattle.std.proofs.lemmas.List.{get_or_default, Elements.All-append, Elements.All-head, Elements.All-tail, Elements.All-from_recursion}
-use Rattle.std.proofs.lemmas.List.Sorted.{Contains-permutation}
+use Rattle.qh_model.proofs.Common.{◌∙◌, ℕ, zero, suc, ◌<◌, List, [], ◌∷◌, ◌++◌, length, add-one, arith, refl, sym, subst, inl, inr, All, get_or, ◌≡◌}
+use Rattle.qh_model.proofs.Common.{IsPermutation, get_or_default, All-append, All-head, All-tail, All-from_recursion, Contains-permutation, In, Once}
 use Rattle.std.specs.List.{AllByRecursion as Every, Contains, Sorted.IsStrictlyIncreasing}
-use Rattle.qh_model.specs.headline.Sets.{In, Once}
 
 -- a fact about each element holds for a member
 pub All-In : {X : Type 0} (P : X → Type 0) (xs : List X) (x : X) → All P xs → In x xs → P x

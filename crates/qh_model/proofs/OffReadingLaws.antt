@@ -1,12 +1,8 @@
 -- A byte string has one list of points as an OFF file, or one fault.
-use Rattle.std.proofs.Common.{◌≡◌, ◌∙◌, [], ◌∷◌, ◌++◌, ◌≤◌, ◌⊎◌, ℕ, List, Bool, true, false, cond, refl, ap, sym, arith, suc, length, map, subst}
-use Rattle.std.proofs.{Common.nat_lt, lemmas.Bool.Decides.nat_tests}
-use Rattle.std.specs.{Cmp.Lexicographic.same_text, List.AllByRecursion, Prelude.ℤ, Prelude.pos, Prelude.codes, Prelude.Some, Prelude.None}
-use Rattle.std.specs.Str.{bytes_eq}
-use Rattle.qh_model.specs.declared.limits.TheConstants.{POINT_LIMIT, BYTE_LIMIT}
-use Rattle.qh_model.specs.declared.read_fault.ReadFault.{ReadFault, TheVariants.Big, TheVariants.NotOff}
-use Rattle.qh_model.specs.headline.{Limits.IsCoordinate, Numbers.number_of, OffFault.counts_fault, OffFault.off_words_fault, OffFault.first_off_fault}
-use Rattle.qh_model.specs.headline.{OffFile.off_words, OffFile.ReadsOff, PointFile.coordinates, Vector.Vector, Words.Word}
+use Rattle.qh_model.proofs.Common.{◌≡◌, ◌∙◌, [], ◌∷◌, ◌++◌, ◌≤◌, ◌⊎◌, ℕ, List, Bool, true, false, cond, refl, ap, sym, arith, suc, length, map, subst, nat_lt}
+use Rattle.qh_model.proofs.Common.{nat_tests, same_text, AllByRecursion, ℤ, pos, codes, Some, None, bytes_eq, POINT_LIMIT, BYTE_LIMIT, ReadFault, Big, NotOff}
+use Rattle.qh_model.proofs.Common.{IsCoordinate, number_of, off_words, ReadsOff, coordinates, Vector, Word}
+use Rattle.qh_model.specs.headline.OffFault.{counts_fault, off_words_fault, first_off_fault}
 use Rattle.qh_model.proofs.ReadingLaws.{numbers, same_some, same_points, counted, next_number, grouped, thrice, counted_clear, next_clear, not_big}
 use Rattle.qh_model.proofs.ReadingLaws.{list_or_fault}
 

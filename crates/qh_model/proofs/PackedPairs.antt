@@ -1,6 +1,5 @@
 -- A packed pair determines its halves, and its halves determine it.
-use Rattle.std.proofs.Common.{◌≡◌, ◌<◌, ◌∙◌, ℕ, arith, ap, sym}
-use Rattle.qh_model.specs.{contract.Halves.packed, contract.Halves.halves, declared.keys.packed.TheConstants.HALF_ROOM}
+use Rattle.qh_model.proofs.Common.{◌≡◌, ◌<◌, ◌∙◌, ℕ, arith, ap, sym, packed, halves, HALF_ROOM}
 
 -- pairs with the same number are the same
 pub packed-same : (a b u v : ℕ) → b < HALF_ROOM → v < HALF_ROOM → packed a b ≡ packed u v → (a ≡ u) × (b ≡ v)

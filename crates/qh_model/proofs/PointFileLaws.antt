@@ -1,12 +1,8 @@
 -- A byte string is the point file of one list of points, or has one fault.
-use Rattle.std.proofs.Common.{◌≡◌, ◌∙◌, [], ◌∷◌, ◌++◌, ◌≤◌, ◌⊎◌, ℕ, List, Bool, true, false, cond, refl, ap, sym, arith, length, map, inl, inr, subst, nat_lt}
-use Rattle.std.proofs.lemmas.{Bool.Decides.nat_tests, List.append-nil}
-use Rattle.std.specs.{List.AllByRecursion, Prelude.ℤ, Prelude.pos, Prelude.negsuc, Prelude.Some, Prelude.None}
-use Rattle.qh_model.specs.declared.limits.TheConstants.{POINT_LIMIT, BYTE_LIMIT}
-use Rattle.qh_model.specs.declared.read_fault.ReadFault.{ReadFault, TheVariants.NotThree, TheVariants.Big}
-use Rattle.qh_model.specs.headline.FileFault.{is_three, counted_fault, long_fault, headed_fault, words_fault, first_fault}
-use Rattle.qh_model.specs.headline.{Limits.IsCoordinate, Numbers.number_of, PointFile.coordinates, PointFile.IsHeader, PointFile.Reads, Vector.Vector}
-use Rattle.qh_model.specs.headline.Words.{Word, data_words}
+use Rattle.qh_model.proofs.Common.{◌≡◌, ◌∙◌, [], ◌∷◌, ◌++◌, ◌≤◌, ◌⊎◌, ℕ, List, Bool, true, false, cond, refl, ap, sym, arith, length, map, inl, inr, subst}
+use Rattle.qh_model.proofs.Common.{nat_lt, nat_tests, append-nil, AllByRecursion, ℤ, pos, negsuc, Some, None, POINT_LIMIT, BYTE_LIMIT, ReadFault, NotThree, Big}
+use Rattle.qh_model.proofs.Common.{is_three, counted_fault, first_fault, IsCoordinate, number_of, coordinates, Reads, Vector, Word, data_words}
+use Rattle.qh_model.specs.headline.{FileFault.long_fault, FileFault.headed_fault, FileFault.words_fault, PointFile.IsHeader}
 use Rattle.qh_model.proofs.ReadingLaws.{same_some, same_points, numbers, Counted, counted, next_number, grouped, counted_clear, next_clear, not_big}
 use Rattle.qh_model.proofs.ReadingLaws.{list_or_fault}
 

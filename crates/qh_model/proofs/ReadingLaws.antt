@@ -1,12 +1,9 @@
 -- The values of the words of a file: numbers, coordinates, a count with its points; and the condition that they have no fault.
-use Rattle.std.proofs.Common.{◌≡◌, [], ◌∷◌, ◌++◌, ◌*◌, ◌≤◌, ◌&&◌, ℕ, List, Bool, true, false, cond, refl, ap, sym, arith, zero, suc, length, map, subst, nat_lt}
-use Rattle.std.proofs.Common.{◌⊎◌, inl, inr}
-use Rattle.std.proofs.lemmas.Bool.{leb-true, le-leb, Decides.nat_tests}
-use Rattle.std.specs.{List.AllByRecursion, Option.option_or, Prelude.ℤ, Prelude.pos, Prelude.negsuc, Prelude.Option, Prelude.Some, Prelude.None, Prelude.nat_le}
-use Rattle.qh_model.specs.declared.limits.TheConstants.{POINT_LIMIT, BYTE_LIMIT}
-use Rattle.qh_model.specs.declared.read_fault.ReadFault.{ReadFault, TheVariants.Count, TheVariants.Range}
-use Rattle.qh_model.specs.headline.FileFault.{coordinate_fault, coordinates_fault, counted_fault, number_fault, next_number_fault}
-use Rattle.qh_model.specs.headline.{Limits.IsCoordinate, Limits.is_coordinate, Numbers.number_of, PointFile.coordinates, Vector.Vector, Words.Word}
+use Rattle.qh_model.proofs.Common.{◌≡◌, [], ◌∷◌, ◌++◌, ◌*◌, ◌≤◌, ◌&&◌, ℕ, List, Bool, true, false, cond, refl, ap, sym, arith, zero, suc, length, map, subst}
+use Rattle.qh_model.proofs.Common.{nat_lt, ◌⊎◌, inl, inr, leb-true, le-leb, nat_tests, AllByRecursion, option_or, ℤ, pos, negsuc, Option, Some, None, nat_le}
+use Rattle.qh_model.proofs.Common.{POINT_LIMIT, BYTE_LIMIT, ReadFault, Count, Range, counted_fault, next_number_fault, IsCoordinate, is_coordinate, number_of}
+use Rattle.qh_model.proofs.Common.{coordinates, Vector, Word}
+use Rattle.qh_model.specs.headline.FileFault.{coordinate_fault, coordinates_fault, number_fault}
 use Rattle.qh_model.proofs.algebra.VectorIdentities.{vector_path}
 
 pub same_some : (xs ys : List ℤ) → map Some xs ≡ map Some ys → xs ≡ ys

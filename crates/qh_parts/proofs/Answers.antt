@@ -1,10 +1,7 @@
 -- A settled point has a witness.
-use Rattle.std.proofs.Common.{◌≡◌, ℕ, ◌⊎◌, inl, inr, List, Bool, false, sym, ◌∙◌}
-use Rattle.std.specs.Prelude.{pos, ◌+ℤ◌, ◌≤ℤ◌, ◌<ℤ◌}
-use Rattle.qh_model.specs.contract.StoredSurface.{facet_at, surface_of}
-use Rattle.qh_model.specs.contract.Surface.{Side, Surface, start, end}
-use Rattle.qh_model.specs.{contract.Surface.Side.first, contract.Surface.Side.second, contract.Surface.Side.third, headline.Vector.Vector}
-use Rattle.qh_model.specs.headline.{Predicates.place, Predicates.vol, Sets.In}
+use Rattle.qh_model.proofs.Common.{◌≡◌, ℕ, ◌⊎◌, inl, inr, List, Bool, false, sym, ◌∙◌, pos, ◌+ℤ◌, ◌≤ℤ◌, ◌<ℤ◌, facet_at, surface_of, Side, Surface, end, first}
+use Rattle.qh_model.proofs.Common.{second, third, Vector, place, vol, In}
+use Rattle.qh_model.specs.contract.Surface.{start}
 use Rattle.qh_model.proofs.{algebra.Order.negative_le, surfaces.Stored.live_is_marked}
 use Rattle.qh_mesh.specs.contract.Replacement.{IsLive}
 use Rattle.qh_surface.specs.{contract.NamedMeshes.named, contract.Walks.mark_at, declared.named_mesh.NamedMesh.NamedMesh}
@@ -12,8 +9,8 @@ use Rattle.qh_surface.proofs.NamedFacets.{named_live}
 use Rattle.qh_laws.specs.contract.Between.{IsBetweenFour}
 use Rattle.qh_laws.proofs.Between.{between_four_is_below}
 use Rattle.qh_parts_join.specs.{contract.Parts.IsPartOf, declared.parts.Part.Part}
-use Rattle.qh_parts.specs.{declared.seam.triangles.Four.Four, steps.Apart.IsApart}
-use Rattle.qh_parts.specs.steps.{Triangles.four_vols, Triangles.IsFourOf, Triangles.IsInCone, Witnesses.IsAnswered, Witnesses.IsRingOver}
+use Rattle.qh_parts.specs.{declared.seam.triangles.Four.Four, steps.Triangles.four_vols, steps.Triangles.IsFourOf, steps.Triangles.IsInCone}
+use Rattle.qh_parts.specs.steps.{Apart.IsApart, Witnesses.IsAnswered, Witnesses.IsRingOver}
 
 -- a live facet that settles a point is its witness
 pub answered : (pts : List Vector) (s : NamedMesh) (stay : List Bool) (o : Four) (f : ℕ) → IsLive s.mesh f

@@ -1,8 +1,5 @@
 -- A set that is divided into parts.
-use Rattle.std.proofs.Common.{ℕ, ◌<◌, inl, refl, arith, List, [], ◌∷◌, All, length}
-use Rattle.std.specs.List.{flat_map}
-use Rattle.qh_model.specs.{contract.StoredSurface.surface_of, headline.Vector.Vector, headline.Predicates.place, headline.Sets.In, headline.Sets.Members}
-use Rattle.qh_model.specs.headline.Dimension.{IsDimension}
+use Rattle.qh_model.proofs.Common.{ℕ, ◌<◌, inl, refl, arith, List, [], ◌∷◌, All, length, flat_map, surface_of, Vector, place, In, Members, IsDimension}
 use Rattle.qh_model.proofs.{Members.All-In, lists.Joined.in_flat_map}
 use Rattle.qh_surface.specs.contract.NamedMeshes.{named}
 use Rattle.qh_laws.proofs.Joined.{part_is_solid}

@@ -1,9 +1,6 @@
 -- The faces that parts of a set contribute, and those between them, are those of its hull.
-use Rattle.std.proofs.Common.{ℕ, ◌<◌, List, All, length, map}
-use Rattle.std.proofs.lemmas.List.Sorted.{IsPermutation-append_left, IsPermutation-sym}
-use Rattle.std.specs.Prelude.{IsPermutation}
-use Rattle.qh_model.specs.{contract.IdSets.IsIdSet, headline.Vector.Vector, headline.Hull.BodyValue, headline.Hull.IsBody, headline.Predicates.place}
-use Rattle.qh_model.specs.headline.Sets.{Members}
+use Rattle.qh_model.proofs.Common.{ℕ, ◌<◌, List, All, length, map, IsPermutation-append_left, IsPermutation-sym, IsPermutation, IsIdSet, Vector, BodyValue}
+use Rattle.qh_model.proofs.Common.{IsBody, place, Members}
 use Rattle.qh_model.proofs.Members.{in_permutation}
 use Rattle.qh_bodies.proofs.StepCounts.{closed_permuted}
 use Rattle.qh_parts_join.specs.{contract.Parts.IsPartOf, contract.Kept.places_of, contract.Joined.IsBodyOfJoined, declared.parts.Part.Part}

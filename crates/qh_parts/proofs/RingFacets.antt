@@ -1,6 +1,5 @@
 -- The facets of a ring, gathered one by one, and the planes of facets.
-use Rattle.std.proofs.Common.{◌≡◌, ℕ, ◌⊎◌, inl, inr, List, [], ◌∷◌, ◌++◌, map, sym, subst, refl}
-use Rattle.qh_model.specs.{contract.Surface.Surface, headline.Vector.Vector, headline.Sets.In}
+use Rattle.qh_model.proofs.Common.{◌≡◌, ℕ, ◌⊎◌, inl, inr, List, [], ◌∷◌, ◌++◌, map, sym, subst, refl, Surface, Vector, In}
 use Rattle.qh_model.proofs.lists.Joined.{in_append, of_append}
 use Rattle.qh_pred.specs.contract.Planes.{PlaneValue}
 use Rattle.qh_parts.specs.steps.Witnesses.{IsPlaneOf, HasPlane}

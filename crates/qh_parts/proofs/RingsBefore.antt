@@ -1,6 +1,5 @@
 -- The ring of a mesh over positions is that of the mesh over ids.
-use Rattle.std.proofs.Common.{ℕ, Bool, sym, ap, ◌∙◌, subst}
-use Rattle.qh_model.specs.{contract.StoredSurface.surface_of, headline.Sets.In}
+use Rattle.qh_model.proofs.Common.{ℕ, Bool, sym, ap, ◌∙◌, subst, surface_of, In}
 use Rattle.qh_surface.specs.{contract.NamedMeshes.named, declared.named_mesh.NamedMesh.NamedMesh}
 use Rattle.qh_surface.proofs.NamedFacets.{names}
 use Rattle.qh_laws.specs.contract.Seam.{IsRing}

@@ -1,9 +1,6 @@
 -- A part that was tested against each other part stays, and contributes its faces.
-use Rattle.std.proofs.Common.{◌≡◌, ℕ, ◌<◌, ◌⊎◌, inl, inr, List, All, Bool, true, length, get_or, sym, subst, ap, ◌∙◌}
-use Rattle.std.proofs.lemmas.List.{get_or_default}
-use Rattle.std.specs.List.{flat_map}
-use Rattle.qh_model.specs.contract.{IdSets.HasDistinctPoints, IdSets.IsIdSet, FinishedSurface.IsFinished, StoredSurface.surface_of}
-use Rattle.qh_model.specs.headline.{Vector.Vector, Predicates.place, Sets.In, Sets.Members}
+use Rattle.qh_model.proofs.Common.{◌≡◌, ℕ, ◌<◌, ◌⊎◌, inl, inr, List, All, Bool, true, length, get_or, sym, subst, ap, ◌∙◌, get_or_default, flat_map}
+use Rattle.qh_model.proofs.Common.{HasDistinctPoints, IsIdSet, IsFinished, surface_of, Vector, place, In, Members}
 use Rattle.qh_model.proofs.{Members.All-of, Members.In-get_or, Members.to_contains, lists.Joined.in_flat_map, lists.Joined.of_flat_map}
 use Rattle.qh_model.proofs.surfaces.Stored.{live_is_marked}
 use Rattle.qh_mesh.specs.contract.Replacement.{IsLive}
@@ -11,8 +8,7 @@ use Rattle.qh_surface.specs.contract.NamedMeshes.{named}
 use Rattle.qh_block.specs.steps.Faces.{IsFacetPolygon}
 use Rattle.qh_laws.specs.contract.Parts.{IsPartFace}
 use Rattle.qh_laws.proofs.Parts.{strict_is_clear}
-use Rattle.qh_parts_join.specs.contract.Parts.{ids_in, own_in, KeepsCorners, IsPartOf}
-use Rattle.qh_parts_join.specs.declared.parts.Part.{Part}
+use Rattle.qh_parts_join.specs.{contract.Parts.ids_in, contract.Parts.own_in, contract.Parts.KeepsCorners, contract.Parts.IsPartOf, declared.parts.Part.Part}
 use Rattle.qh_parts.specs.{contract.Staying.IsStayingPart, steps.Apart.IsApart}
 
 -- the id at a place of a list is one of the list

@@ -1,6 +1,5 @@
 -- A loop that tests each live facet.
-use Rattle.std.proofs.Common.{◌≡◌, ℕ, ◌⊎◌, inl, inr, List, [], ◌∷◌, sym, subst, refl}
-use Rattle.qh_model.specs.headline.Sets.{In}
+use Rattle.qh_model.proofs.Common.{◌≡◌, ℕ, ◌⊎◌, inl, inr, List, [], ◌∷◌, sym, subst, refl, In}
 
 -- the facets that remain are live, and the others were tested
 pub record AreAsked (P : ℕ → Type 0) (live left : List ℕ) : Type 0 where

@@ -1,8 +1,5 @@
 -- The kept ids of a set, as the places of its parts hold them.
-use Rattle.std.proofs.Common.{ℕ, ◌<◌, List, ◌++◌, All, length}
-use Rattle.std.proofs.lemmas.List.Elements.{All-append}
-use Rattle.std.specs.{Prelude.◌↔◌, List.flat_map}
-use Rattle.qh_model.specs.{contract.IdSets.AreIndices, headline.Vector.Vector, headline.Sets.In}
+use Rattle.qh_model.proofs.Common.{ℕ, ◌<◌, List, ◌++◌, All, length, All-append, ◌↔◌, flat_map, AreIndices, Vector, In}
 use Rattle.qh_model.proofs.{Members.All-In, Members.All-of, lists.Joined.in_append, lists.Joined.of_append, lists.Joined.of_flat_map}
 use Rattle.qh_pred.specs.contract.Planes.{PlaneValue}
 use Rattle.qh_places.specs.{contract.Places.AreLevel, declared.places.Places.Places}

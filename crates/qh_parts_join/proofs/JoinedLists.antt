@@ -1,6 +1,5 @@
 -- Joined lists of polygons.
-use Rattle.std.proofs.Common.{◌≡◌, ℕ, ◌⊎◌, inl, List, [], ◌∷◌, length, refl}
-use Rattle.qh_model.specs.{contract.ClosedPolygons.AreClosed, contract.ClosedPolygons.IsFace, headline.Vector.Vector, headline.Sets.In, headline.Sets.Members}
+use Rattle.qh_model.proofs.Common.{◌≡◌, ℕ, ◌⊎◌, inl, List, [], ◌∷◌, length, refl, AreClosed, IsFace, Vector, In, Members}
 use Rattle.qh_laws.specs.contract.Parts.{IsPartFace, AreJoined}
 
 -- polygons, at least one, that close up are joined

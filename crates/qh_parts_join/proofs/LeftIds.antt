@@ -1,7 +1,5 @@
 -- Ids of a list that are gathered one by one, except those that are skipped.
-use Rattle.std.proofs.Common.{◌≡◌, ℕ, ◌+◌, ◌<◌, ◌⊎◌, inl, inr, List, [], ◌∷◌, ◌++◌, length, slice_index, sym, subst, arith, ◌∙◌}
-use Rattle.std.proofs.lemmas.Bool.{cases_lt}
-use Rattle.qh_model.specs.headline.Sets.{In}
+use Rattle.qh_model.proofs.Common.{◌≡◌, ℕ, ◌+◌, ◌<◌, ◌⊎◌, inl, inr, List, [], ◌∷◌, ◌++◌, length, slice_index, sym, subst, arith, ◌∙◌, cases_lt, In}
 use Rattle.qh_model.proofs.{Members.In-get_or, lists.Joined.in_append, lists.Joined.of_append}
 
 -- of the first n ids, each is gathered, or skipped because of P

@@ -1,12 +1,8 @@
 -- Ids in a plane with no id above it, list by list.
-use Rattle.std.proofs.Common.{◌≡◌, ℕ, ◌+◌, ◌<◌, inl, inr, List, [], ◌∷◌, ◌++◌, length, get_or, map, take, ap, sym, subst, ◌∙◌}
-use Rattle.std.proofs.lemmas.{Grind.flat_map-append, Int.by_lt_z}
-use Rattle.std.proofs.lemmas.List.{append_assoc, append-nil, map-append, take_more}
-use Rattle.std.specs.List.{flat_map}
-use Rattle.std.specs.Prelude.{◌↔◌, ℤ, pos, ◌≤ℤ◌, ◌<ℤ◌}
-use Rattle.qh_model.specs.headline.{Vector.Vector, Predicates.place, Sets.In}
-use Rattle.qh_model.proofs.algebra.{Order.le_less, Signs.less_le, Signs.less_differ, Signs.equal_le}
-use Rattle.qh_model.proofs.lists.Joined.{in_append, of_append}
+use Rattle.qh_model.proofs.Common.{◌≡◌, ℕ, ◌+◌, ◌<◌, inl, inr, List, [], ◌∷◌, ◌++◌, length, get_or, map, take, ap, sym, subst, ◌∙◌, flat_map-append, by_lt_z}
+use Rattle.qh_model.proofs.Common.{append_assoc, append-nil, map-append, take_more, flat_map, ◌↔◌, ℤ, pos, ◌≤ℤ◌, ◌<ℤ◌, Vector, place, In}
+use Rattle.qh_model.proofs.algebra.Order.{le_less}
+use Rattle.qh_model.proofs.{algebra.Signs.less_le, algebra.Signs.less_differ, algebra.Signs.equal_le, lists.Joined.in_append, lists.Joined.of_append}
 use Rattle.qh_pred.specs.contract.Planes.{PlaneValue, height}
 use Rattle.qh_places.specs.contract.Places.{AreLevel}
 

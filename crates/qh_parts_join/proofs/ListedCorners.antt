@@ -1,6 +1,5 @@
 -- Members that a loop lists one by one or three by three.
-use Rattle.std.proofs.Common.{◌≡◌, ℕ, inl, inr, List, [], ◌∷◌, ◌++◌, sym, subst, refl}
-use Rattle.qh_model.specs.{contract.Surface.Surface, contract.Surface.IsCorner, headline.Sets.In, laws.CompletenessLaws.IsLiveCorner}
+use Rattle.qh_model.proofs.Common.{◌≡◌, ℕ, inl, inr, List, [], ◌∷◌, ◌++◌, sym, subst, refl, Surface, IsCorner, In, IsLiveCorner}
 use Rattle.qh_model.proofs.lists.Joined.{in_append, of_append}
 use Rattle.qh_parts_join.proofs.Asked.{AreAsked, asking_starts, asking_goes}
 

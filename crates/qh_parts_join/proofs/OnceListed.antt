@@ -1,8 +1,6 @@
 -- A list whose different ids are at least the number of its items has each once.
-use Rattle.std.proofs.Common.{ℕ, ◌+◌, ◌≤◌, inl, inr, List, [], ◌∷◌, ◌++◌, length, arith, sym, subst}
-use Rattle.std.proofs.lemmas.List.{length-append}
-use Rattle.std.specs.Prelude.{◌↔◌}
-use Rattle.qh_model.specs.{contract.FinishedSurface.IsFinished, contract.Surface.Surface, headline.Vector.Vector, headline.Sets.In, headline.Sets.Once}
+use Rattle.qh_model.proofs.Common.{ℕ, ◌+◌, ◌≤◌, inl, inr, List, [], ◌∷◌, ◌++◌, length, arith, sym, subst, length-append, ◌↔◌, IsFinished, Surface, Vector, In}
+use Rattle.qh_model.proofs.Common.{Once}
 use Rattle.qh_model.proofs.{lists.Joined.in_append, lists.Joined.of_append, lists.OnceEach.once_within, surfaces.Inside.finished_over}
 
 module _ {X : Type 0} (each : List X) (once : Once each) where

@@ -1,11 +1,8 @@
 -- The own corners of parts, as their places hold them.
-use Rattle.std.proofs.Common.{ℕ, ◌⊎◌, inl, inr, List, All, map, sym, subst}
-use Rattle.std.specs.List.{flat_map}
-use Rattle.qh_model.specs.headline.{Vector.Vector, Sets.In}
+use Rattle.qh_model.proofs.Common.{ℕ, ◌⊎◌, inl, inr, List, All, map, sym, subst, flat_map, Vector, In}
 use Rattle.qh_model.proofs.{Members.All-In, Members.All-of, lists.Joined.in_flat_map, lists.Joined.of_flat_map, lists.Images.in_map, lists.Images.of_map}
 use Rattle.qh_parts_join.specs.contract.Parts.{own_in, KeepsCorners, IsPartOf}
-use Rattle.qh_parts_join.specs.contract.Kept.{held_in, places_of, ArePlaced, AreHeld}
-use Rattle.qh_parts_join.specs.declared.parts.Part.{Part}
+use Rattle.qh_parts_join.specs.{contract.Kept.held_in, contract.Kept.places_of, contract.Kept.ArePlaced, contract.Kept.AreHeld, declared.parts.Part.Part}
 
 module _ (pts : List Vector) (shared : List ℕ) (parts : List Part) (are : All (IsPartOf pts shared) parts) where
   -- the places of parts have the points of their ids

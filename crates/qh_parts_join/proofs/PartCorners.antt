@@ -1,8 +1,5 @@
 -- The corners of parts include all extreme ids.
-use Rattle.std.proofs.Common.{ℕ, ◌⊎◌, inl, inr, List, All}
-use Rattle.std.specs.{Prelude.◌↔◌, List.flat_map}
-use Rattle.qh_model.specs.{contract.StoredSurface.surface_of, headline.Vector.Vector, headline.Predicates.place, headline.Sets.In, headline.Sets.Members}
-use Rattle.qh_model.specs.headline.Extreme.{Extreme}
+use Rattle.qh_model.proofs.Common.{ℕ, ◌⊎◌, inl, inr, List, All, ◌↔◌, flat_map, surface_of, Vector, place, In, Members, Extreme}
 use Rattle.qh_model.proofs.{Members.All-In, lists.Joined.in_flat_map, lists.Joined.of_flat_map}
 use Rattle.qh_surface.specs.contract.NamedMeshes.{named}
 use Rattle.qh_laws.specs.contract.Parts.{AreKept}

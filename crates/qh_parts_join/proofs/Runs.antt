@@ -1,6 +1,5 @@
 -- A list that is processed in pieces.
-use Rattle.std.proofs.Common.{◌≡◌, ℕ, ◌≤◌, ◌⊎◌, inl, inr, List, [], ◌∷◌, length, take, drop, All, sym, subst, arith}
-use Rattle.qh_model.specs.headline.Sets.{In}
+use Rattle.qh_model.proofs.Common.{◌≡◌, ℕ, ◌≤◌, ◌⊎◌, inl, inr, List, [], ◌∷◌, length, take, drop, All, sym, subst, arith, In}
 use Rattle.qh_model.proofs.Members.{All-In, All-of}
 use Rattle.qh_places.proofs.ListMembers.{in_either, in_front, in_back}
 

@@ -1,9 +1,7 @@
 -- Blocks of points over consecutive blocks of positions.
-use Rattle.std.proofs.Common.{◌≡◌, ℕ, ◌+◌, ◌-◌, ◌*◌, ◌<◌, ◌≤◌, arith, sym, ap, subst, ◌∙◌, inl, inr, List, [], ◌∷◌, ◌++◌, length, get_or, take, drop, min}
-use Rattle.std.proofs.{Common.length-append, Common.length-drop, Math.Seq.get_or-append_seam}
-use Rattle.std.proofs.lemmas.List.{length-take, get_or-take, get_or-drop, get_or_append_left}
-use Rattle.std.proofs.lemmas.Bool.{cases_lt}
-use Rattle.qh_model.specs.headline.Vector.{Vector, origin}
+use Rattle.qh_model.proofs.Common.{◌≡◌, ℕ, ◌+◌, ◌-◌, ◌*◌, ◌<◌, ◌≤◌, arith, sym, ap, subst, ◌∙◌, inl, inr, List, [], ◌∷◌, ◌++◌, length, get_or, take, drop, min}
+use Rattle.qh_model.proofs.Common.{length-append, length-drop, get_or-append_seam, length-take, get_or-take, get_or-drop, get_or_append_left, cases_lt, Vector}
+use Rattle.qh_model.proofs.Common.{origin}
 use Rattle.qh_places.specs.{declared.slabs.Block.Block, steps.Slabs.IsInBlock, steps.Slabs.IsBlockOf, steps.Levels.AreBlocks, steps.Levels.HasBlocks}
 
 -- no blocks yet

@@ -1,11 +1,9 @@
 -- A bundle of planes is above a block if the sum of the bounds of its rest and its share is below the depth.
-use Rattle.std.proofs.Common.{◌≡◌, ◌∙◌, ap, ℕ, ◌<◌, refl, sym, arith, subst, [], ◌∷◌}
-use Rattle.std.proofs.lemmas.Int.{ints, by_lt_z}
-use Rattle.std.specs.Prelude.{ℤ, pos, ◌+ℤ◌, ◌-ℤ◌, ◌*ℤ◌, ◌<ℤ◌, ◌≤ℤ◌}
-use Rattle.qh_model.specs.headline.Vector.{Vector, minus, dot}
+use Rattle.qh_model.proofs.Common.{◌≡◌, ◌∙◌, ap, ℕ, ◌<◌, refl, sym, arith, subst, [], ◌∷◌, ints, by_lt_z, ℤ, pos, ◌+ℤ◌, ◌-ℤ◌, ◌*ℤ◌, ◌<ℤ◌, ◌≤ℤ◌, Vector, minus}
+use Rattle.qh_model.proofs.Common.{dot}
 use Rattle.qh_model.proofs.algebra.{Order.mul-le, Order.mul-nonneg, Order.positive_le, Integers.mul_comm, Ring.Expr, Ring.ring}
-use Rattle.qh_model.proofs.algebra.Ring.Expr.{var, add, sub as less, mul}
 use Rattle.qh_model.proofs.algebra.VectorIdentities.{VE, vec, subE, dotE, put}
+use Rattle.qh_model.proofs.algebra.Ring.Expr.{var, add, sub as less, mul}
 use Rattle.qh_pred.specs.contract.{Planes.PlaneValue, Planes.height, Ranges.IsBetween}
 use Rattle.qh_pred.proofs.Ranges.{greatest}
 use Rattle.qh_places.specs.{contract.Bundles.taken, contract.Bundles.IsInSpans, contract.Bundles.IsOfBundle, declared.bundles.Bundle.Bundle}

@@ -1,7 +1,6 @@
 -- A property of each element of all chunks holds for each element of the list.
-use Rattle.std.proofs.Common.{◌≡◌, ℕ, ◌+◌, ◌*◌, ◌/◌, ◌%◌, ◌<◌, ◌≤◌, arith, subst, ◌∙◌, ap, inl, inr, List, length, get_or, min, All}
-use Rattle.std.proofs.{Math.Nat.mul-le-mul_left, lemmas.Bool.cases_lt}
-use Rattle.std.specs.Fork.{IsChunk}
+use Rattle.qh_model.proofs.Common.{◌≡◌, ℕ, ◌+◌, ◌*◌, ◌/◌, ◌%◌, ◌<◌, ◌≤◌, arith, subst, ◌∙◌, ap, inl, inr, List, length, get_or, min, All, mul-le-mul_left}
+use Rattle.qh_model.proofs.Common.{cases_lt, IsChunk}
 
 -- a position lies in one of the chunks
 chunk_of : (i n size : ℕ) → 0 < size → i < n → i / size < n / size + min 1 (n % size)

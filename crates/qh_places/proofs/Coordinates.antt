@@ -1,11 +1,6 @@
 -- Coordinates that code reads from points and creates points from.
-use Rattle.std.proofs.Common.{◌≡◌, ◌∙◌, ◌<◌, ◌^◌, sym, subst}
-use Rattle.std.proofs.lemmas.Int.{to_z-of_z}
-use Rattle.std.specs.Prelude.{ℤ, pos, ◌<ℤ◌, ◌≤ℤ◌}
+use Rattle.qh_model.proofs.Common.{◌≡◌, ◌∙◌, ◌<◌, ◌^◌, sym, subst, to_z-of_z, ℤ, pos, ◌<ℤ◌, ◌≤ℤ◌, mag, Width, w32, w128, hbits, to_z, of_z}
 use Rattle.qh_pred.specs.contract.Ranges.{IsFarEnd}
-use lib.Signed.{mag}
-use mir.Syntax.{Width, w32, w128}
-use mir.Val.{hbits, to_z, of_z}
 
 -- code stores a number that fits unchanged
 kept : (w : Width) (z : ℤ) → mag z < 2 ^ hbits w → to_z w (of_z w z) ≡ z

@@ -1,14 +1,13 @@
 -- The ids that a plane finds, position by position and in a set.
-use Rattle.std.proofs.Common.{◌≡◌, ℕ, ◌+◌, ◌<◌, ◌≤◌, arith, refl, sym, ap, subst, ◌∙◌, inl, inr, List, [], ◌∷◌, ◌++◌, length, get_or}
-use Rattle.std.proofs.lemmas.{List.get_or_default, List.length-map, List.get_or-map, Int.ints, Int.by_lt_z, Bool.cases_lt}
-use Rattle.std.specs.Prelude.{ℤ, pos, ◌<ℤ◌, ◌≤ℤ◌, Option, Some, None, MatchOption}
-use Rattle.qh_model.specs.headline.{Vector.Vector, Vector.origin, Predicates.place, Sets.In}
-use Rattle.qh_model.proofs.{Members.In-get_or, Members.in_at, algebra.Order.le_less, algebra.Signs.less_le, algebra.Signs.less_differ}
-use Rattle.qh_model.proofs.lists.Joined.{in_append, of_append}
+use Rattle.qh_model.proofs.Common.{◌≡◌, ℕ, ◌+◌, ◌<◌, ◌≤◌, arith, refl, sym, ap, subst, ◌∙◌, inl, inr, List, [], ◌∷◌, ◌++◌, length, get_or, get_or_default}
+use Rattle.qh_model.proofs.Common.{length-map, get_or-map, ints, by_lt_z, cases_lt, ℤ, pos, ◌<ℤ◌, ◌≤ℤ◌, Option, Some, None, MatchOption, Vector, origin, place}
+use Rattle.qh_model.proofs.Common.{In}
+use Rattle.qh_model.proofs.{Members.In-get_or, Members.in_at, algebra.Signs.less_le, algebra.Signs.less_differ, lists.Joined.in_append, lists.Joined.of_append}
+use Rattle.qh_model.proofs.algebra.Order.{le_less}
 use Rattle.qh_pred.specs.contract.Planes.{PlaneValue, height}
-use Rattle.qh_places.specs.contract.{Bundles.IsOfBundle, Near.rise_at, Near.IsNear, Places.ArePlaces, Places.IsAbove, Places.AreLevel}
-use Rattle.qh_places.specs.declared.places.{Places.Places, Near.Near}
-use Rattle.qh_places.specs.steps.Levels.{AreOn, IsAboveAt, HasLooked, HasSeen}
+use Rattle.qh_places.specs.{contract.Bundles.IsOfBundle, declared.places.Near.Near}
+use Rattle.qh_places.specs.contract.{Near.rise_at, Near.IsNear, Places.ArePlaces, Places.IsAbove, Places.AreLevel}
+use Rattle.qh_places.specs.{declared.places.Places.Places, steps.Levels.AreOn, steps.Levels.IsAboveAt, steps.Levels.HasLooked, steps.Levels.HasSeen}
 use Rattle.qh_places.proofs.NearPositions.{begun}
 
 -- ---- position by position

@@ -1,11 +1,6 @@
 -- A plane with no id of the set above it, with the polygon of the ids in it, is a face.
-use Rattle.std.proofs.Common.{◌≡◌, ℕ, sym, subst, ◌∙◌, inl, refl, List}
-use Rattle.std.specs.{Prelude.pos, Prelude.◌≤ℤ◌, Prelude.◌↔◌, List.Sorted.IsStrictlyIncreasing}
-use Rattle.qh_model.specs.{contract.IdSets.HasDistinctPoints, headline.Vector.Vector}
-use Rattle.qh_model.specs.headline.Predicates.{place, cross, vol, AreInLine}
-use Rattle.qh_model.specs.headline.{Sets.In, Sets.Members, Extreme.Extreme}
-use Rattle.qh_model.specs.headline.{SupportingPlane.Supports, SupportingPlane.IsSupportingTriple, SupportingPlane.OnPlane, Polygon.IsPolygon}
-use Rattle.qh_model.specs.headline.Polygons.{IsFacePolygon}
+use Rattle.qh_model.proofs.Common.{◌≡◌, ℕ, sym, subst, ◌∙◌, inl, refl, List, pos, ◌≤ℤ◌, ◌↔◌, IsStrictlyIncreasing, HasDistinctPoints, Vector, place, cross, vol}
+use Rattle.qh_model.proofs.Common.{AreInLine, In, Members, Extreme, Supports, IsSupportingTriple, OnPlane, IsPolygon, IsFacePolygon}
 use Rattle.qh_model.proofs.algebra.VectorIdentities.{vol-first, vol-second, vol-third}
 use Rattle.qh_model.proofs.{extremes.Directions.along_itself, extremes.Faces.extremes_of_face, hulls.SameSets.extreme_as, polygons.Direction.polygon_as}
 use Rattle.qh_pred.specs.contract.Planes.{PlaneValue, height}

@@ -1,7 +1,6 @@
 -- Members of a list: a test that finds them, and those before and after a cut.
-use Rattle.std.proofs.Common.{◌≡◌, ℕ, zero, suc, ◌⊎◌, inl, inr, List, [], ◌∷◌, take, drop, subst, refl, sym, Bool, true, false, eqb, eqb-true}
-use Rattle.std.specs.{Prelude.◌||◌, List.list_any, Cmp.Lexicographic.pointwise}
-use Rattle.qh_model.specs.headline.Sets.{In}
+use Rattle.qh_model.proofs.Common.{◌≡◌, ℕ, zero, suc, ◌⊎◌, inl, inr, List, [], ◌∷◌, take, drop, subst, refl, sym, Bool, true, false, eqb, eqb-true, ◌||◌}
+use Rattle.qh_model.proofs.Common.{list_any, pointwise, In}
 use Rattle.qh_model.proofs.closed_surfaces.SignedVolume.{eqb-refl}
 
 -- a test finds a member

@@ -1,7 +1,6 @@
 -- A property of each element of a list so far, of one more, and of all.
-use Rattle.std.proofs.Common.{◌≡◌, ℕ, ◌+◌, ◌<◌, ◌≤◌, arith, sym, subst, List, length, get_or, slice_index, take, All}
-use Rattle.std.proofs.lemmas.List.{get_or-take, length-take, take_more}
-use Rattle.qh_model.specs.headline.Sets.{In}
+use Rattle.qh_model.proofs.Common.{◌≡◌, ℕ, ◌+◌, ◌<◌, ◌≤◌, arith, sym, subst, List, length, get_or, slice_index, take, All, get_or-take, length-take, take_more}
+use Rattle.qh_model.proofs.Common.{In}
 use Rattle.qh_model.proofs.Members.{all_and, in_at}
 
 -- the property of one more element

@@ -1,10 +1,9 @@
 -- The positions that starts cover, and the results there.
-use Rattle.std.proofs.Common.{◌≡◌, ℕ, zero, suc, ◌+◌, ◌<◌, ◌≤◌, arith, sym, ap, subst, ◌∙◌, ◌⊎◌, inl, inr, List, [], ◌∷◌, ◌++◌, length, get_or, length-append}
-use Rattle.std.proofs.{Math.Seq.get_or-append_seam, lemmas.List.get_or_default, lemmas.List.get_or_append_left, lemmas.Bool.cases_lt}
-use Rattle.qh_model.specs.headline.Vector.{Vector}
+use Rattle.qh_model.proofs.Common.{◌≡◌, ℕ, zero, suc, ◌+◌, ◌<◌, ◌≤◌, arith, sym, ap, subst, ◌∙◌, ◌⊎◌, inl, inr, List, [], ◌∷◌, ◌++◌, length, get_or}
+use Rattle.qh_model.proofs.Common.{length-append, get_or-append_seam, get_or_default, get_or_append_left, cases_lt, Vector}
 use Rattle.qh_pred.specs.contract.Planes.{PlaneValue}
-use Rattle.qh_places.specs.{contract.Near.IsBegun, contract.Near.IsNearUpTo, declared.bundles.Bundle.Bundle, declared.places.TheConstants.LEAF}
-use Rattle.qh_places.specs.steps.Levels.{AreBelowAll, HasLooked, HasSeen}
+use Rattle.qh_places.specs.{contract.Near.IsBegun, contract.Near.IsNearUpTo, steps.Levels.AreBelowAll, steps.Levels.HasLooked, steps.Levels.HasSeen}
+use Rattle.qh_places.specs.declared.{bundles.Bundle.Bundle, places.TheConstants.LEAF}
 
 -- a position that is covered by the first starts is covered by more starts
 more : (starts : List ℕ) (n m k : ℕ) → n ≤ m → IsBegun starts n k → IsBegun starts m k

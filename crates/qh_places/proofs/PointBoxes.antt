@@ -1,8 +1,6 @@
 -- Boxes around points.
-use Rattle.std.proofs.Common.{◌≡◌, ℕ, ◌+◌, ◌<◌, ◌≤◌, arith, subst, ◌∙◌, inl, inr, List, length, get_or}
-use Rattle.std.proofs.lemmas.{List.get_or_default, Int.ints, Bool.cases_lt}
-use Rattle.std.specs.Prelude.{ℤ, ◌≤ℤ◌}
-use Rattle.qh_model.specs.headline.Vector.{Vector, origin}
+use Rattle.qh_model.proofs.Common.{◌≡◌, ℕ, ◌+◌, ◌<◌, ◌≤◌, arith, subst, ◌∙◌, inl, inr, List, length, get_or, get_or_default, ints, cases_lt, ℤ, ◌≤ℤ◌, Vector}
+use Rattle.qh_model.proofs.Common.{origin}
 use Rattle.qh_places.specs.{declared.boxes.PointBox.PointBox, steps.Boxes.IsWithin, steps.Boxes.IsBoxOf}
 
 pub le_trans : (a b c : ℤ) → a ≤ℤ b → b ≤ℤ c → a ≤ℤ c

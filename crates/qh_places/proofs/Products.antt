@@ -1,10 +1,7 @@
 -- Products of numbers of known sizes, as code computes them.
-use Rattle.std.proofs.Common.{◌≡◌, ◌∙◌, ap, ℕ, ◌^◌, ◌*◌, ◌<◌, ◌≤◌, sym, subst, arith, FitsSigned}
-use Rattle.std.proofs.Math.Nat.{mul-le-mul}
-use Rattle.std.proofs.lemmas.Int.{to_z-of_z, ints, unsigned_abs-mul, fits_signed_mul}
-use Rattle.std.specs.Prelude.{ℤ, ◌*ℤ◌, unsigned_abs}
-use mir.Syntax.{Width}
-use mir.Val.{SFits, to_z, of_z, hbits}
+use Rattle.qh_model.proofs.Common.{◌≡◌, ◌∙◌, ap, ℕ, ◌^◌, ◌*◌, ◌<◌, ◌≤◌, sym, subst, arith, FitsSigned, mul-le-mul, to_z-of_z, ints, unsigned_abs-mul, ℤ, ◌*ℤ◌}
+use Rattle.qh_model.proofs.Common.{unsigned_abs, Width, SFits, to_z, of_z, hbits}
+use Rattle.std.proofs.lemmas.Int.{fits_signed_mul}
 
 -- a number that fits a width has at most half its size
 pub size_of : (w : Width) (x : ℤ) → SFits w x → unsigned_abs x ≤ 2 ^ hbits w

@@ -1,10 +1,9 @@
 -- The distinct ids by marks, and the repeats among sorted keys of points, for any numbers that determine the places.
-use Rattle.std.proofs.Common.{◌≡◌, ℕ, ◌+◌, ◌-◌, ◌*◌, ◌%◌, ◌/◌, ◌<◌, ◌≤◌, List, length, get_or, map, arith, ap, sym, subst, ◌∙◌, ◌↔◌, ◌⊎◌, inl, inr}
-use Rattle.std.proofs.Common.{⊎_elim, true, false, Bool}
-use Rattle.std.proofs.lemmas.{Bool.cases_lt, Bool.Decides.nat_tests, Nat.div-add-mod', Nat.div-mul-add, Nat.mod-mul-add}
-use Rattle.std.specs.{List.All, List.Sorted.IsStrictlyIncreasing, List.Sorted.IsNonDecreasing, Prelude.IsPermutation}
-use Rattle.qh_model.{proofs.Members.In-get_or, proofs.Members.All-of, proofs.Members.in_at, specs.contract.IdSets.IsIdSet}
-use Rattle.qh_model.specs.headline.{DistinctIds.IsDistinctId, DistinctIds.AreDistinctIds, Predicates.place, Sets.In, Vector.Vector}
+use Rattle.qh_model.proofs.Common.{◌≡◌, ℕ, ◌+◌, ◌-◌, ◌*◌, ◌%◌, ◌/◌, ◌<◌, ◌≤◌, List, length, get_or, map, arith, ap, sym, subst, ◌∙◌, ◌↔◌, ◌⊎◌, inl, inr, ⊎_elim}
+use Rattle.qh_model.proofs.Common.{true, false, Bool, cases_lt, nat_tests, div-add-mod', mod-mul-add, All, IsStrictlyIncreasing, IsNonDecreasing, IsPermutation}
+use Rattle.qh_model.proofs.Common.{IsIdSet, IsDistinctId, AreDistinctIds, place, In, Vector}
+use Rattle.std.proofs.lemmas.Nat.{div-mul-add}
+use Rattle.qh_model.proofs.Members.{In-get_or, All-of, in_at}
 use Rattle.qh_polygon.proofs.KeyOrder.{IsKeyIn, TellIds, code_le, key_told, key_listed, keys_rise}
 use Rattle.qh_polygon.proofs.MarkedIds.{IsMarked, in_marked_ids, of_marked_ids, marked_ids-rise}
 use Rattle.qh_polygon.specs.contract.Marks.{marked_ids}

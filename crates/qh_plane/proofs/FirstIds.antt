@@ -1,13 +1,12 @@
 -- Pieces of a list: the points between the first ones of a piece are repeats, and the distinct points of a piece are its first ones.
-use Rattle.std.proofs.Common.{◌≡◌, ◌∙◌, ℕ, zero, suc, ◌+◌, ◌-◌, ◌*◌, ◌/◌, ◌%◌, ◌<◌, ◌≤◌, ◌⊎◌, inl, inr, List, length, get_or, min, arith, sym, subst}
-use Rattle.std.proofs.lemmas.{Bool.cases_lt, List.get_or_default, List.get_or_past, Nat.div-add-mod'}
+use Rattle.qh_model.proofs.Common.{◌≡◌, ◌∙◌, ℕ, zero, suc, ◌+◌, ◌-◌, ◌*◌, ◌/◌, ◌%◌, ◌<◌, ◌≤◌, ◌⊎◌, inl, inr, List, length, get_or, min, arith, sym, subst}
+use Rattle.qh_model.proofs.Common.{cases_lt, get_or_default, get_or_past, div-add-mod', IsChunk, AreDistinctIds, place, In, Vector, origin}
 use native.Mathlib.Nat.{add-mul, one-mul, mod-lt}
-use Rattle.std.specs.Fork.{IsChunk}
 use Rattle.qh_model.proofs.{Decisions.Decided, Decisions.same_vector, Members.in_at, Members.All-of, lists.Rising.rising_between}
 use Rattle.qh_model.specs.declared.limits.TheConstants.{POINT_LIMIT}
-use Rattle.qh_model.specs.headline.{DistinctIds.AreDistinctIds, Predicates.place, Sets.In, Vector.Vector, Vector.origin}
-use Rattle.qh_plane.{proofs.SeenPlaces.repeats_seen, specs.declared.close_points.CloseBox.CloseBox}
-use Rattle.qh_plane.specs.steps.{FirstIds.HaveFirsts, FirstIds.AreFirstIds, Pieces.end_of, Repeats.IsRepeatedId}
+use Rattle.qh_plane.proofs.SeenPlaces.{repeats_seen}
+use Rattle.qh_plane.specs.{declared.close_points.CloseBox.CloseBox, steps.FirstIds.HaveFirsts, steps.FirstIds.AreFirstIds, steps.Repeats.IsRepeatedId}
+use Rattle.qh_plane.specs.steps.Pieces.{end_of}
 
 module _ (pts : List Vector) (begin end : ℕ) (firsts : List ℕ) (order : begin ≤ end) (f : AreFirstIds pts begin end firsts) where
   -- the id of the first point with a number, or the end of the piece

@@ -1,9 +1,7 @@
 -- The keys of consecutive points, extended by one more point or by the points after them.
-use Rattle.std.proofs.Common.{◌≡◌, ℕ, ◌+◌, ◌<◌, ◌≤◌, ◌⊎◌, inl, inr, ⊎_elim, List, [], ◌∷◌, ◌++◌, arith, ap₂, sym, subst, ◌∙◌, refl}
-use Rattle.std.proofs.lemmas.{Bool.cases_lt, List.map-append}
-use native.Mathlib.Decide.{ℕ_discrete}
+use Rattle.qh_model.proofs.Common.{◌≡◌, ℕ, ◌+◌, ◌<◌, ◌≤◌, ◌⊎◌, inl, inr, ⊎_elim, List, [], ◌∷◌, ◌++◌, arith, ap₂, sym, subst, ◌∙◌, refl, cases_lt, map-append}
+use Rattle.qh_model.proofs.Common.{ℕ_discrete, In, Vector}
 use Rattle.qh_model.proofs.lists.{Joined.in_append, Joined.of_append, Rising.rising_append}
-use Rattle.qh_model.specs.headline.{Sets.In, Vector.Vector}
 use Rattle.qh_plane.specs.steps.HashedKeys.{Hashes, hash_at, hashed_key_at, AreKeysBetween}
 
 -- no points have no keys

@@ -1,7 +1,6 @@
 -- Keys that are related to the key before, found one by one.
-use Rattle.std.proofs.Common.{◌≡◌, ℕ, ◌+◌, ◌-◌, ◌%◌, ◌<◌, ◌≤◌, ◌⊎◌, inl, inr, List, [], ◌∷◌, ◌++◌, length, get_or, arith, ap, subst, ◌∙◌}
-use native.Mathlib.Decide.{ℕ_discrete}
-use Rattle.qh_model.{proofs.lists.Joined.in_append, proofs.lists.Joined.of_append, specs.headline.Sets.In}
+use Rattle.qh_model.proofs.Common.{◌≡◌, ℕ, ◌+◌, ◌-◌, ◌%◌, ◌<◌, ◌≤◌, ◌⊎◌, inl, inr, List, [], ◌∷◌, ◌++◌, length, get_or, arith, ap, subst, ◌∙◌, ℕ_discrete, In}
+use Rattle.qh_model.proofs.lists.Joined.{in_append, of_append}
 use Rattle.qh_plane.specs.steps.PlaceKeys.{AreRelatedIds}
 
 module _ (Related : ℕ → ℕ → Type 0) (room : ℕ) (keys : List ℕ) where

@@ -1,13 +1,11 @@
 -- Points that are entered into slots, one after the other: the contents of the slots, and the distinct ids.
-use Rattle.std.proofs.Common.{◌≡◌, ◌≢◌, ◌∙◌, ℕ, zero, suc, ◌+◌, ◌<◌, ◌≤◌, ◌⊎◌, inl, inr, List, [], ◌∷◌, ◌++◌, length, set, slice_index_or, arith, ap, sym}
-use Rattle.std.proofs.{Common.subst, Common.get_or-set_same, Common.get_or-set_other, lemmas.List.get_or_read, lemmas.List.length-set}
-use Rattle.std.specs.List.Sorted.{IsStrictlyIncreasing}
-use native.Mathlib.Decide.{ℕ_discrete}
-use Rattle.qh_model.specs.{declared.limits.TheConstants.POINT_LIMIT, headline.DistinctIds.IsDistinctId, headline.DistinctIds.AreDistinctIds}
-use Rattle.qh_model.specs.headline.{Predicates.place, Sets.In, Vector.Vector, Vector.origin}
+use Rattle.qh_model.proofs.Common.{◌≡◌, ◌≢◌, ◌∙◌, ℕ, zero, suc, ◌+◌, ◌<◌, ◌≤◌, ◌⊎◌, inl, inr, List, [], ◌∷◌, ◌++◌, length, set, slice_index_or, arith, ap, sym}
+use Rattle.qh_model.proofs.Common.{subst, get_or-set_same, get_or-set_other, get_or_read, length-set, IsStrictlyIncreasing, ℕ_discrete, IsDistinctId}
+use Rattle.qh_model.proofs.Common.{AreDistinctIds, place, In, Vector, origin}
+use Rattle.qh_model.specs.declared.limits.TheConstants.{POINT_LIMIT}
 use Rattle.qh_model.proofs.lists.{Joined.in_append, Joined.of_append, Rising.rising_append}
-use Rattle.qh_plane.specs.{declared.close_points.CloseBox.CloseBox, declared.first_ids.TheConstants.NO_ID, steps.CloseBoxes.slot_of}
-use Rattle.qh_plane.specs.steps.{FirstIds.slot_at, FirstIds.HasFirst, FirstIds.HaveFirsts, Repeats.IsRepeatedId}
+use Rattle.qh_plane.specs.{declared.close_points.CloseBox.CloseBox, steps.FirstIds.slot_at, steps.FirstIds.HasFirst, steps.FirstIds.HaveFirsts}
+use Rattle.qh_plane.specs.{declared.first_ids.TheConstants.NO_ID, steps.CloseBoxes.slot_of, steps.Repeats.IsRepeatedId}
 
 -- a point that was read is that of its id
 pub point_read : (pts : List Vector) (k : ℕ) (p : Vector) → k < length pts → p ≡ slice_index_or pts k p → p ≡ place pts k

@@ -1,8 +1,6 @@
 -- Slots of a table for hashes: point by point, and the result of the whole table.
-use Rattle.std.proofs.Common.{◌≡◌, ℕ, ◌+◌, ◌<◌, List, Bool, true, false, ◌||◌, length, arith, ap, sym, subst, ◌∙◌, refl, get_or, set, get_or-set_same}
-use Rattle.std.proofs.{Common.get_or-set_other, lemmas.List.length-set}
-use native.Mathlib.Decide.{ℕ_discrete}
-use Rattle.qh_model.specs.headline.{Predicates.place, Vector.Vector}
+use Rattle.qh_model.proofs.Common.{◌≡◌, ℕ, ◌+◌, ◌<◌, List, Bool, true, false, ◌||◌, length, arith, ap, sym, subst, ◌∙◌, refl, get_or, set, get_or-set_same}
+use Rattle.qh_model.proofs.Common.{get_or-set_other, length-set, ℕ_discrete, place, Vector}
 use Rattle.qh_plane.specs.steps.{HashedKeys.place_hash, HashedKeys.hash_at, HashedKeys.WithHashes, Repeats.AreRepeats, Repeats.AreAllRepeats}
 use Rattle.qh_plane.specs.steps.SharedSlots.{slot_in, MarkedHashes, AreTaken, AreShared}
 

@@ -1,7 +1,6 @@
 -- Numbers that rise from each to the next, or fall, do not repeat.
-use Rattle.std.proofs.Common.{◌≡◌, ℕ, zero, suc, ◌+◌, ◌-◌, ◌<◌, ◌≤◌, ◌⊎◌, inl, inr, List, length, arith, ap, subst, add-one, slice_index_or}
-use Rattle.std.proofs.lemmas.Bool.{cases_lt}
-use Rattle.qh_model.specs.headline.{Predicates.place, Vector.Vector}
+use Rattle.qh_model.proofs.Common.{◌≡◌, ℕ, zero, suc, ◌+◌, ◌-◌, ◌<◌, ◌≤◌, ◌⊎◌, inl, inr, List, length, arith, ap, subst, add-one, slice_index_or, cases_lt}
+use Rattle.qh_model.proofs.Common.{place, Vector}
 use Rattle.qh_plane.proofs.SeenPlaces.{point_read}
 use Rattle.qh_plane.specs.steps.{HashedKeys.place_number, SortedPoints.NumbersRise, SortedPoints.NumbersFall, SortedPoints.AllDiffer}
 

@@ -1,16 +1,14 @@
 -- Points to the left of all sides of a closed cycle: they are not extreme, so the remaining points have the same polygon.
-use Rattle.std.proofs.Common.{◌≡◌, ◌≢◌, ℕ, List, [], ◌∷◌, arith, ap, sym, subst, ◌∙◌, refl, inl, inr, ⊎_elim, Bool, true}
-use Rattle.std.proofs.lemmas.{Bool.false_from_ne_true, Bool.and_parts, Int.ints, Int.by_lt_z}
-use Rattle.std.specs.Prelude.{ℤ, pos, ◌+ℤ◌, ◌*ℤ◌, ◌≤ℤ◌, ◌<ℤ◌, not, filter}
-use Rattle.std.specs.List.Sorted.{IsStrictlyIncreasing}
-use Rattle.qh_model.proofs.algebra.{Order.mul-pos_neg, Order.mul-nonpos, Order.negative_le, Signs.less_differ}
-use Rattle.qh_model.proofs.{algebra.VectorIdentities.dot-minus, algebra.VectorIdentities.left-turn, extremes.Dimensions.triangle_of}
+use Rattle.qh_model.proofs.Common.{◌≡◌, ◌≢◌, ℕ, List, [], ◌∷◌, arith, ap, sym, subst, ◌∙◌, refl, inl, inr, ⊎_elim, Bool, true, false_from_ne_true, and_parts}
+use Rattle.qh_model.proofs.Common.{ints, by_lt_z, ℤ, pos, ◌+ℤ◌, ◌*ℤ◌, ◌≤ℤ◌, ◌<ℤ◌, not, filter, IsStrictlyIncreasing, HasTriangle, Extreme, Others, IsPolygon}
+use Rattle.qh_model.proofs.Common.{place, In, Members, Vector, dot, Separator}
+use Rattle.qh_model.proofs.{algebra.Order.mul-pos_neg, algebra.Order.mul-nonpos, algebra.Order.negative_le, extremes.Dimensions.triangle_of}
+use Rattle.qh_model.proofs.{algebra.Signs.less_differ, algebra.VectorIdentities.dot-minus, algebra.VectorIdentities.left-turn, hulls.SameSets.extremes_of_part}
 use Rattle.qh_model.proofs.extremes.ExtremeIds.{members_are_combinations, combination_within, alternative_in, listed_itself}
-use Rattle.qh_model.proofs.{hulls.ExtremeParts.part_set, hulls.SameSets.extremes_of_part, lists.Filters.in_filter}
-use Rattle.qh_model.specs.headline.{Dimension.HasTriangle, Extreme.Extreme, Extreme.Others, Polygon.IsPolygon, Predicates.place, Predicates.left}
-use Rattle.qh_model.specs.{headline.Sets.In, headline.Sets.Members, headline.Vector.Vector, headline.Vector.dot, laws.Separator.Separator}
-use Rattle.qh_polygon.proofs.{PlaneDirections.bracket, PlaneDirections.bracket-fan, polygons.Chain.is_left-yes, polygons.ComponentTurns.turns_agree}
-use Rattle.qh_polygon.proofs.polygons.PlanarIds.{flat_of, planar_triangle, two_of_triangle}
+use Rattle.qh_model.proofs.{hulls.ExtremeParts.part_set, lists.Filters.in_filter}
+use Rattle.qh_model.specs.headline.Predicates.{left}
+use Rattle.qh_polygon.proofs.{PlaneDirections.bracket, PlaneDirections.bracket-fan, polygons.ComponentTurns.turns_agree}
+use Rattle.qh_polygon.proofs.polygons.{Chain.is_left-yes, PlanarIds.flat_of, PlanarIds.planar_triangle, PlanarIds.two_of_triangle}
 use Rattle.qh_polygon.proofs.polygons.Turns.{IsFlat, step, left-bracket, left-swap, left-back, left-there}
 use Rattle.qh_polygon.specs.{contract.PlanarSets.IsPlanarSet, steps.Chains.is_left, steps.Chains.turn_of}
 use Rattle.qh_polygon.specs.steps.InnerPlaces.{is_left_along, is_inside, is_outside, IsFlatSet}

@@ -1,11 +1,9 @@
 -- Points in one line, and points in one plane.
-use Rattle.std.proofs.{Common.◌≡◌, Common.List, Common.[], Common.◌∷◌, Common.arith, Common.ap, Common.◌∙◌, Common.refl, lemmas.Int.ints}
-use Rattle.std.specs.Prelude.{ℤ, pos, ◌+ℤ◌, ◌-ℤ◌, ◌*ℤ◌, ◌<ℤ◌, neg_ℤ}
+use Rattle.qh_model.proofs.Common.{◌≡◌, List, [], ◌∷◌, arith, ap, ◌∙◌, refl, ints, ℤ, pos, ◌+ℤ◌, ◌-ℤ◌, ◌*ℤ◌, ◌<ℤ◌, neg_ℤ, cross, vol, AreInLine, Vector, origin}
+use Rattle.qh_model.proofs.Common.{minus, cross_product, dot}
 use Rattle.qh_model.proofs.algebra.{Order.cancel-zero, Ring.ring, Ring.Expr.add, Ring.Expr.sub as less, Ring.Expr.mul, Ring.Expr.neg}
 use Rattle.qh_model.proofs.algebra.VectorIdentities.{vec, subE, crossE, dotE, put, vector_path}
 use Rattle.qh_model.proofs.extremes.Directions.{square-positive}
-use Rattle.qh_model.specs.headline.Predicates.{cross, vol, AreInLine}
-use Rattle.qh_model.specs.headline.Vector.{Vector, origin, minus, cross_product, dot}
 use Rattle.qh_polygon.proofs.PlaneDirections.{determinant-zero}
 
 -- ---- lines

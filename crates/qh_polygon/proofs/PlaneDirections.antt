@@ -1,10 +1,8 @@
 -- Directions in one plane: their brackets, and the volume of three of them, which is 0.
-use Rattle.std.proofs.{Common.◌≡◌, Common.ℕ, Common.refl, Common.[], Common.arith, Common.◌∙◌, lemmas.Int.ints}
-use Rattle.std.specs.Prelude.{ℤ, pos, ◌+ℤ◌, ◌-ℤ◌, ◌*ℤ◌, ◌≤ℤ◌, ◌<ℤ◌}
+use Rattle.qh_model.proofs.Common.{◌≡◌, ℕ, refl, [], arith, ◌∙◌, ints, ℤ, pos, ◌+ℤ◌, ◌-ℤ◌, ◌*ℤ◌, ◌≤ℤ◌, ◌<ℤ◌, Vector, cross_product, dot}
 use Rattle.qh_model.proofs.algebra.{Integers.mul_comm, Order.mul-nonneg, Order.mul-pos, Order.cancel-nonneg, Order.cancel-pos, Order.cancel-zero}
-use Rattle.qh_model.proofs.algebra.Ring.{Expr, ring, Expr.add, Expr.sub as less, Expr.mul}
 use Rattle.qh_model.proofs.algebra.VectorIdentities.{vec, crossE, dotE, detE, put}
-use Rattle.qh_model.specs.headline.Vector.{Vector, cross_product, dot}
+use Rattle.qh_model.proofs.algebra.Ring.{Expr, ring, Expr.add, Expr.sub as less, Expr.mul}
 
 -- the bracket of two directions, seen along n
 abbrev pub bracket : Vector → Vector → Vector → ℤ

@@ -1,10 +1,7 @@
 -- The shape of a set of ids determines its dimension.
-use Rattle.std.proofs.Common.{◌≡◌, ℕ, ◌<◌, List, length, get_or, arith, sym, subst, ◌∙◌, refl, inl, inr}
-use Rattle.std.proofs.{Math.Nat.ne_of_lt, lemmas.Grind.get_or_default_zero}
-use Rattle.std.specs.List.Sorted.{IsStrictlyIncreasing}
+use Rattle.qh_model.proofs.Common.{◌≡◌, ℕ, ◌<◌, List, length, get_or, arith, sym, subst, ◌∙◌, refl, inl, inr, ne_of_lt, get_or_default_zero}
+use Rattle.qh_model.proofs.Common.{IsStrictlyIncreasing, IsIdSet, HasTriangle, HasSegment, IsDimension, place, In, Members, Vector, minus}
 use Rattle.qh_model.proofs.{Members.In-get_or, Members.in_at, extremes.Directions.square-positive}
-use Rattle.qh_model.specs.{contract.IdSets.IsIdSet, headline.Dimension.HasTriangle}
-use Rattle.qh_model.specs.headline.{Dimension.HasSegment, Dimension.IsDimension, Predicates.place, Sets.In, Sets.Members, Vector.Vector, Vector.minus}
 use Rattle.qh_polygon.proofs.{LinesAndPlanes.three_line, LinesAndPlanes.four_plane, LinesAndPlanes.same_point, ShapeIds.first_two_in}
 use Rattle.qh_polygon.specs.contract.Shapes.{IsInLine, IsInPlane, IsFirstNot, Each, AreFirstTwo}
 

@@ -1,7 +1,6 @@
 -- The first ids of a set, and a shape of its dimension.
-use Rattle.std.proofs.Common.{◌≡◌, ◌<◌, ℕ, List, arith, length, refl, subst}
+use Rattle.qh_model.proofs.Common.{◌≡◌, ◌<◌, ℕ, List, arith, length, refl, subst, In}
 use Rattle.qh_model.proofs.Members.{In-get_or}
-use Rattle.qh_model.specs.headline.Sets.{In}
 use Rattle.qh_polygon.specs.{contract.Shapes.AreFirstTwo, contract.Shapes.dimension_of, declared.shape.Shape.Shape}
 use Rattle.qh_polygon.specs.declared.shape.Shape.TheVariants.{Point, Segment, Flat, Solid}
 

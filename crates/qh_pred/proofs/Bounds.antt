@@ -1,13 +1,10 @@
 -- Bounds of sums and products of whole numbers by their absolute values, and the results of code with bounded numbers.
-use Rattle.std.proofs.Common.{◌≡◌, ℕ, ◌+◌, ◌*◌, ◌^◌, ◌≤◌, ◌<◌, arith, FitsSigned, lit<, ◌⊎◌, inl, inr}
-use Rattle.std.proofs.Math.Nat.{mul-le-mul, mul-le-mul_left}
-use Rattle.std.proofs.lemmas.Int.{to_z-of_z, ints, by_lt_z, unsigned_abs-mul, fits_signed_from_abs}
-use Rattle.std.specs.Prelude.{ℤ, pos, ◌+ℤ◌, ◌-ℤ◌, ◌*ℤ◌, ◌≤ℤ◌, unsigned_abs}
+use Rattle.qh_model.proofs.Common.{◌≡◌, ℕ, ◌+◌, ◌*◌, ◌^◌, ◌≤◌, ◌<◌, arith, FitsSigned, lit<, ◌⊎◌, inl, inr, mul-le-mul, mul-le-mul_left, to_z-of_z, ints}
+use Rattle.qh_model.proofs.Common.{by_lt_z, unsigned_abs-mul, fits_signed_from_abs, ℤ, pos, ◌+ℤ◌, ◌-ℤ◌, ◌*ℤ◌, ◌≤ℤ◌, unsigned_abs, IsPlace, IsCoordinate, Vector}
+use Rattle.qh_model.proofs.Common.{minus, dot, w64, w128, to_z, of_z}
 use Rattle.qh_model.proofs.algebra.Order.{mul-nonneg, mul-nonneg_nonpos, mul-nonpos_nonneg, mul-nonpos, negative_le}
-use Rattle.qh_model.specs.{contract.Places.IsPlace, headline.Limits.IsCoordinate, headline.Vector.Vector, headline.Vector.minus, headline.Vector.dot}
 use Rattle.qh_pred.specs.contract.Bounds.{difference_limit, normal_limit, IsNormal}
 use Rattle.qh_pred.specs.steps.Differences.{offset_limit, IsDifference}
-use mir.{Syntax.w64, Syntax.w128, Val.to_z, Val.of_z}
 
 -- the absolute value of a sum
 within-add : (x y : ℤ) (m n : ℕ) → unsigned_abs x ≤ m → unsigned_abs y ≤ n → unsigned_abs (x +ℤ y) ≤ m + n

@@ -1,10 +1,6 @@
 -- Coordinates that code reads from two points, and a point that it makes of them.
-use Rattle.std.proofs.Common.{ℕ, ◌≡◌, ◌<◌, ◌≤◌, ◌^◌, arith, lit<, ◌⊎◌, inl, inr}
-use Rattle.std.proofs.lemmas.Int.{ints, to_z-of_z, fits_signed_from_abs}
-use Rattle.std.specs.Prelude.{ℤ, ◌≤ℤ◌, unsigned_abs}
-use Rattle.qh_model.specs.headline.Limits.{IsCoordinate}
-use lib.Signed.{mag}
-use mir.{Syntax.w32, Val.hbits, Val.to_z, Val.of_z}
+use Rattle.qh_model.proofs.Common.{ℕ, ◌≡◌, ◌<◌, ◌≤◌, ◌^◌, arith, lit<, ◌⊎◌, inl, inr, ints, to_z-of_z, fits_signed_from_abs, ℤ, ◌≤ℤ◌, unsigned_abs}
+use Rattle.qh_model.proofs.Common.{IsCoordinate, mag, w32, hbits, to_z, of_z}
 
 -- a number as it is stored in 32 bits
 abbrev held : ℤ → ℤ

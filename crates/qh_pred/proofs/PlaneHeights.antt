@@ -1,14 +1,10 @@
 -- The height of a point, as the code of a plane computes it in 128 bits.
-use Rattle.std.proofs.Common.{rules, ◌≡◌, ◌+◌, ◌≤◌, ◌∙◌, sym, ap, FitsSigned, lit<, IsTrue, ◌↔◌}
-use Rattle.std.proofs.lemmas.Int.{to_z-of_z}
-use Rattle.std.specs.Prelude.{ℤ, pos, ◌-ℤ◌, ◌<ℤ◌, unsigned_abs}
-use Rattle.qh_model.specs.headline.{Predicates.cross, Predicates.vol, Vector.Vector, Vector.dot}
+use Rattle.qh_model.proofs.Common.{rules, ◌≡◌, ◌+◌, ◌≤◌, ◌∙◌, sym, ap, FitsSigned, lit<, IsTrue, ◌↔◌, to_z-of_z, ℤ, pos, ◌-ℤ◌, ◌<ℤ◌, unsigned_abs, cross, vol}
+use Rattle.qh_model.proofs.Common.{Vector, dot, w64, w128, lt_z}
 use Rattle.qh_model.proofs.algebra.VectorIdentities.{vol-linear}
 use Rattle.qh_pred.specs.contract.{Bounds.normal_limit, Bounds.IsNormal, Planes.PlaneValue, Planes.height}
 use Rattle.qh_pred.specs.steps.{Differences.offset_limit, StoredPlanes.IsPlane}
 use Rattle.qh_pred.proofs.Bounds.{through, through_half, within-sub, fits, fits_wide}
-use mir.Syntax.{w64, w128}
-use lib.Signed.{lt_z}
 
 -- the code of a height, from the product r of the normal and the point
 pub record HeightFits (inside plane : PlaneValue) (p : Vector) (r : ℤ) : Type 0 where

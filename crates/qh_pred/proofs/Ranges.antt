@@ -1,8 +1,6 @@
 -- Products over a range of numbers: the greatest is at an end of the range, and the greatest over a box is at a corner.
-use Rattle.std.proofs.{Common.◌≡◌, Common.arith, lemmas.Int.ints, lemmas.Int.by_lt_z}
-use Rattle.std.specs.Prelude.{ℤ, pos, ◌*ℤ◌, neg_ℤ, ◌≤ℤ◌, ◌<ℤ◌}
+use Rattle.qh_model.proofs.Common.{◌≡◌, arith, ints, by_lt_z, ℤ, pos, ◌*ℤ◌, neg_ℤ, ◌≤ℤ◌, ◌<ℤ◌, Vector}
 use Rattle.qh_model.proofs.algebra.{Order.mul-le, Integers.neg_mul}
-use Rattle.qh_model.specs.headline.Vector.{Vector}
 use Rattle.qh_pred.specs.contract.{Corners.IsInBox, Planes.PlaneValue, Planes.height, Ranges.IsBetween, Ranges.IsFarEnd}
 
 -- products beyond the end of a range to which a factor points are at least those in the range: beyond the greatest number for a factor above 0, and beyond the

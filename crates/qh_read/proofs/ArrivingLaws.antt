@@ -1,14 +1,12 @@
 -- The words that arrive from the first byte on are those of the text.
-use Rattle.std.proofs.Common.{◌≡◌, ◌∙◌, [], ◌∷◌, ◌+◌, ◌==◌, ◌++◌, ℕ, List, Bool, true, false, cond, refl, ap, sym, arith, append_assoc, map}
-use Rattle.std.proofs.lemmas.{Bool.Decides.nat_tests, List.map-append}
-use Rattle.std.specs.Prelude.{ℤ, pos, Option, Some, None, option_map, nat_le}
+use Rattle.qh_model.proofs.Common.{◌≡◌, ◌∙◌, [], ◌∷◌, ◌+◌, ◌==◌, ◌++◌, ℕ, List, Bool, true, false, cond, refl, ap, sym, arith, append_assoc, map, nat_tests}
+use Rattle.qh_model.proofs.Common.{map-append, ℤ, pos, Option, Some, None, option_map, nat_le, number_of, Word, is_blank}
 use Rattle.qh_model.specs.declared.{form.Form.TheVariants.Off, limits.TheConstants.COORDINATE_LIMIT}
-use Rattle.qh_model.specs.headline.{Numbers.number_of, Words.Word, Words.is_blank}
-use Rattle.qh_read.specs.contract.{Numerals.small_number, Numerals.numeral_of, Numerals.numerals_in, Tokens.cap}
-use Rattle.qh_read.specs.declared.{numerals.Numeral.Numeral, token.Token.Token, token.Token.TheVariants.Empty}
-use Rattle.qh_read.specs.steps.{Arriving.told_if, Arriving.grown_on, Arriving.arriving, SmallTokens.capped}
-use Rattle.qh_read.proofs.{HoldingLaws.grown_more, Lexing.Lexed, Lexing.start, Lexing.ended, Lexing.closed, Lexing.next, Lexing.lexed}
-use Rattle.qh_read.proofs.{OffLexingLaws.off_words-lexed, TokenLaws.grown_by, TokenLaws.value-number}
+use Rattle.qh_read.specs.{contract.Numerals.small_number, contract.Numerals.numeral_of, contract.Numerals.numerals_in, declared.token.Token.TheVariants.Empty}
+use Rattle.qh_read.specs.{contract.Tokens.cap, declared.token.Token.Token}
+use Rattle.qh_read.specs.{declared.numerals.Numeral.Numeral, steps.Arriving.told_if, steps.Arriving.grown_on, steps.Arriving.arriving, steps.SmallTokens.capped}
+use Rattle.qh_read.proofs.{HoldingLaws.grown_more, OffLexingLaws.off_words-lexed}
+use Rattle.qh_read.proofs.{Lexing.Lexed, Lexing.start, Lexing.ended, Lexing.closed, Lexing.next, Lexing.lexed, TokenLaws.grown_by, TokenLaws.value-number}
 
 -- a small number is distinguished from all others
 small-capped : (o : Option ℤ) → small_number (option_map capped o) ≡ small_number o

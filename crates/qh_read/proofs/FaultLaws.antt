@@ -1,18 +1,17 @@
 -- The first fault of the words is the one that a reader finds.
+use Rattle.qh_model.proofs.Common.{◌≡◌, ◌∙◌, ◌++◌, [], ◌∷◌, ◌*◌, ◌≤◌, ◌&&◌, ℕ, List, Bool, true, false, cond, refl, ap, sym, arith, zero, suc, length, nat_lt}
+use Rattle.qh_model.proofs.Common.{nat_tests, option_or, ℤ, pos, negsuc, Option, Some, None, option_map, nat_le, is_three, counted_fault, next_number_fault}
+use Rattle.qh_model.proofs.Common.{IsFirstFault, is_coordinate, number_of, off_words, Word, data_words}
 use Rattle.qh_model.specs.declared.read_fault.ReadFault.TheVariants as faults
-use Rattle.std.proofs.Common.{◌≡◌, ◌∙◌, ◌++◌, [], ◌∷◌, ◌*◌, ◌≤◌, ◌&&◌, ℕ, List, Bool, true, false, cond, refl, ap, sym, arith, zero, suc, length, nat_lt}
-use Rattle.std.{proofs.lemmas.Bool.Decides.nat_tests, specs.Option.option_or}
-use Rattle.std.specs.Prelude.{ℤ, pos, negsuc, Option, Some, None, option_map, nat_le}
 use Rattle.qh_model.specs.declared.form.Form.{Form, TheVariants.Qhull, TheVariants.Off}
 use Rattle.qh_model.specs.declared.{limits.TheConstants.POINT_LIMIT, limits.TheConstants.BYTE_LIMIT, read_fault.ReadFault.ReadFault}
-use Rattle.qh_model.specs.headline.FileFault.{is_three, coordinate_fault, coordinates_fault, counted_fault, number_fault, next_number_fault, long_fault}
-use Rattle.qh_model.specs.headline.{FileFault.headed_fault, FileFault.words_fault, Forms.IsFirstFault, Limits.is_coordinate, Numbers.number_of}
-use Rattle.qh_model.specs.headline.{OffFault.counts_fault, OffFault.off_words_fault, OffFile.off_words, Words.Word, Words.data_words}
+use Rattle.qh_model.specs.headline.FileFault.{coordinate_fault, coordinates_fault, number_fault, long_fault, headed_fault, words_fault}
+use Rattle.qh_model.specs.headline.OffFault.{counts_fault, off_words_fault}
 use Rattle.qh_read.specs.contract.Progress.{Progress, wants_first, wants_second, wants, wants_keyword, wants_vertex_count, wants_face_count, wants_edge_count}
 use Rattle.qh_read.specs.contract.Progress.{started, fails, counted, headed, after, after_number}
 use Rattle.qh_read.specs.declared.builder.Trailing.{Trailing, TheVariants.Refused, TheVariants.Ignored}
-use Rattle.qh_read.{specs.contract.Tokens.cap, specs.steps.Building.lack, specs.steps.SmallTokens.capped, proofs.Lexing.words_in}
-use Rattle.qh_read.proofs.ProgressLaws.{dropped, stays, judged, is_off, number_in}
+use Rattle.qh_read.specs.{contract.Tokens.cap, steps.Building.lack, steps.SmallTokens.capped}
+use Rattle.qh_read.proofs.{Lexing.words_in, ProgressLaws.dropped, ProgressLaws.stays, ProgressLaws.judged, ProgressLaws.is_off, ProgressLaws.number_in}
 
 fallen : (f : ReadFault) (ws : List Word) → lack (judged (fails f) ws) ≡ Some f
 fallen f ws = ap lack (stays f ws)

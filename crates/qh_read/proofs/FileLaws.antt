@@ -1,10 +1,9 @@
 -- The result for a file that is a list of faces, and its fault.
-use Rattle.std.proofs.Common.{ℕ, ◌≡◌, ◌⊎◌, [], List, refl, sym, subst, inl, inr}
-use Rattle.qh_model.specs.{declared.read_fault.ReadFault.ReadFault, headline.Vector.Vector}
-use Rattle.qh_read.specs.contract.Numerals.{numerals_in}
+use Rattle.qh_model.proofs.Common.{ℕ, ◌≡◌, ◌⊎◌, [], List, refl, sym, subst, inl, inr, Vector}
+use Rattle.qh_model.specs.declared.read_fault.ReadFault.{ReadFault}
+use Rattle.qh_read.specs.{contract.Numerals.numerals_in, declared.faces.reading.Layout.TheVariants.Counted, declared.faces.reading.Layout.TheVariants.Lines}
 use Rattle.qh_read.specs.contract.FaceFiles.{IsFaultBefore, IsFaultOfFaces, IsListOf, IsWholeList, ReadsFaces}
-use Rattle.qh_read.specs.declared.faces.reading.{Layout.Layout, Layout.TheVariants.Counted, Layout.TheVariants.Lines, Reading.Reading}
-use Rattle.qh_read.specs.steps.Lists.{AreWholeFaces, IsWholeFault}
+use Rattle.qh_read.specs.{declared.faces.reading.Layout.Layout, declared.faces.reading.Reading.Reading, steps.Lists.AreWholeFaces, steps.Lists.IsWholeFault}
 
 -- the layout is that of a list
 abbrev pub IsWhole : Layout → Type 0

@@ -1,15 +1,14 @@
 -- The state of a reader is determined by the words of its bytes.
-use Rattle.std.proofs.Common.{◌≡◌, ◌∙◌, ◌++◌, [], ◌∷◌, ◌+◌, ◌-◌, ◌*◌, ◌==◌, ◌||◌, ℕ, List, Bool, true, false, cond, refl, ap, sym, arith}
-use Rattle.std.proofs.lemmas.{Bool.Decides.nat_tests, List.append-nil}
-use Rattle.std.specs.{Char.is_ascii_digit, Prelude.ℤ, Prelude.Option, Prelude.codes, Str.bytes_eq}
+use Rattle.qh_model.proofs.Common.{◌≡◌, ◌∙◌, ◌++◌, [], ◌∷◌, ◌+◌, ◌-◌, ◌*◌, ◌==◌, ◌||◌, ℕ, List, Bool, true, false, cond, refl, ap, sym, arith, nat_tests}
+use Rattle.qh_model.proofs.Common.{append-nil, is_ascii_digit, ℤ, Option, codes, bytes_eq, Word, is_blank, is_data}
 use Rattle.qh_model.specs.declared.form.Form.{Form, TheVariants.Qhull, TheVariants.Off}
-use Rattle.qh_model.specs.headline.Words.{Word, is_blank, is_data}
 use Rattle.qh_read.proofs.Lexing.{Lexed, start, ended, closed, begun, marked, next, lexed, words_in}
-use Rattle.qh_read.proofs.{LexingLaws.in_cond, LexingLaws.push_cond, LexingLaws.data_words-lexed, OffLexingLaws.off_words-lexed, ProgressLaws.judged}
-use Rattle.qh_read.proofs.{ProgressLaws.judged-append, TokenLaws.grown_by, TokenLaws.value-number, TokenLaws.keyword-off}
+use Rattle.qh_read.proofs.{LexingLaws.in_cond, LexingLaws.push_cond, LexingLaws.data_words-lexed, ProgressLaws.judged, ProgressLaws.judged-append}
+use Rattle.qh_read.proofs.{OffLexingLaws.off_words-lexed, TokenLaws.grown_by, TokenLaws.value-number, TokenLaws.keyword-off}
 use Rattle.qh_read.specs.contract.Holding.{Held, held_at_start, word_ended, held_begun, held_marked, ended_held, next_held, held_by}
-use Rattle.qh_read.specs.contract.{Progress.Progress, Progress.started, Progress.after, Tokens.cap, Tokens.grown, Tokens.value_of, Tokens.is_keyword}
-use Rattle.qh_read.specs.declared.token.Token.{Token, TheVariants.Empty, TheVariants.Sign, TheVariants.Digits, TheVariants.Keyword, TheVariants.Other}
+use Rattle.qh_read.specs.contract.Progress.{Progress, started, after}
+use Rattle.qh_read.specs.{contract.Tokens.cap, contract.Tokens.grown, contract.Tokens.value_of, contract.Tokens.is_keyword, declared.token.Token.Token}
+use Rattle.qh_read.specs.declared.token.Token.TheVariants.{Empty, Sign, Digits, Keyword, Other}
 
 -- the state after bytes that are split into words
 abbrev pub held_of : Form → Lexed → Held

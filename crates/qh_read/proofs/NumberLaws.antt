@@ -1,7 +1,6 @@
 -- Coordinates that are accepted, and those of points.
-use Rattle.std.proofs.Common.{◌≡◌, ◌∙◌, ◌++◌, [], ◌∷◌, ℕ, List, true, false, ap, arith, suc, refl, append_assoc}
-use Rattle.std.{proofs.lemmas.Bool.Decides.nat_tests, specs.Prelude.ℤ, specs.Prelude.Some}
-use Rattle.qh_model.specs.headline.{Limits.IsCoordinate, Limits.is_coordinate, PointFile.coordinates, Vector.Vector}
+use Rattle.qh_model.proofs.Common.{◌≡◌, ◌∙◌, ◌++◌, [], ◌∷◌, ℕ, List, true, false, ap, arith, suc, refl, append_assoc, nat_tests, ℤ, Some, IsCoordinate}
+use Rattle.qh_model.proofs.Common.{is_coordinate, coordinates, Vector}
 use Rattle.qh_read.specs.{contract.Progress.Progress, contract.Progress.after, contract.Progress.wants, declared.builder.Trailing.Trailing}
 
 -- a coordinate in range is accepted

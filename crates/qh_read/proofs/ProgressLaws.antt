@@ -1,17 +1,16 @@
 -- The words of a completely read file: the numbers of a header, and the coordinates that it announces.
+use Rattle.qh_model.proofs.Common.{◌≡◌, ◌≢◌, ◌∙◌, ◌++◌, [], ◌∷◌, ◌*◌, ◌≤◌, ◌&&◌, ℕ, List, Bool, true, false, cond, refl, ap, sym, arith, zero, suc, min, length}
+use Rattle.qh_model.proofs.Common.{map, inl, inr, append_assoc, subst, length-append, leb-true, nat_tests, append-nil, AllByRecursion, ℤ, codes, pos, negsuc}
+use Rattle.qh_model.proofs.Common.{Option, Some, None, option_map, nat_le, bytes_eq, is_three, IsCoordinate, is_coordinate, number_of, Reads, coordinates}
+use Rattle.qh_model.proofs.Common.{Vector, Word, data_words}
 use Rattle.qh_model.specs.declared.read_fault.ReadFault.TheVariants as faults
 use Rattle.qh_read.specs.declared.builder.Pending.TheVariants as pendings
-use Rattle.std.proofs.Common.{◌≡◌, ◌≢◌, ◌∙◌, ◌++◌, [], ◌∷◌, ◌*◌, ◌≤◌, ◌&&◌, ℕ, List, Bool, true, false, cond, refl, ap, sym, arith, zero, suc, min, length, map}
-use Rattle.std.proofs.Common.{inl, inr, append_assoc, subst, length-append}
-use Rattle.std.{proofs.lemmas.Bool.leb-true, proofs.lemmas.Bool.Decides.nat_tests, proofs.lemmas.List.append-nil, specs.List.AllByRecursion, specs.Prelude.ℤ}
-use Rattle.std.specs.{Prelude.codes, Prelude.pos, Prelude.negsuc, Prelude.Option, Prelude.Some, Prelude.None, Prelude.option_map, Prelude.nat_le, Str.bytes_eq}
 use Rattle.qh_model.proofs.ReadingLaws.{numbers, thrice}
 use Rattle.qh_model.specs.declared.limits.TheConstants.{BYTE_LIMIT, COORDINATE_LIMIT, POINT_LIMIT}
-use Rattle.qh_model.specs.{declared.read_fault.ReadFault.ReadFault, headline.FileFault.is_three, headline.Limits.IsCoordinate, headline.Limits.is_coordinate}
-use Rattle.qh_model.specs.headline.{Numbers.number_of, PointFile.IsHeader, PointFile.Reads, PointFile.coordinates, Vector.Vector, Words.Word, Words.data_words}
+use Rattle.qh_model.specs.{declared.read_fault.ReadFault.ReadFault, headline.PointFile.IsHeader}
 use Rattle.qh_read.specs.contract.Progress.{Progress, wants_first, wants_second, wants, fails, counted, headed, took, after, after_number}
-use Rattle.qh_read.specs.declared.builder.{Pending.Pending, Trailing.Trailing, Trailing.TheVariants.Refused, Trailing.TheVariants.Ignored}
-use Rattle.qh_read.specs.{contract.Tokens.cap, steps.Building.filled_in, steps.SmallTokens.capped, steps.Stages.pending_list}
+use Rattle.qh_read.specs.{declared.builder.Pending.Pending, contract.Tokens.cap, steps.Building.filled_in, steps.SmallTokens.capped, steps.Stages.pending_list}
+use Rattle.qh_read.specs.declared.builder.Trailing.{Trailing, TheVariants.Refused, TheVariants.Ignored}
 
 -- the number of a word, capped
 abbrev pub number_in : Word → Option ℤ

@@ -1,11 +1,10 @@
 -- The bytes that are read from a source by several reads.
-use Rattle.std.proofs.Common.{◌≡◌, ◌∙◌, ◌++◌, ◌+◌, ℕ, List, [], ap, sym, subst, arith, length, length-append, append_assoc}
-use Rattle.std.specs.Prelude.{Option, Some, None, Result, Ok, Err, Vec, IfOk, IfErr}
-use Rattle.std.specs.{Io.KnownBytes.Consumes, declared.alloc.Global.Global}
-use Rattle.qh_model.specs.{declared.form.Form.Form, declared.read_fault.ReadFault.ReadFault, headline.Forms.ReadsIn, headline.Forms.IsFirstFault}
-use Rattle.qh_model.specs.headline.Vector.{Vector}
-use Rattle.qh_read.specs.contract.{Answers.AnswersSource, Holding.Reading, Holding.Fed, ReadFaults.IsTextFault}
-use Rattle.qh_read.specs.{headline.SourceBytes.Gives, headline.SourceBytes.GivesAll, steps.Sources.FedOn, steps.Sources.Stops}
+use Rattle.qh_model.proofs.Common.{◌≡◌, ◌∙◌, ◌++◌, ◌+◌, ℕ, List, [], ap, sym, subst, arith, length, length-append, append_assoc, Option, Some, None, Result, Ok}
+use Rattle.qh_model.proofs.Common.{Err, Vec, IfOk, IfErr, Consumes, ReadsIn, IsFirstFault, Vector}
+use Rattle.std.specs.declared.alloc.Global.{Global}
+use Rattle.qh_model.specs.declared.{form.Form.Form, read_fault.ReadFault.ReadFault}
+use Rattle.qh_read.specs.{contract.Answers.AnswersSource, contract.ReadFaults.IsTextFault, steps.Sources.FedOn, steps.Sources.Stops}
+use Rattle.qh_read.specs.{contract.Holding.Reading, contract.Holding.Fed, headline.SourceBytes.Gives, headline.SourceBytes.GivesAll}
 
 -- the bytes of two reads, one after the other
 pub Consumes-append : (old mid new : Option (List ℕ)) (xs ys : List ℕ) → Consumes old mid xs → Consumes mid new ys → Consumes old new (xs ++ ys)

@@ -1,12 +1,10 @@
 -- The token of a word determines its number, up to the cap.
-use Rattle.std.proofs.Common.{◌≡◌, ◌∙◌, [], ◌∷◌, ◌+◌, ◌-◌, ◌*◌, ◌≤◌, ◌==◌, ◌&&◌, ℕ, List, Bool, true, false, cond, refl, ap, sym, arith, zero, suc, min}
-use Rattle.std.{proofs.lemmas.Bool.Decides.nat_tests, specs.Char.is_ascii_digit}
-use Rattle.std.specs.{Prelude.codes, Prelude.pos, Prelude.neg_ℤ, Prelude.Option, Prelude.Some, Prelude.None, Prelude.option_map, Str.bytes_eq}
-use Rattle.qh_model.specs.declared.limits.TheConstants.{COORDINATE_LIMIT}
-use Rattle.qh_model.specs.headline.Numbers.{read_digits, are_digits, magnitude_of, number_of}
+use Rattle.qh_model.proofs.Common.{◌≡◌, ◌∙◌, [], ◌∷◌, ◌+◌, ◌-◌, ◌*◌, ◌≤◌, ◌==◌, ◌&&◌, ℕ, List, Bool, true, false, cond, refl, ap, sym, arith, zero, suc, min}
+use Rattle.qh_model.proofs.Common.{nat_tests, is_ascii_digit, codes, pos, neg_ℤ, Option, Some, None, option_map, bytes_eq, read_digits, number_of}
+use Rattle.qh_model.specs.{declared.limits.TheConstants.COORDINATE_LIMIT, headline.Numbers.are_digits, headline.Numbers.magnitude_of}
 use Rattle.qh_read.specs.contract.Tokens.{cap, grown, signed, value_of, is_keyword}
-use Rattle.qh_read.specs.declared.token.Token.{Token, TheVariants.Empty, TheVariants.Sign, TheVariants.Digits, TheVariants.Keyword, TheVariants.Other}
-use Rattle.qh_read.specs.steps.SmallTokens.{capped}
+use Rattle.qh_read.specs.{declared.token.Token.Token, steps.SmallTokens.capped}
+use Rattle.qh_read.specs.declared.token.Token.TheVariants.{Empty, Sign, Digits, Keyword, Other}
 
 -- the token after these bytes
 abbrev pub grown_by : Token → List ℕ → Token

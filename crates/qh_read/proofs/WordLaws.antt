@@ -1,7 +1,6 @@
 -- Words that are taken one by one.
-use Rattle.std.proofs.Common.{ℕ, ◌≡◌, ◌≢◌, ◌∙◌, ◌++◌, ◌<◌, ◌-◌, ◌+◌, ◌==◌, [], ◌∷◌, List, Bool, true, false, suc, cond, refl, ap, sym, subst, arith, map}
-use Rattle.std.proofs.{Common.append_assoc, lemmas.Bool.Decides.nat_tests, lemmas.List.append-nil, lemmas.List.map-append}
-use Rattle.std.specs.Prelude.{Option, Some}
+use Rattle.qh_model.proofs.Common.{ℕ, ◌≡◌, ◌≢◌, ◌∙◌, ◌++◌, ◌<◌, ◌-◌, ◌+◌, ◌==◌, [], ◌∷◌, List, Bool, true, false, suc, cond, refl, ap, sym, subst, arith, map}
+use Rattle.qh_model.proofs.Common.{append_assoc, nat_tests, append-nil, map-append, Option, Some}
 use Rattle.qh_model.specs.declared.read_fault.ReadFault.{ReadFault}
 use Rattle.qh_read.specs.contract.FaceFaults.{corners_fault, face_fault, faces_fault, number_fault}
 use Rattle.qh_read.specs.contract.FaceWords.{AreNumbers, IsLineFace, after_line, last_line, on_line}

@@ -1,6 +1,5 @@
 -- The union of two right values: its ids are in the list, and it is not empty.
-use Rattle.std.proofs.Common.{ℕ, ◌<◌, ◌⊎◌, ◌↔◌, inl, inr, List, length, get_or, arith}
-use Rattle.qh_model.specs.{contract.RightValue.RightValue, headline.Vector.Vector, headline.Sets.In}
+use Rattle.qh_model.proofs.Common.{ℕ, ◌<◌, ◌⊎◌, ◌↔◌, inl, inr, List, length, get_or, arith, RightValue, Vector, In}
 use Rattle.qh_model.proofs.{Members.In-get_or, Members.in_at, hulls.RightValues.right_within}
 
 -- an id of the union is in the list

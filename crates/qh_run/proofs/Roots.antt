@@ -1,7 +1,5 @@
 -- A value that is right for all blocks of a cut has the hull of all ids.
-use Rattle.std.proofs.Common.{ℕ, ◌≡◌, List, length}
-use Rattle.qh_model.specs.contract.{BoardMachine.InSpan, Cut.IsCut, Cut.block_count, Cut.positions, IdSets.HasDistinctPoints, RightValue.RightValue}
-use Rattle.qh_model.specs.headline.{Vector.Vector, Predicates.place, Sets.Members}
+use Rattle.qh_model.proofs.Common.{ℕ, ◌≡◌, List, length, InSpan, IsCut, block_count, positions, HasDistinctPoints, RightValue, Vector, place, Members}
 use Rattle.qh_model.proofs.hulls.RightValues.{hull_of_root, right_within}
 use Rattle.qh_run.specs.steps.Parts.{StandsFor}
 

@@ -1,6 +1,5 @@
 -- A board all of whose passes have left has all its blocks claimed.
-use Rattle.std.proofs.Common.{◌≡◌, ℕ, ◌<◌, ◌≤◌, List, [], ◌∷◌, length, arith, Some}
-use Rattle.std.specs.Prelude.{All}
+use Rattle.qh_model.proofs.Common.{◌≡◌, ℕ, ◌<◌, ◌≤◌, List, [], ◌∷◌, length, arith, Some, All}
 use Rattle.qh_board.specs.declared.view.Mark.TheVariants as marks
 use Rattle.qh_board.specs.contract.Tokens.{BoardValue, Token}
 use Rattle.qh_run.specs.steps.Turns.{IsWorked}

@@ -1,7 +1,5 @@
 -- Properties of the hull that the answer needs.
-use Rattle.std.proofs.Common.{◌<◌, List, length, get_or, All}
-use Rattle.std.proofs.lemmas.List.Elements.{All-from_get_or}
-use Rattle.qh_model.specs.headline.{Hull.HullValue, Hull.IsHull, Vector.Vector}
+use Rattle.qh_model.proofs.Common.{◌<◌, List, length, get_or, All, All-from_get_or, HullValue, IsHull, Vector}
 use Rattle.qh_model.proofs.Members.{In-get_or}
 
 -- the extreme ids of a hull are indices of points

@@ -1,7 +1,6 @@
 -- The number of positions of an even cut.
-use Rattle.std.proofs.Common.{◌≡◌, ℕ, ◌<◌, List, arith}
+use Rattle.qh_model.proofs.Common.{◌≡◌, ℕ, ◌<◌, List, arith, IsEvenCut, blocks_of, positions}
 use Rattle.std.proofs.lemmas.Grind.{div_ceil_times}
-use Rattle.qh_model.specs.contract.Cut.{IsEvenCut, blocks_of, positions}
 
 -- an even cut of some positions cuts all of them
 pub even_positions : (m size : ℕ) (bounds : List ℕ) → 0 < size → IsEvenCut m size bounds → positions bounds ≡ m

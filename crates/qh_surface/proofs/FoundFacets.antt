@@ -1,10 +1,6 @@
 -- A walk over all its facets found all facets that the apex sees.
-use Rattle.std.proofs.Common.{◌≡◌, ℕ, arith, sym, ◌∙◌, Bool, false, List, subst, inl, inr, ℤ, pos, ◌<ℤ◌}
-use Rattle.std.proofs.lemmas.Int.{by_lt_z}
-use Rattle.qh_model.specs.contract.{Weighted.Weighted, FinishedSurface.weighted_at}
-use Rattle.qh_model.specs.contract.Surface.{Surface, Side, Sees, rise}
-use Rattle.qh_model.specs.{contract.StoredSurface.StoredFacet, contract.StoredSurface.facet_at, contract.StoredSurface.surface_of, headline.Vector.Vector}
-use Rattle.qh_model.specs.{headline.Sets.In, laws.Horizons.IsWalked}
+use Rattle.qh_model.proofs.Common.{◌≡◌, ℕ, arith, sym, ◌∙◌, Bool, false, List, subst, inl, inr, ℤ, pos, ◌<ℤ◌, by_lt_z, Weighted, weighted_at, Surface, Side}
+use Rattle.qh_model.proofs.Common.{Sees, rise, StoredFacet, facet_at, surface_of, Vector, In, IsWalked}
 use Rattle.qh_model.proofs.{Members.All-In, Members.in_at, algebra.Signs.equal_positive, surfaces.SurfaceLaws.rise_is_vol, surfaces.SurfaceLaws.walk_finds_all}
 use Rattle.qh_mesh.proofs.{Rewiring.live_in, Rewiring.in_live, ListedFacets.in_listed, ListedFacets.listed_in}
 use Rattle.qh_pred.specs.contract.Planes.{PlaneValue, height}

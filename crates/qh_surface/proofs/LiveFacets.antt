@@ -1,7 +1,6 @@
 -- The live facets of a mesh: their places, and the loop over them.
-use Rattle.std.proofs.Common.{◌≡◌, ℕ, List, ◌∷◌, subst, All, ◌<◌, arith, length}
-use Rattle.std.proofs.lemmas.List.{get_or_past, Elements.All-head, Elements.All-rest}
-use Rattle.qh_model.specs.contract.StoredSurface.{StoredFacet, surface_of, no_facet}
+use Rattle.qh_model.proofs.Common.{◌≡◌, ℕ, List, ◌∷◌, subst, All, ◌<◌, arith, length, get_or_past, All-head, StoredFacet, surface_of, no_facet}
+use Rattle.std.proofs.lemmas.List.Elements.{All-rest}
 use Rattle.qh_model.proofs.{Members.All-of, surfaces.Stored.live_is_marked}
 use Rattle.qh_mesh.specs.contract.Replacement.{IsLive}
 

@@ -1,6 +1,5 @@
 -- The same facets are live in a mesh over positions and over ids.
-use Rattle.std.proofs.Common.{ℕ, sym, subst}
-use Rattle.qh_model.specs.{contract.StoredSurface.surface_of, headline.Sets.In}
+use Rattle.qh_model.proofs.Common.{ℕ, sym, subst, surface_of, In}
 use Rattle.qh_model.proofs.surfaces.{Named.IsNamed, Named.stored_named, Stored.live_is_marked}
 use Rattle.qh_mesh.specs.contract.{Names.name_in, Replacement.IsLive}
 use Rattle.qh_surface.specs.{contract.NamedMeshes.named, declared.named_mesh.NamedMesh.NamedMesh}

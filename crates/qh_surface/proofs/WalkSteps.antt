@@ -1,9 +1,7 @@
 -- The steps of a walk over twins.
-use Rattle.std.proofs.Common.{◌≡◌, ◌≢◌, ℕ, ◌+◌, ◌<◌, ◌≤◌, ◌∙◌, ◌∷◌, ◌++◌, arith, ap, sym, refl, Bool, true, false, inl, inr, List, [], length, subst, set}
-use Rattle.std.proofs.Common.{length-set, get_or-set_same, get_or-set_other, slice_index, ◌↔◌, ◌||◌, IsTrue}
-use Rattle.std.proofs.lemmas.{Bool.cases_Bool, Bool.cases_eq, Bool.cases_lt, List.get_or_append_left, List.length_push}
-use Rattle.std.proofs.lemmas.List.Elements.{All-push, All-weaker}
-use Rattle.qh_model.specs.{contract.StoredSurface.StoredFacet, contract.StoredSurface.surface_of, headline.Sets.In}
+use Rattle.qh_model.proofs.Common.{◌≡◌, ◌≢◌, ℕ, ◌+◌, ◌<◌, ◌≤◌, ◌∙◌, ◌∷◌, ◌++◌, arith, ap, sym, refl, Bool, true, false, inl, inr, List, [], length, subst, set}
+use Rattle.qh_model.proofs.Common.{length-set, get_or-set_same, get_or-set_other, slice_index, ◌↔◌, ◌||◌, IsTrue, cases_Bool, cases_eq, cases_lt}
+use Rattle.qh_model.proofs.Common.{get_or_append_left, length_push, All-push, All-weaker, StoredFacet, surface_of, In}
 use Rattle.qh_model.proofs.{Members.All-In, Members.In-get_or, Members.in_at, lists.Joined.in_append, lists.Ranges.pigeon}
 use Rattle.qh_mesh.specs.contract.Replacement.{IsLive, AreFacets}
 use Rattle.qh_mesh.proofs.ListedFacets.{once_apart, once_push}

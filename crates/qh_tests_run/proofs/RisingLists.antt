@@ -1,8 +1,6 @@
 -- Rising lists of the blocks of spans.
-use Rattle.std.proofs.Common.{◌≡◌, inl, inr, ⊎_elim, ℕ, ◌+◌, ◌*◌, ◌<◌, ◌≤◌, List, [], ◌∷◌, ◌++◌, length, sym, refl, ◌∙◌, arith, eq-eqb, ne_eqb, IsPermutation}
-use Rattle.std.proofs.{Common.count_by, Common.cond, lemmas.List.Sorted.sum_by-IsPermutation, lemmas.List.Sums.sum_by-append}
-use Rattle.std.specs.Prelude.{slice_index, ◌==◌}
-use Rattle.qh_model.specs.contract.BoardMachine.{InSpan}
+use Rattle.qh_model.proofs.Common.{◌≡◌, inl, inr, ⊎_elim, ℕ, ◌+◌, ◌*◌, ◌<◌, ◌≤◌, List, [], ◌∷◌, ◌++◌, length, sym, refl, ◌∙◌, arith, eq-eqb, ne_eqb}
+use Rattle.qh_model.proofs.Common.{IsPermutation, count_by, cond, sum_by-IsPermutation, sum_by-append, slice_index, ◌==◌, InSpan}
 use Rattle.qh_model.proofs.board.Spans.{span_of_leaf, span_of_node, spans_apart}
 use Rattle.qh_tests_run.specs.Rising.{IsRisingListOf}
 

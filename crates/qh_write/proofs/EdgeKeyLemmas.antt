@@ -1,14 +1,13 @@
 -- Edges counted by numbers of pairs: the added numbers, and the number of different ones.
-use Rattle.std.proofs.Common.{◌≡◌, ◌≢◌, ◌∙◌, ℕ, ◌+◌, ◌<◌, List, [], ◌∷◌, ◌++◌, length, ap, sym, refl, subst, inl, inr, map, drop, get_or, append_assoc, min}
-use Rattle.std.proofs.Common.{max, IsPermutation, Bool, true, false, cond, eqb-true, nat_cmp}
-use Rattle.std.proofs.lemmas.{Bool.eqb-false, Grind.flat_map-append, List.length-map, List.Kept.Contains-dedup_nat, List.Kept.Contains-from_dedup}
-use Rattle.std.proofs.lemmas.{List.Sorted.IsPermutation-sym, Map.Keys.IsStrictlyIncreasing-dedup}
-use Rattle.std.specs.{List.flat_map, List.dedup, List.AllByRecursion, List.Sorted.IsSorted, Prelude.◌==◌, Prelude.◌↔◌, Prelude.eqb}
-use Rattle.qh_model.specs.contract.ClosedPolygons.{steps_along, steps_round}
-use Rattle.qh_model.specs.{contract.Halves.packed, declared.keys.packed.TheConstants.HALF_ROOM}
-use Rattle.qh_model.specs.headline.{Fan.fan, Fan.fans, Fan.pairs_along, Fan.pairs_round, Fan.edge_count, Sets.In, Sets.Once}
-use Rattle.qh_model.proofs.{Members.to_contains, Members.of_contains, Members.in_permutation, Members.rising_once, Members.every_at, PackedPairs.packed-same}
-use Rattle.qh_model.proofs.lists.{Images.in_map, Images.of_map, Joined.in_flat_map, Joined.of_flat_map, OnceEach.once_length}
+use Rattle.qh_model.proofs.Common.{◌≡◌, ◌≢◌, ◌∙◌, ℕ, ◌+◌, ◌<◌, List, [], ◌∷◌, ◌++◌, length, ap, sym, refl, subst, inl, inr, map, drop, get_or, append_assoc}
+use Rattle.qh_model.proofs.Common.{min, max, IsPermutation, Bool, true, false, cond, eqb-true, nat_cmp, eqb-false, flat_map-append, length-map}
+use Rattle.qh_model.proofs.Common.{IsPermutation-sym, IsStrictlyIncreasing-dedup, flat_map, AllByRecursion, ◌==◌, ◌↔◌, eqb, steps_along, steps_round, packed}
+use Rattle.qh_model.proofs.Common.{fan, fans, pairs_along, pairs_round, edge_count, In, Once}
+use Rattle.std.proofs.lemmas.List.Kept.{Contains-dedup_nat, Contains-from_dedup}
+use Rattle.std.specs.List.{dedup, Sorted.IsSorted}
+use Rattle.qh_model.specs.declared.keys.packed.TheConstants.{HALF_ROOM}
+use Rattle.qh_model.proofs.{Members.to_contains, Members.of_contains, Members.in_permutation, Members.rising_once, Members.every_at, lists.OnceEach.once_length}
+use Rattle.qh_model.proofs.{PackedPairs.packed-same, lists.Images.in_map, lists.Images.of_map, lists.Joined.in_flat_map, lists.Joined.of_flat_map}
 use Rattle.qh_model.proofs.polygons.EdgeCounts.{distinct, length-distinct, of_distinct, in_distinct, once_distinct}
 use Rattle.qh_write.specs.steps.EdgeKeys.{pair_key, HasRoom, AddsPairs, Completes, pairs_of}
 use Rattle.qh_write.proofs.FanLemmas.{drop_next}

@@ -1,9 +1,8 @@
 -- The bytes received by a sink after some of the bytes were sent.
-use Rattle.std.proofs.Common.{◌≡◌, ◌∙◌, ℕ, suc, ◌+◌, ◌-◌, ◌<◌, ◌≤◌, List, ◌∷◌, ◌++◌, length, take, drop, get_or, Vec, Global, ap, arith, sym, append_assoc}
-use Rattle.std.proofs.Common.{length-append, subst, take_all}
-use Rattle.std.proofs.{KnownBytes.Appends-trans, Math.Seq.drop-cons, Math.Seq.take-append-add, Math.Seq.take-add, lemmas.Grind.flat_map-append}
-use Rattle.std.proofs.lemmas.List.{take-append-drop, take-append-le, take_rest, length-drop}
-use Rattle.std.specs.{Io.KnownBytes.Appends, Io.KnownBytes.Keeps, Prelude.Option, Prelude.Some, Prelude.None}
+use Rattle.qh_model.proofs.Common.{◌≡◌, ◌∙◌, ℕ, suc, ◌+◌, ◌-◌, ◌<◌, ◌≤◌, List, ◌∷◌, ◌++◌, length, take, drop, get_or, Vec, Global, ap, arith, sym, append_assoc}
+use Rattle.qh_model.proofs.Common.{length-append, subst, take_all, drop-cons, take-add, flat_map-append, take-append-drop, length-drop, Appends, Keeps, Option}
+use Rattle.qh_model.proofs.Common.{Some, None}
+use Rattle.std.proofs.{KnownBytes.Appends-trans, Math.Seq.take-append-add, lemmas.List.take-append-le, lemmas.List.take_rest}
 use Rattle.qh_write.specs.{contract.Pieces.bytes_of, headline.Sinks.AppendsBeginning}
 
 -- a prefix of the bytes, and the bytes added to it, make a longer prefix

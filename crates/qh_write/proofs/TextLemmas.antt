@@ -1,11 +1,10 @@
 -- Texts that grow by pieces, and the numbers of vertices, found in a table or by a search.
-use Rattle.std.proofs.Common.{◌≡◌, ◌≢◌, ◌∙◌, ℕ, zero, suc, ◌+◌, ◌-◌, ◌<◌, ◌≤◌, List, [], ◌∷◌, ◌++◌, length, arith, ap, sym, refl, subst, inl, inr, ◌⊎◌}
-use Rattle.std.proofs.Common.{get_or-set_same, get_or-set_other, set, length-set, get_or, eqb-true, Bool, zero-add, ap₂, true, false, cond, All, replicate}
-use Rattle.std.proofs.Common.{decimal, slice_index, Vec, Global, Result, Ok, Err}
-use Rattle.std.proofs.lemmas.{Bool.eqb-false, List.length-replicate, List.Elements.All-from_get_or, List.Sorted.searched}
-use Rattle.std.specs.{List.flat_map, Ordering.nat_cmp, Prelude.◌==◌, Prelude.MatchResult, List.Sorted.IsBinarySearchResult, List.Sorted.IsStrictlyIncreasing}
-use Rattle.qh_model.specs.{contract.Bodies.IsBodyInOrder, headline.Sets.In, headline.Sets.Once}
-use Rattle.qh_model.specs.headline.Text.{line, spaced, vertex_number, face_text}
+use Rattle.qh_model.proofs.Common.{◌≡◌, ◌≢◌, ◌∙◌, ℕ, zero, suc, ◌+◌, ◌-◌, ◌<◌, ◌≤◌, List, [], ◌∷◌, ◌++◌, length, arith, ap, sym, refl, subst, inl, inr, ◌⊎◌}
+use Rattle.qh_model.proofs.Common.{get_or-set_same, get_or-set_other, set, length-set, get_or, eqb-true, Bool, zero-add, ap₂, true, false, cond, All, replicate}
+use Rattle.qh_model.proofs.Common.{decimal, slice_index, Vec, Global, Result, Ok, Err, eqb-false, length-replicate, All-from_get_or, flat_map, nat_cmp, ◌==◌}
+use Rattle.qh_model.proofs.Common.{MatchResult, IsStrictlyIncreasing, IsBodyInOrder, In, Once, line, spaced, vertex_number, face_text}
+use Rattle.std.proofs.lemmas.List.Sorted.{searched}
+use Rattle.std.specs.List.Sorted.{IsBinarySearchResult}
 use Rattle.qh_model.proofs.{Cuts.bounds_order, Members.All-In, Members.In-get_or, Members.rising_once, renamed.Positions.at_number, renamed.Positions.number_at}
 use Rattle.qh_write.specs.declared.texts.numbering.VertexNumbers.{VertexNumbers, TheVariants.Table}
 use Rattle.qh_write.specs.steps.Numberings.{numbered, number_in, HasNumber, AreNumbered, face_by_numbers, NumberExtremes}

@@ -1,8 +1,7 @@
 -- The faces of a finished mesh close up, whatever the order in which they were gathered.
-use Rattle.std.proofs.Common.{ℕ, List, [], ◌∷◌, IsPermutation}
-use Rattle.std.proofs.lemmas.List.Sorted.{IsPermutation-cons, IsPermutation-refl, IsPermutation-sym, IsPermutation-trans}
-use Rattle.qh_model.specs.contract.{ClosedPolygons.AreClosed, IdSets.IsIdSet, FinishedSurface.IsFinished, StoredSurface.StoredFacet, StoredSurface.surface_of}
-use Rattle.qh_model.specs.headline.{Vector.Vector, Predicates.place, Sets.Members}
+use Rattle.qh_model.proofs.Common.{ℕ, List, [], ◌∷◌, IsPermutation, IsPermutation-refl, IsPermutation-sym, IsPermutation-trans, AreClosed, IsIdSet, IsFinished}
+use Rattle.qh_model.proofs.Common.{StoredFacet, surface_of, Vector, place, Members}
+use Rattle.std.proofs.lemmas.List.Sorted.{IsPermutation-cons}
 use Rattle.qh_model.proofs.{Members.in_permutation, lists.Ordered.Ordered}
 use Rattle.qh_bodies.specs.steps.FaceKeys.{merged}
 use Rattle.qh_block.specs.steps.Faces.{AreFacetFaces}

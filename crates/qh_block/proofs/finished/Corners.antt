@@ -1,8 +1,5 @@
 -- The corners of a list of facets.
-use Rattle.std.proofs.Common.{All, ℕ, ◌<◌, List, length, arith}
-use Rattle.std.specs.Prelude.{◌↔◌}
-use Rattle.qh_model.specs.contract.{IdSets.AreIndices, Surface.IsCorner, StoredSurface.StoredFacet, StoredSurface.surface_of}
-use Rattle.qh_model.specs.headline.{Vector.Vector, Sets.In}
+use Rattle.qh_model.proofs.Common.{All, ℕ, ◌<◌, List, length, arith, ◌↔◌, AreIndices, IsCorner, StoredFacet, surface_of, Vector, In}
 use Rattle.qh_model.proofs.{Members.All-In, Members.All-of, lists.Joined.in_flat_map, lists.Joined.of_flat_map}
 use Rattle.qh_mesh.specs.contract.Replacement.{IsLive}
 use Rattle.qh_surface.specs.contract.Corners.{AreCornersBelow}

@@ -1,17 +1,14 @@
 -- Faces that are gathered one after the other, each plane once.
-use Rattle.std.proofs.Common.{get_or, take, ◌≡◌, inl, inr, ⊎_elim, ℕ, List, [], ◌∷◌, ◌++◌, sym, subst, refl, Bool, true, false}
-use Rattle.std.proofs.lemmas.{Bool.cases_Bool, Cmp.nat_list_eq_equiv, Cmp.on_equiv, Bool.Decides.Decides-eqb, List.Folds.list_any_none}
-use Rattle.std.proofs.lemmas.{Map.Keys.IsDistinct-push, Slice.Eq.slice_eq-Decides}
-use Rattle.std.specs.List.{IsDistinct}
-use Rattle.std.specs.Prelude.{◌↔◌, ℤ, pos, ◌*ℤ◌}
-use Rattle.qh_model.specs.contract.{IdSets.HasDistinctPoints, Surface.Surface, FinishedSurface.IsFinished, StoredSurface.StoredFacet, StoredSurface.surface_of}
-use Rattle.qh_model.specs.headline.{Vector.Vector, Extreme.Extreme, Predicates.cross, Predicates.vol, Sets.In, Sets.Members}
-use Rattle.qh_model.specs.laws.{FaceLaws.IsAlong, FacetPlanes.IsLevelWith, FacetPlanes.IsLevelFacet}
+use Rattle.qh_model.proofs.Common.{get_or, take, ◌≡◌, inl, inr, ⊎_elim, ℕ, List, [], ◌∷◌, ◌++◌, sym, subst, refl, Bool, true, false, cases_Bool, IsDistinct}
+use Rattle.qh_model.proofs.Common.{◌↔◌, ℤ, pos, ◌*ℤ◌, HasDistinctPoints, Surface, IsFinished, StoredFacet, surface_of, Vector, Extreme, cross, vol, In, Members}
+use Rattle.qh_model.proofs.Common.{IsAlong, IsLevelWith, IsLevelFacet}
+use Rattle.std.proofs.lemmas.{Cmp.nat_list_eq_equiv, Cmp.on_equiv, Bool.Decides.Decides-eqb, List.Folds.list_any_none, Slice.Eq.slice_eq-Decides}
+use Rattle.std.proofs.lemmas.Map.Keys.{IsDistinct-push}
 use Rattle.qh_model.proofs.{Members.All-of, algebra.VectorIdentities.vol-first, algebra.VectorIdentities.vol-second, algebra.VectorIdentities.vol-third}
-use Rattle.qh_model.proofs.extremes.{Directions.vol_along, Directions.zero_along, SpanningTriples.planes_of_extremes}
-use Rattle.qh_model.proofs.{lists.Joined.in_append, lists.Joined.of_append, polygons.Direction.polygon_as, polygons.PlaneTurns.level_along}
+use Rattle.qh_model.proofs.{extremes.Directions.vol_along, extremes.Directions.zero_along, surfaces.Finished.facet_area, surfaces.Finished.facets_support}
+use Rattle.qh_model.proofs.{extremes.SpanningTriples.planes_of_extremes, lists.Joined.in_append, lists.Joined.of_append, polygons.PlaneTurns.level_along}
+use Rattle.qh_model.proofs.{polygons.Direction.polygon_as, surfaces.Stored.live_is_marked}
 use Rattle.qh_model.proofs.surfaces.FacetPlanes.{level_facets_span, level_itself, level_back, level_on}
-use Rattle.qh_model.proofs.surfaces.{Finished.facet_area, Finished.facets_support, Stored.live_is_marked}
 use Rattle.qh_mesh.specs.contract.Replacement.{IsLive}
 use Rattle.qh_surface.specs.contract.Walks.{mark_at}
 use Rattle.qh_bodies.specs.contract.ApartPolygons.{HasThree, begin_alike, HasThree.three}

@@ -1,12 +1,10 @@
 -- The loop over the live facets of a mesh that gathers its faces.
-use Rattle.std.proofs.Common.{◌≡◌, ◌⊎◌, inl, inr, ⊎_elim, ℕ, ◌<◌, ◌≤◌, List, [], ◌∷◌, ◌++◌, length, sym, subst, refl, arith}
-use Rattle.std.specs.Prelude.{Bool, true, false}
-use Rattle.qh_model.specs.headline.{Vector.Vector, Predicates.place, Sets.In, Sets.Members}
-use Rattle.qh_model.specs.contract.{IdSets.IsIdSet, FinishedSurface.IsFinished, StoredSurface.StoredFacet, StoredSurface.surface_of}
+use Rattle.qh_model.proofs.Common.{◌≡◌, ◌⊎◌, inl, inr, ⊎_elim, ℕ, ◌<◌, ◌≤◌, List, [], ◌∷◌, ◌++◌, length, sym, subst, refl, arith, Bool, true, false, Vector}
+use Rattle.qh_model.proofs.Common.{place, In, Members, IsIdSet, IsFinished, StoredFacet, surface_of}
 use Rattle.qh_model.proofs.surfaces.Stored.{live_is_marked}
 use Rattle.qh_mesh.specs.contract.Replacement.{IsLive}
 use Rattle.qh_surface.specs.contract.Walks.{mark_at}
-use Rattle.qh_block.specs.steps.{Faces.IsNewPlane, Faces.IsNewFace, Faces.AreMarkedFaces, Faces.AreFacetFaces}
+use Rattle.qh_block.specs.steps.Faces.{IsNewPlane, IsNewFace, AreMarkedFaces, AreFacetFaces}
 use Rattle.qh_block.proofs.finished.FaceLists.{no_faces, new_plane, next_face}
 use Rattle.qh_surface.proofs.LiveFacets.{live_below}
 

@@ -1,11 +1,8 @@
 -- The polygon of a plane with one facet has the corners of that facet, beginning with the least.
-use Rattle.std.proofs.Common.{◌≡◌, ◌≢◌, ℕ, ◌<◌, List, [], ◌∷◌, length, sym, subst, refl, arith, Bool, true, false, cond}
-use Rattle.std.proofs.lemmas.Bool.Decides.{nat_tests}
-use Rattle.std.specs.Prelude.{◌&&◌, nat_lt, pos, ◌<ℤ◌}
-use Rattle.qh_model.specs.contract.{FinishedSurface.IsFinished, IdSets.IsIdSet, StoredSurface.StoredFacet, StoredSurface.facet_at, StoredSurface.surface_of}
-use Rattle.qh_model.specs.headline.Vector.{Vector}
-use Rattle.qh_model.specs.headline.Predicates.{place, cross, left, AreInLine}
-use Rattle.qh_model.specs.{headline.Sets.Members, headline.Extreme.Extreme, headline.Polygon.IsPolygon, laws.FacetPlanes.IsLevelFacet}
+use Rattle.qh_model.proofs.Common.{◌≡◌, ◌≢◌, ℕ, ◌<◌, List, [], ◌∷◌, length, sym, subst, refl, arith, Bool, true, false, cond, nat_tests, ◌&&◌, nat_lt, pos}
+use Rattle.qh_model.proofs.Common.{◌<ℤ◌, IsFinished, IsIdSet, StoredFacet, facet_at, surface_of, Vector, place, cross, AreInLine, Members, Extreme, IsPolygon}
+use Rattle.qh_model.proofs.Common.{IsLevelFacet}
+use Rattle.qh_model.specs.headline.Predicates.{left}
 use Rattle.qh_model.proofs.{algebra.VectorIdentities.left-dot, algebra.VectorIdentities.left-turn, extremes.Directions.square-positive}
 use Rattle.qh_model.proofs.surfaces.{Finished.facet_area, Stored.live_is_marked}
 use Rattle.qh_mesh.specs.contract.Replacement.{IsLive}

@@ -1,10 +1,6 @@
 -- A walk in the plane of a facet of a mesh over positions is a walk of the same mesh over ids.
-use Rattle.std.proofs.Common.{◌≡◌, ◌∙◌, ℕ, ◌<◌, inl, inr, List, length, ap, sym, subst, refl, Bool}
-use Rattle.std.proofs.lemmas.List.{get_or-map}
-use Rattle.std.specs.Prelude.{◌↔◌, slice_index}
-use Rattle.qh_model.specs.contract.Surface.{Side, Surface, IsCorner, IsWhole}
-use Rattle.qh_model.specs.{contract.StoredSurface.surface_of, headline.Vector.Vector, headline.Vector.origin}
-use Rattle.qh_model.specs.{headline.Predicates.place, headline.Predicates.vol, headline.Sets.In, laws.FacetPlanes.IsLevelFacet, laws.FacetPlanes.IsLevelWith}
+use Rattle.qh_model.proofs.Common.{◌≡◌, ◌∙◌, ℕ, ◌<◌, inl, inr, List, length, ap, sym, subst, refl, Bool, get_or-map, ◌↔◌, slice_index, Side, Surface, IsCorner}
+use Rattle.qh_model.proofs.Common.{IsWhole, surface_of, Vector, origin, place, vol, In, IsLevelFacet, IsLevelWith}
 use Rattle.qh_model.proofs.{Members.All-In, Members.All-of, Members.In-get_or, surfaces.Stored.live_is_marked}
 use Rattle.qh_mesh.specs.contract.{Names.name_in, Replacement.IsLive}
 use Rattle.qh_surface.specs.contract.{NamedMeshes.named, NamedMeshes.IsNamedMesh, Walks.IsMarked, Walks.IsWalkFrom}

@@ -1,12 +1,9 @@
 -- A walk in the plane of a facet gathers the face of that plane.
-use Rattle.std.proofs.Common.{inl, inr, ⊎_elim, ℕ, List, refl, Bool}
-use Rattle.std.specs.{Prelude.◌↔◌, List.Sorted.IsStrictlyIncreasing}
-use Rattle.qh_model.specs.contract.{IdSets.IsIdSet, Surface.Surface, Surface.Side, Surface.IsCorner, FinishedSurface.IsFinished}
-use Rattle.qh_model.specs.{contract.StoredSurface.StoredFacet, contract.StoredSurface.surface_of, headline.Vector.Vector}
-use Rattle.qh_model.specs.headline.{Predicates.place, Predicates.cross, Sets.In, Sets.Members, Extreme.Extreme, SupportingPlane.OnPlane, Polygon.IsPolygon}
-use Rattle.qh_model.specs.laws.{FacetPlanes.IsLevelFacet, CompletenessLaws.CornerInPlane}
-use Rattle.qh_model.proofs.{extremes.Directions.along_itself, hulls.SameSets.extreme_as, polygons.Direction.polygon_as, surfaces.Complete.extremes_of_plane}
-use Rattle.qh_model.proofs.surfaces.{FacetPlanes.plane_walk_finds_all, Finished.facet_area, Finished.facets_support, Stored.live_is_marked}
+use Rattle.qh_model.proofs.Common.{inl, inr, ⊎_elim, ℕ, List, refl, Bool, ◌↔◌, IsStrictlyIncreasing, IsIdSet, Surface, Side, IsCorner, IsFinished, StoredFacet}
+use Rattle.qh_model.proofs.Common.{surface_of, Vector, place, cross, In, Members, Extreme, OnPlane, IsPolygon, IsLevelFacet, CornerInPlane}
+use Rattle.qh_model.proofs.{extremes.Directions.along_itself, hulls.SameSets.extreme_as, surfaces.Complete.extremes_of_plane, surfaces.Stored.live_is_marked}
+use Rattle.qh_model.proofs.polygons.Direction.{polygon_as}
+use Rattle.qh_model.proofs.surfaces.{FacetPlanes.plane_walk_finds_all, Finished.facet_area, Finished.facets_support}
 use Rattle.qh_mesh.specs.contract.Replacement.{IsLive, is_listed}
 use Rattle.qh_mesh.proofs.ListedFacets.{in_listed, listed_in}
 use Rattle.qh_polygon.specs.contract.PlanarSets.{IsPlanarSet}

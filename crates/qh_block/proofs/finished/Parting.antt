@@ -1,10 +1,7 @@
 -- The loop over the live facets of a mesh that gathers the faces of chosen facets in a list of their own.
-use Rattle.std.proofs.Common.{◌≡◌, inl, inr, ℕ, ◌<◌, ◌≤◌, List, [], ◌∷◌, ◌++◌, IsPermutation, length, refl, subst, sym}
-use Rattle.std.proofs.lemmas.List.{append_assoc}
-use Rattle.std.proofs.lemmas.List.Sorted.{IsPermutation-append_left, IsPermutation-refl, IsPermutation-sym, IsPermutation-trans}
-use Rattle.std.specs.Prelude.{Bool, true, false}
-use Rattle.qh_model.specs.contract.{ClosedPolygons.AreClosed, IdSets.IsIdSet, FinishedSurface.IsFinished, StoredSurface.StoredFacet, StoredSurface.surface_of}
-use Rattle.qh_model.specs.headline.{Vector.Vector, Predicates.place, Sets.In, Sets.Members}
+use Rattle.qh_model.proofs.Common.{◌≡◌, inl, inr, ℕ, ◌<◌, ◌≤◌, List, [], ◌∷◌, ◌++◌, IsPermutation, length, refl, subst, sym, append_assoc}
+use Rattle.qh_model.proofs.Common.{IsPermutation-append_left, IsPermutation-refl, IsPermutation-sym, IsPermutation-trans, Bool, true, false, AreClosed, IsIdSet}
+use Rattle.qh_model.proofs.Common.{IsFinished, StoredFacet, surface_of, Vector, place, In, Members}
 use Rattle.qh_model.proofs.{Members.in_permutation, lists.Joined.of_append}
 use Rattle.qh_mesh.specs.contract.Replacement.{IsLive}
 use Rattle.qh_surface.specs.contract.Walks.{mark_at}
@@ -12,8 +9,8 @@ use Rattle.qh_surface.proofs.LiveFacets.{live_below}
 use Rattle.qh_block.specs.contract.MarkedFaces.{AreFacesOfMarked}
 use Rattle.qh_block.specs.steps.Faces.{AreFacetFaces, IsFacetPolygon, IsNewPlane, IsNewFace}
 use Rattle.qh_bodies.proofs.{StepCounts.closed_permuted, MergedFaces.behind_first}
-use Rattle.qh_block.proofs.finished.{ClosedFaces.facet_faces_close, FaceLists.new_plane}
-use Rattle.qh_block.proofs.finished.Gathering.{IsGathering, gathering_starts, gathering_goes, gathering_ends}
+use Rattle.qh_block.proofs.finished.ClosedFaces.{facet_faces_close}
+use Rattle.qh_block.proofs.finished.{FaceLists.new_plane, Gathering.IsGathering, Gathering.gathering_starts, Gathering.gathering_goes, Gathering.gathering_ends}
 
 -- the polygons are faces of facets with this mark, if the mesh is finished
 abbrev pub AreOf : List Vector → List StoredFacet → List Bool → Bool → List (List ℕ) → Type 0

@@ -1,12 +1,9 @@
 -- The faces of a finished mesh have the extreme ids as their members, and close up.
-use Rattle.std.proofs.Common.{ℕ, List}
-use Rattle.std.specs.{Prelude.◌↔◌, List.Sorted.IsStrictlyIncreasing}
-use Rattle.qh_model.specs.contract.{ClosedPolygons.AreClosedFaces, IdSets.IsIdSet, FinishedSurface.IsFinished}
-use Rattle.qh_model.specs.{contract.StoredSurface.StoredFacet, contract.StoredSurface.surface_of, headline.Vector.Vector, headline.Predicates.place}
-use Rattle.qh_model.specs.headline.{Sets.In, Sets.Members, Extreme.Extreme, Hull.AreExtremes, Polygons.AreFaces, Polygons.RiseStrictly}
-use Rattle.qh_model.proofs.{lists.Joined.in_flat_map, lists.Joined.of_flat_map, polygons.Steps.faces_close}
-use Rattle.qh_model.proofs.surfaces.{Complete.finished_is_solid, Complete.polygons_of_facets, FacetPlanes.level_itself, Finished.extremes_are_corners}
-use Rattle.qh_model.proofs.surfaces.Stored.{live_is_marked}
+use Rattle.qh_model.proofs.Common.{ℕ, List, ◌↔◌, IsStrictlyIncreasing, AreClosedFaces, IsIdSet, IsFinished, StoredFacet, surface_of, Vector, place, In, Members}
+use Rattle.qh_model.proofs.Common.{Extreme, AreExtremes, AreFaces, RiseStrictly}
+use Rattle.qh_model.proofs.{lists.Joined.in_flat_map, lists.Joined.of_flat_map, surfaces.Complete.finished_is_solid, surfaces.Complete.polygons_of_facets}
+use Rattle.qh_model.proofs.polygons.Steps.{faces_close}
+use Rattle.qh_model.proofs.surfaces.{FacetPlanes.level_itself, Finished.extremes_are_corners, Stored.live_is_marked}
 use Rattle.qh_block.specs.steps.Faces.{AreFacetFaces}
 use Rattle.qh_bodies.specs.contract.Tallies.{all_members}
 

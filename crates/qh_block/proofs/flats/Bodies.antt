@@ -1,8 +1,6 @@
 -- The hulls of a point and of a segment, from their one polygon.
-use Rattle.std.proofs.Common.{◌≡◌, ◌∙◌, ℕ, ◌<◌, [], ◌∷◌, List, length, get_or, sym, subst, ◌⊎◌, ⊎_elim, inl, inr, arith, refl}
-use Rattle.std.specs.Prelude.{◌↔◌}
-use Rattle.qh_model.specs.{contract.IdSets.IsIdSet, headline.Dimension.IsDimension, headline.Extreme.Extreme, headline.Hull.BodyValue, headline.Hull.IsBody}
-use Rattle.qh_model.specs.headline.{Polygons.ArePolygons, Polygons.IsEdgeCount, Predicates.place, Sets.In, Sets.Members, Vector.Vector, Vector.origin}
+use Rattle.qh_model.proofs.Common.{◌≡◌, ◌∙◌, ℕ, ◌<◌, [], ◌∷◌, List, length, get_or, sym, subst, ◌⊎◌, ⊎_elim, inl, inr, arith, refl, ◌↔◌, IsIdSet, IsDimension}
+use Rattle.qh_model.proofs.Common.{Extreme, BodyValue, IsBody, ArePolygons, IsEdgeCount, place, In, Members, Vector, origin}
 use Rattle.qh_model.proofs.{Members.In-get_or, Members.in_at, extremes.ExtremeIds.greatest_is_extreme}
 use Rattle.qh_polygon.proofs.ShapeDimension.{segment}
 use Rattle.qh_polygon.specs.contract.Shapes.{IsInLine, Each, AreFirstTwo}

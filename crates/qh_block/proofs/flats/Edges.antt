@@ -1,8 +1,7 @@
 -- The number of edges of one polygon: 0 for a point, 1 for a segment, otherwise 1 for each member.
-use Rattle.std.proofs.Common.{◌≡◌, ◌≢◌, ℕ, suc, ◌<◌, [], ◌∷◌, ◌++◌, List, length, arith, inl, false, max, min, subst, sym, ◌⊎◌}
-use Rattle.std.proofs.lemmas.Grind.{common_steps}
-use Rattle.std.specs.{List.list_any, Prelude.◌==◌, Prelude.◌&&◌}
-use Rattle.qh_model.specs.headline.{Fan.count_pairs, Fan.edge_count, Fan.pairs_along, Polygons.IsEdgeCount, Sets.In, Sets.Once}
+use Rattle.qh_model.proofs.Common.{◌≡◌, ◌≢◌, ℕ, suc, ◌<◌, [], ◌∷◌, ◌++◌, List, length, arith, inl, false, max, min, subst, sym, ◌⊎◌, common_steps, list_any}
+use Rattle.qh_model.proofs.Common.{◌==◌, ◌&&◌, edge_count, pairs_along, IsEdgeCount, In, Once}
+use Rattle.qh_model.specs.headline.Fan.{count_pairs}
 use Rattle.qh_bodies.specs.contract.ApartPolygons.{HasThree, HasThree.three}
 use Rattle.qh_model.proofs.polygons.EdgeCounts.{edges_are_counted}
 

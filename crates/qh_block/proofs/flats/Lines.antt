@@ -1,18 +1,12 @@
 -- A set in one line: its extreme ids are the first and the last along the line.
-use Rattle.std.proofs.Common.{◌≡◌, ◌≢◌, ℕ, [], ◌∷◌, ap, arith, inl, inr, refl, sym, subst, ◌∙◌, ◌⊎◌, ⊎_elim}
-use Rattle.std.proofs.Math.Nat.{ne_of_lt}
-use Rattle.std.proofs.lemmas.Int.{ints, by_lt_z}
-use Rattle.std.specs.Prelude.{ℤ, pos, ◌-ℤ◌, ◌*ℤ◌, neg_ℤ, ◌≤ℤ◌, ◌<ℤ◌, ◌↔◌, List}
-use Rattle.qh_model.specs.contract.IdSets.{IsIdSet}
-use Rattle.qh_model.specs.headline.{Extreme.Extreme, Extreme.Others, Predicates.cross, Predicates.place, Sets.In, Sets.Members}
-use Rattle.qh_model.specs.headline.Vector.{Vector, minus, cross_product, dot}
-use Rattle.qh_model.proofs.Members.{in_at}
+use Rattle.qh_model.proofs.Common.{◌≡◌, ◌≢◌, ℕ, [], ◌∷◌, ap, arith, inl, inr, refl, sym, subst, ◌∙◌, ◌⊎◌, ⊎_elim, ne_of_lt, ints, by_lt_z, ℤ, pos, ◌-ℤ◌, ◌*ℤ◌}
+use Rattle.qh_model.proofs.Common.{neg_ℤ, ◌≤ℤ◌, ◌<ℤ◌, ◌↔◌, List, IsIdSet, Extreme, Others, cross, place, In, Members, Vector, minus, cross_product, dot}
+use Rattle.qh_model.proofs.{Members.in_at, extremes.Directions.square-positive}
 use Rattle.qh_model.proofs.algebra.{Order.le_less, Order.mul-pos, Order.mul-nonneg_nonpos, Order.mul-nonpos_nonneg, Ring.ring}
-use Rattle.qh_model.proofs.algebra.Ring.Expr.{add, sub as less, mul, neg}
 use Rattle.qh_model.proofs.algebra.Signs.{equal_le, gap_positive, less_le, lt_neg, neg_le, not_less}
 use Rattle.qh_model.proofs.algebra.VectorIdentities.{vec, subE, crossE, dotE, put, combine3, dot-minus}
-use Rattle.qh_model.proofs.{combinations.Alternatives.combination_or_separator, extremes.Directions.square-positive}
-use Rattle.qh_model.proofs.extremes.ExtremeIds.{combination_within, greatest_is_extreme}
+use Rattle.qh_model.proofs.{combinations.Alternatives.combination_or_separator, extremes.ExtremeIds.combination_within, extremes.ExtremeIds.greatest_is_extreme}
+use Rattle.qh_model.proofs.algebra.Ring.Expr.{add, sub as less, mul, neg}
 use Rattle.qh_polygon.proofs.{LinesAndPlanes.same_point, ShapeIds.first_two_in}
 use Rattle.qh_polygon.specs.contract.Shapes.{IsInLine, Each, AreFirstTwo}
 use Rattle.qh_block.specs.steps.Segments.{IsFirstAlong}

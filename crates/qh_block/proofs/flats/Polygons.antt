@@ -1,15 +1,10 @@
 -- The hull of a set in one plane is its polygon.
-use Rattle.std.proofs.Common.{◌≡◌, ◌≢◌, ◌∙◌, ℕ, [], ◌∷◌, List, length, sym, subst, ◌⊎◌, ⊎_elim, inl, inr, arith, refl}
-use Rattle.std.proofs.lemmas.Int.{ints}
-use Rattle.qh_model.specs.{contract.IdSets.IsIdSet, headline.Dimension.IsDimension, headline.Extreme.Extreme, headline.Hull.BodyValue, headline.Hull.IsBody}
-use Rattle.qh_model.specs.headline.{Polygon.IsPolygon, Polygons.IsFlatFace, Polygons.PointsForward, Predicates.place, Predicates.cross, Predicates.AreInLine}
-use Rattle.qh_model.specs.headline.{Sets.In, Sets.Members, Vector.Vector, Vector.origin, Vector.minus}
-use Rattle.qh_model.proofs.Members.{In-get_or, in_at}
+use Rattle.qh_model.proofs.Common.{◌≡◌, ◌≢◌, ◌∙◌, ℕ, [], ◌∷◌, List, length, sym, subst, ◌⊎◌, ⊎_elim, inl, inr, arith, refl, ints, IsIdSet, IsDimension, Extreme}
+use Rattle.qh_model.proofs.Common.{BodyValue, IsBody, IsPolygon, IsFlatFace, PointsForward, place, cross, AreInLine, In, Members, Vector, origin, minus}
+use Rattle.qh_model.proofs.{Members.In-get_or, Members.in_at, extremes.Dimensions.triangle_of, extremes.Directions.cross-flip, extremes.Directions.in_line-flip}
 use Rattle.qh_model.proofs.algebra.VectorIdentities.{vector_path, in_line-twice, opposite, in_line-last}
-use Rattle.qh_model.proofs.extremes.{Dimensions.triangle_of, Directions.cross-flip, Directions.in_line-flip}
 use Rattle.qh_model.proofs.extremes.ExtremeIds.{listed_itself, combination_of_extremes, combination_within}
-use Rattle.qh_polygon.specs.contract.PlanarSets.{IsPlanarSet}
-use Rattle.qh_polygon.specs.contract.Shapes.{IsInLine, IsInPlane, Each, IsFirstNot, AreFirstTwo}
+use Rattle.qh_polygon.specs.contract.{PlanarSets.IsPlanarSet, Shapes.IsInLine, Shapes.IsInPlane, Shapes.Each, Shapes.IsFirstNot, Shapes.AreFirstTwo}
 use Rattle.qh_bodies.specs.contract.ApartPolygons.{HasThree, HasThree.three}
 use Rattle.qh_block.specs.steps.FlatBodies.{IsFlatBody}
 use Rattle.qh_polygon.proofs.ShapeIds.{first_two_in}

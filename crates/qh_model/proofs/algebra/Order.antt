@@ -1,8 +1,6 @@
 -- Signs of products. A signature needs brackets, since `≤ℤ` binds tighter than `+ℤ` and `*ℤ`.
-use Rattle.std.proofs.Common.{◌≡◌, zero, suc, ◌*◌, ◌≤◌, arith, ap, sym, ◌∙◌, refl, ◌⊎◌, inl, inr, ⊎_elim}
-use Rattle.std.proofs.{Math.IntN.*ℤ-zero, Math.Nat.mul-le-mul, lemmas.Int.ints, lemmas.Int.by_lt_z}
-use Rattle.std.specs.Prelude.{ℤ, pos, negsuc, ◌+ℤ◌, ◌-ℤ◌, ◌*ℤ◌, neg_ℤ, ◌≤ℤ◌, ◌<ℤ◌}
-use lib.IntN.{ℤ_discrete}
+use Rattle.qh_model.proofs.Common.{◌≡◌, zero, suc, ◌*◌, ◌≤◌, arith, ap, sym, ◌∙◌, refl, ◌⊎◌, inl, inr, ⊎_elim, *ℤ-zero, mul-le-mul, ints, by_lt_z, ℤ, pos}
+use Rattle.qh_model.proofs.Common.{negsuc, ◌+ℤ◌, ◌-ℤ◌, ◌*ℤ◌, neg_ℤ, ◌≤ℤ◌, ◌<ℤ◌, ℤ_discrete}
 use borrow.Author.Differences.{product_is}
 use Rattle.qh_model.proofs.algebra.{Integers.mul_add, Integers.mul_comm, Integers.mul_neg, Signs.not_less}
 

@@ -1,6 +1,5 @@
 -- Orders of whole numbers, of equal numbers and of opposites.
-use Rattle.std.proofs.{Common.◌≡◌, Common.arith, lemmas.Int.ints, lemmas.Int.by_lt_z}
-use Rattle.std.specs.Prelude.{ℤ, pos, ◌+ℤ◌, ◌-ℤ◌, neg_ℤ, ◌≤ℤ◌, ◌<ℤ◌}
+use Rattle.qh_model.proofs.Common.{◌≡◌, arith, ints, by_lt_z, ℤ, pos, ◌+ℤ◌, ◌-ℤ◌, neg_ℤ, ◌≤ℤ◌, ◌<ℤ◌}
 
 -- a number that is less than another is not at least as great
 pub not_less : (a b : ℤ) → a <ℤ b → b ≤ℤ a → ⊥

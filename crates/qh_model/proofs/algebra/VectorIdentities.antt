@@ -1,10 +1,8 @@
 -- Expressions for vectors, and the identities of `vol`.
-use Rattle.std.proofs.Common.{◌≡◌, ℕ, ◌+◌, ◌*◌, refl, List, [], ◌∷◌, arith, ap, ◌∙◌}
-use Rattle.std.proofs.{Math.IntN.*ℤ-zero, lemmas.Int.ints}
-use Rattle.std.specs.Prelude.{ℤ, pos, ◌+ℤ◌, ◌-ℤ◌, ◌*ℤ◌, neg_ℤ}
+use Rattle.qh_model.proofs.Common.{◌≡◌, ℕ, ◌+◌, ◌*◌, refl, List, [], ◌∷◌, arith, ap, ◌∙◌, *ℤ-zero, ints, ℤ, pos, ◌+ℤ◌, ◌-ℤ◌, ◌*ℤ◌, neg_ℤ, cross, vol, AreInLine}
+use Rattle.qh_model.proofs.Common.{Vector, origin, minus, cross_product, dot}
 use Rattle.qh_model.proofs.algebra.Ring.{Expr, ring, ring_zero, Expr.var, Expr.con, Expr.add, Expr.sub as less, Expr.mul, Expr.neg}
-use Rattle.qh_model.specs.headline.Predicates.{cross, vol, left, AreInLine}
-use Rattle.qh_model.specs.headline.Vector.{Vector, origin, minus, cross_product, dot}
+use Rattle.qh_model.specs.headline.Predicates.{left}
 
 -- a vector of expressions
 pub record VE : Type 0 where

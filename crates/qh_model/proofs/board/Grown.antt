@@ -1,8 +1,7 @@
 -- The invariant of every reachable state of the board, for each event except the second arrival.
-use Rattle.std.proofs.Common.{◌≡◌, ◌≢◌, ◌⊎◌, inl, inr, ⊎_elim, ℕ, ◌+◌, ◌*◌, ◌<◌, ◌≤◌, true, sym, refl, ap, ◌∙◌, subst, arith}
-use mathlib.Core.Logic.{dite}
-use native.Mathlib.Decide.{ℕ_discrete, dec_le}
-use Rattle.qh_model.specs.contract.BoardMachine.{Place, untouched, held, parked, used, published, Machine, start, put, parent, sibling, claim_got, Can, after}
+use Rattle.qh_model.proofs.Common.{◌≡◌, ◌≢◌, ◌⊎◌, inl, inr, ⊎_elim, ℕ, ◌+◌, ◌*◌, ◌<◌, ◌≤◌, true, sym, refl, ap, ◌∙◌, subst, arith, dite, ℕ_discrete, dec_le}
+use Rattle.qh_model.proofs.Common.{Place, untouched, held, parked, used, published, Machine, put, parent, sibling, claim_got, Can, after}
+use Rattle.qh_model.specs.contract.BoardMachine.{start}
 use Rattle.qh_model.proofs.board.{Siblings.near, Updates.put_here, Updates.put_else, Updates.at_put}
 
 -- the claims and the nodes of B blocks and W passes

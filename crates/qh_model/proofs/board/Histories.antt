@@ -1,9 +1,8 @@
 -- Facts that no later event changes, and the node that a pass holds after it gave up.
-use Rattle.std.proofs.Common.{◌≡◌, ◌≢◌, ◌⊎◌, inl, inr, ⊎_elim, ℕ, ◌+◌, ◌<◌, ◌≤◌, true, false, List, [], ◌∷◌, ◌++◌, sym, refl, ap, ◌∙◌, subst, arith}
-use mathlib.Core.Logic.{dite}
-use native.Mathlib.Decide.{ℕ_discrete}
-use Rattle.qh_model.specs.contract.BoardMachine.{untouched, held, parked, published, none, left, gave_up, Machine, start, put, Event, claim_got, claim_over}
-use Rattle.qh_model.specs.contract.BoardMachine.{arrive_first, arrive_second, publish, leave, give_up, HoldsNothing, Can, after, run, CanRun, settled}
+use Rattle.qh_model.proofs.Common.{◌≡◌, ◌≢◌, ◌⊎◌, inl, inr, ⊎_elim, ℕ, ◌+◌, ◌<◌, ◌≤◌, true, false, List, [], ◌∷◌, ◌++◌, sym, refl, ap, ◌∙◌, subst, arith, dite}
+use Rattle.qh_model.proofs.Common.{ℕ_discrete, untouched, held, parked, published, none, gave_up, Machine, put, Event, claim_got, claim_over, arrive_first}
+use Rattle.qh_model.proofs.Common.{arrive_second, publish, leave, give_up, Can, after, run, CanRun, settled}
+use Rattle.qh_model.specs.contract.BoardMachine.{left, start, HoldsNothing}
 use Rattle.qh_model.proofs.board.{Grown.Consistent, Joined.Cases, Joined.same, Joined.spent, Joined.got, Joined.joined, Joined.cases, Joined.fresh}
 use Rattle.qh_model.proofs.board.{Kept.keeps_good, Kept.all_good, Updates.put_here, Updates.put_else, Updates.at_put}
 

@@ -1,10 +1,9 @@
 -- The second arrival at a node keeps the invariant.
-use Rattle.std.proofs.Common.{◌≡◌, ◌≢◌, ◌⊎◌, inl, inr, ℕ, ◌+◌, ◌*◌, ◌<◌, sym, ap, ◌∙◌, subst, arith, ⊎_elim}
-use mathlib.Core.Logic.{dite}
-use native.Mathlib.Decide.{ℕ_discrete}
-use Rattle.qh_model.specs.contract.BoardMachine.{Place, untouched, held, parked, used, published, Machine, put, parent, sibling, Acts}
-use Rattle.qh_model.proofs.board.{Grown.Consistent, Grown.place_dec, Grown.ranged, Siblings.ArePair, Siblings.Near, Siblings.near, Siblings.of_pair}
-use Rattle.qh_model.proofs.board.Updates.{put_here, put_else, at_put}
+use Rattle.qh_model.proofs.Common.{◌≡◌, ◌≢◌, ◌⊎◌, inl, inr, ℕ, ◌+◌, ◌*◌, ◌<◌, sym, ap, ◌∙◌, subst, arith, ⊎_elim, dite, ℕ_discrete, Place, untouched, held}
+use Rattle.qh_model.proofs.Common.{parked, used, published, Machine, put, parent, sibling}
+use Rattle.qh_model.specs.contract.BoardMachine.{Acts}
+use Rattle.qh_model.proofs.board.Grown.{Consistent, place_dec, ranged}
+use Rattle.qh_model.proofs.board.{Siblings.ArePair, Siblings.Near, Siblings.near, Siblings.of_pair, Updates.put_here, Updates.put_else, Updates.at_put}
 
 -- the state of a node after the second arrival from the node i
 pub data Cases (f : ℕ → Place) (w i j : ℕ) (y : Place) : Type 0 where

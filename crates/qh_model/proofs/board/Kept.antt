@@ -1,7 +1,6 @@
 -- Each event keeps the invariant of the reachable states.
-use Rattle.std.proofs.Common.{◌≡◌, ℕ, ◌<◌, List, [], ◌∷◌, sym, refl, ◌∙◌}
-use Rattle.qh_model.specs.contract.BoardMachine.{untouched, held, parked, used, published, Machine, Event, claim_got, claim_over, arrive_first, arrive_second}
-use Rattle.qh_model.specs.contract.BoardMachine.{publish, leave, give_up, Can, after, run, CanRun}
+use Rattle.qh_model.proofs.Common.{◌≡◌, ℕ, ◌<◌, List, [], ◌∷◌, sym, refl, ◌∙◌, untouched, held, parked, used, published, Machine, Event, claim_got, claim_over}
+use Rattle.qh_model.proofs.Common.{arrive_first, arrive_second, publish, leave, give_up, Can, after, run, CanRun}
 use Rattle.qh_model.proofs.board.{Grown.Consistent, Grown.changes, Grown.ends, Grown.gets, Joined.joins}
 
 module _ (B W : ℕ) (some : 0 < B) where

@@ -1,8 +1,6 @@
 -- The states in which the root is published.
-use Rattle.std.proofs.Common.{◌≡◌, ◌≢◌, inl, inr, ℕ, zero, suc, ◌+◌, ◌*◌, ◌<◌, ◌≤◌, sym, refl, ap, ◌∙◌, subst, arith}
-use mathlib.Core.Logic.{dite}
-use native.Mathlib.Decide.{ℕ_discrete, dec_le}
-use Rattle.qh_model.specs.contract.BoardMachine.{Place, untouched, held, parked, used, published, Machine, parent, sibling, settled}
+use Rattle.qh_model.proofs.Common.{◌≡◌, ◌≢◌, inl, inr, ℕ, zero, suc, ◌+◌, ◌*◌, ◌<◌, ◌≤◌, sym, refl, ap, ◌∙◌, subst, arith, dite, ℕ_discrete, dec_le, Place}
+use Rattle.qh_model.proofs.Common.{untouched, held, parked, used, published, Machine, parent, sibling, settled}
 use Rattle.qh_model.proofs.board.{Grown.Consistent, Grown.ranged, Siblings.ArePair, Siblings.near, Siblings.of_pair, Siblings.sibling_even}
 
 module _ (B W : ℕ) (some : 0 < B) where

@@ -1,8 +1,6 @@
 -- The numbers of a node, its sibling and its parent.
-use Rattle.std.proofs.Common.{◌≡◌, ◌≢◌, ◌⊎◌, inl, inr, ℕ, ◌+◌, ◌-◌, ◌*◌, ◌%◌, ◌<◌, refl, ap, sym, ◌∙◌, arith, eq-eqb, ne_eqb}
-use mathlib.Core.Logic.{dite}
-use native.Mathlib.Decide.{ℕ_discrete}
-use Rattle.qh_model.specs.contract.BoardMachine.{parent, sibling}
+use Rattle.qh_model.proofs.Common.{◌≡◌, ◌≢◌, ◌⊎◌, inl, inr, ℕ, ◌+◌, ◌-◌, ◌*◌, ◌%◌, ◌<◌, refl, ap, sym, ◌∙◌, arith, eq-eqb, ne_eqb, dite, ℕ_discrete, parent}
+use Rattle.qh_model.proofs.Common.{sibling}
 
 pub sibling_even : (i : ℕ) → i % 2 ≡ 0 → sibling i ≡ i + 1
 sibling_even i e = rw (eq-eqb (i % 2) 0 e) refl

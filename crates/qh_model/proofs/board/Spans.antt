@@ -1,8 +1,7 @@
 -- The spans of nodes.
-use Rattle.std.proofs.Common.{◌≡◌, ◌⊎◌, inl, inr, ⊎_elim, ℕ, zero, suc, ◌+◌, ◌-◌, ◌*◌, ◌<◌, ◌≤◌, sym, refl, ap, ◌∙◌, subst, arith}
-use mathlib.Core.Logic.{dite}
-use native.Mathlib.Decide.{ℕ_discrete, dec_le}
-use Rattle.qh_model.specs.contract.BoardMachine.{parent, ancestor, InSpan}
+use Rattle.qh_model.proofs.Common.{◌≡◌, ◌⊎◌, inl, inr, ⊎_elim, ℕ, zero, suc, ◌+◌, ◌-◌, ◌*◌, ◌<◌, ◌≤◌, sym, refl, ap, ◌∙◌, subst, arith, dite, ℕ_discrete}
+use Rattle.qh_model.proofs.Common.{dec_le, parent, InSpan}
+use Rattle.qh_model.specs.contract.BoardMachine.{ancestor}
 use Rattle.qh_model.specs.laws.BoardLaws.{SpanOfLeaf, SpanOfNode, SpansApart, SpanOfRoot}
 
 -- a node's ancestor is not greater, and a higher ancestor is at most half of the node

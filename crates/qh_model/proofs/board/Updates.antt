@@ -1,8 +1,6 @@
 -- Functions with a changed value, and their sums.
-use Rattle.std.proofs.Common.{◌≡◌, ◌≢◌, ◌⊎◌, inl, inr, ℕ, zero, suc, ◌+◌, ◌-◌, ◌*◌, ◌<◌, ◌≤◌, sym, refl, ap, ◌∙◌, arith, eq-eqb, ne_eqb}
-use mathlib.Core.Logic.{dite}
-use native.Mathlib.Decide.{ℕ_discrete}
-use Rattle.qh_model.specs.contract.BoardMachine.{put, sum_to}
+use Rattle.qh_model.proofs.Common.{◌≡◌, ◌≢◌, ◌⊎◌, inl, inr, ℕ, zero, suc, ◌+◌, ◌-◌, ◌*◌, ◌<◌, ◌≤◌, sym, refl, ap, ◌∙◌, arith, eq-eqb, ne_eqb, dite, ℕ_discrete}
+use Rattle.qh_model.proofs.Common.{put, sum_to}
 
 module _ {A : Type 0} where
   pub put_here : (f : ℕ → A) (i : ℕ) (x : A) → put f i x i ≡ x

@@ -1,18 +1,16 @@
 -- Separator cancellation: a point that is above no triangle of a closed surface, and strictly beyond all its corners along a direction, is strictly below no
 -- triangle. With the depth of each corner as a common multiple, the terms of each edge cancel.
-use Rattle.std.proofs.Common.{◌≡◌, ℕ, ◌+◌, ◌<◌, arith, ap, sym, ◌∙◌, subst, refl, List, [], ◌∷◌, Bool, true, false, cond, eqb, inl, inr}
-use Rattle.std.proofs.lemmas.{Bool.eqb-true, Int.ints}
+use Rattle.qh_model.proofs.Common.{◌≡◌, ℕ, ◌+◌, ◌<◌, arith, ap, sym, ◌∙◌, subst, refl, List, [], ◌∷◌, Bool, true, false, cond, eqb, inl, inr, eqb-true, ints}
+use Rattle.qh_model.proofs.Common.{Triple, IsClosed, vol, In, Vector, dot, IsCornerOf}
 use Rattle.std.specs.{List.AllByRecursion as Each, List.flat_map, Prelude.ℤ, Prelude.pos, Prelude.◌+ℤ◌, Prelude.◌*ℤ◌, Prelude.neg_ℤ, Prelude.◌≤ℤ◌, Prelude.◌<ℤ◌}
-use Rattle.qh_model.specs.{contract.ClosedSurface.Triple, contract.ClosedSurface.IsClosed, headline.Predicates.vol, headline.Sets.In}
-use Rattle.qh_model.specs.{headline.Vector.Vector, headline.Vector.dot, laws.ClosedSurfaceLaws.IsCornerOf, laws.ClosedSurfaceLaws.NoneBelowAndBeyond}
-use Rattle.qh_model.proofs.{Members.every_of, algebra.Ring.ring, lists.Joined.in_flat_map, lists.Joined.of_flat_map}
-use Rattle.qh_model.proofs.algebra.Integers.{mul_swap, mul_assoc}
-use Rattle.qh_model.proofs.algebra.Order.{mul-pos, mul-neg_pos, mul-nonpos_nonneg, positive_le}
-use Rattle.qh_model.proofs.algebra.Ring.Expr.{var, add, sub as less, mul, neg}
-use Rattle.qh_model.proofs.algebra.Signs.{gap_positive, less_le, equal_nonpos, equal_negative}
+use Rattle.qh_model.specs.laws.ClosedSurfaceLaws.{NoneBelowAndBeyond}
+use Rattle.qh_model.proofs.{Members.every_of, algebra.Signs.gap_positive, algebra.Signs.less_le, algebra.Signs.equal_nonpos, algebra.Signs.equal_negative}
+use Rattle.qh_model.proofs.algebra.{Ring.ring, Order.mul-pos, Order.mul-neg_pos, Order.mul-nonpos_nonneg, Order.positive_le}
+use Rattle.qh_model.proofs.{lists.Joined.in_flat_map, lists.Joined.of_flat_map, algebra.Integers.mul_swap, algebra.Integers.mul_assoc}
 use Rattle.qh_model.proofs.algebra.VectorIdentities.{vol-flip, vol-depths, depth, dot-minus, combine3}
 use Rattle.qh_model.proofs.closed_surfaces.SignedVolume.{back, eqb-refl, around, none_lower, vol_at}
 use Rattle.qh_model.proofs.closed_surfaces.Sums.{count, drop_first, Tests, taken_out, one_there}
+use Rattle.qh_model.proofs.algebra.Ring.Expr.{var, add, sub as less, mul, neg}
 
 -- the contribution of an edge to the sum, from its value V
 unfoldable pub edge_part : (V : ℕ → ℕ → ℤ) (co : ℕ → ℤ) (m : ℤ) → (ℕ × ℕ) → ℤ

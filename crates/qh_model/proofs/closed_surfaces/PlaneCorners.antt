@@ -1,22 +1,18 @@
 -- Supporting triangles that close up have a triangle at each extreme id of a plane that has one of them. Otherwise, with weights by a direction that puts the
 -- id beyond the other members of the plane, the terms of the triangles in the plane and those of the edges of the others would not cancel.
-use Rattle.std.proofs.Common.{◌≡◌, ◌≢◌, ℕ, arith, refl, sym, subst, ◌∙◌, inl, inr, ⊎_elim, List, [], ◌∷◌}
-use Rattle.std.proofs.lemmas.{Int.ints}
-use Rattle.std.specs.Prelude.{ℤ, pos, ◌+ℤ◌, ◌-ℤ◌, ◌*ℤ◌, neg_ℤ, ◌≤ℤ◌, ◌<ℤ◌, filter}
-use Rattle.qh_model.specs.contract.ClosedSurface.{Triple, IsClosedSurface}
-use Rattle.qh_model.specs.headline.{Extreme.Others, Extreme.Extreme, Predicates.cross, Predicates.vol, Predicates.left, Sets.In, Sets.Members}
-use Rattle.qh_model.specs.headline.{SupportingPlane.IsSupportingTriple, SupportingPlane.OnPlane, Vector.Vector, Vector.dot}
-use Rattle.qh_model.specs.laws.{ClosedFaceLaws.AreSupporting, Separator.Separator}
+use Rattle.qh_model.proofs.Common.{◌≡◌, ◌≢◌, ℕ, arith, refl, sym, subst, ◌∙◌, inl, inr, ⊎_elim, List, [], ◌∷◌, ints, ℤ, pos, ◌+ℤ◌, ◌-ℤ◌, ◌*ℤ◌, neg_ℤ, ◌≤ℤ◌}
+use Rattle.qh_model.proofs.Common.{◌<ℤ◌, filter, Triple, IsClosedSurface, Others, Extreme, cross, vol, In, Members, IsSupportingTriple, OnPlane, Vector, dot}
+use Rattle.qh_model.proofs.Common.{AreSupporting, Separator}
+use Rattle.qh_model.specs.headline.Predicates.{left}
 use Rattle.qh_model.proofs.Decisions.{Decided, test, told, holds, both, contrary, same_id, in_or_not, each_or_not, some_or_none}
-use Rattle.qh_model.proofs.{Members.each_of_three, Members.every_of, lists.Filters.in_filter, lists.Filters.of_filter, extremes.ExtremeIds.separated}
-use Rattle.qh_model.proofs.algebra.{Integers.neg_mul, Integers.zero_mul, Signs.equal_le}
-use Rattle.qh_model.proofs.algebra.Ring.{Expr, ring, Expr.con, Expr.add, Expr.sub as less, Expr.mul}
+use Rattle.qh_model.proofs.{Members.each_of_three, Members.every_of, lists.Filters.in_filter, lists.Filters.of_filter, extremes.Directions.square-positive}
+use Rattle.qh_model.proofs.{extremes.ExtremeIds.separated, algebra.Signs.equal_le, polygons.PlaneTurns.level_volume}
+use Rattle.qh_model.proofs.{algebra.Integers.neg_mul, algebra.Integers.zero_mul, polygons.LeftOfEdge.at_most, polygons.LeftOfEdge.turn_sign}
 use Rattle.qh_model.proofs.algebra.Order.{mul-nonneg, mul-pos, mul-nonpos_nonneg, cancel-zero, product_zero, zero_or_not, le_less, positive_le, negative_le}
 use Rattle.qh_model.proofs.algebra.VectorIdentities.{vec, put, dotE, volE, VE, vol-first, vol-second, vol-third, vol-flip, vol-flip_last, vol-swap_last}
 use Rattle.qh_model.proofs.closed_surfaces.Cancellation.{edge_part, edge_part-back, round_sign, prod_z, prod-pos, others, others-pos, others-same}
 use Rattle.qh_model.proofs.closed_surfaces.SignedVolume.{around, none_lower, vol_at}
-use Rattle.qh_model.proofs.extremes.Directions.{square-positive}
-use Rattle.qh_model.proofs.polygons.{LeftOfEdge.at_most, LeftOfEdge.turn_sign, PlaneTurns.level_volume}
+use Rattle.qh_model.proofs.algebra.Ring.{Expr, ring, Expr.con, Expr.add, Expr.sub as less, Expr.mul}
 
 -- 1 at l, and below 0 at points that are before l along w
 abbrev past : (w l x : Vector) → ℤ

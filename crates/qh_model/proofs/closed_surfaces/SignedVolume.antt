@@ -1,9 +1,7 @@
 -- The signed volume of a closed surface: a function that changes its sign with an edge's direction adds up to 0.
-use Rattle.std.proofs.Common.{◌≡◌, ℕ, arith, ap, sym, ◌∙◌, refl, inl, inr, List, [], ◌∷◌, map, Bool, true, false, eqb, rules}
-use Rattle.std.proofs.lemmas.{Bool.and_parts, Bool.eqb-true, Int.ints}
-use Rattle.std.specs.Prelude.{ℤ, pos, ◌+ℤ◌, neg_ℤ, ◌≤ℤ◌, ◌<ℤ◌, ◌&&◌}
-use Rattle.qh_model.specs.contract.ClosedSurface.{Triple, edges, is_edge, IsClosed, signed_volume}
-use Rattle.qh_model.specs.{headline.Predicates.vol, headline.Sets.In, headline.Vector.Vector, laws.ClosedSurfaceLaws.VolumeIsConstant}
+use Rattle.qh_model.proofs.Common.{◌≡◌, ℕ, arith, ap, sym, ◌∙◌, refl, inl, inr, List, [], ◌∷◌, map, Bool, true, false, eqb, rules, and_parts, eqb-true, ints, ℤ}
+use Rattle.qh_model.proofs.Common.{pos, ◌+ℤ◌, neg_ℤ, ◌≤ℤ◌, ◌<ℤ◌, ◌&&◌, Triple, edges, is_edge, IsClosed, signed_volume, vol, In, Vector}
+use Rattle.qh_model.specs.laws.ClosedSurfaceLaws.{VolumeIsConstant}
 use Rattle.qh_model.proofs.{Members.each_more, algebra.VectorIdentities.vol-boundary, algebra.VectorIdentities.vol-flip}
 use Rattle.qh_model.proofs.closed_surfaces.Sums.{sum_z, count, Tests, sum_z-same_counts, count-is}
 

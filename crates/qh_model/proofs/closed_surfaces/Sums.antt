@@ -1,7 +1,6 @@
 -- Sums of whole numbers over a list, determined by the number of times that each element occurs.
-use Rattle.std.proofs.Common.{◌≡◌, ℕ, ◌+◌, ◌<◌, arith, ap, sym, ◌∙◌, refl, List, [], ◌∷◌, Bool, true, false, cond, inl, inr}
-use Rattle.std.specs.Prelude.{ℤ, pos, ◌+ℤ◌, count_by, filter}
-use Rattle.std.proofs.lemmas.{Bool.cases_Bool, List.Sums.sum_by-cons}
+use Rattle.qh_model.proofs.Common.{◌≡◌, ℕ, ◌+◌, ◌<◌, arith, ap, sym, ◌∙◌, refl, List, [], ◌∷◌, Bool, true, false, cond, inl, inr, ℤ, pos, ◌+ℤ◌, count_by}
+use Rattle.qh_model.proofs.Common.{filter, cases_Bool, sum_by-cons}
 use Rattle.qh_model.proofs.algebra.Integers.{add_swap}
 
 -- the sum of f over a list

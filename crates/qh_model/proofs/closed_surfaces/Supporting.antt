@@ -1,20 +1,16 @@
 -- Supporting triangles that close up include every supporting plane and every extreme id: otherwise a point slightly beyond the middle of a missing plane would
 -- be strictly below all of them.
-use Rattle.std.proofs.Common.{◌≡◌, ℕ, suc, arith, refl, sym, ap, subst, ◌∙◌, ◌⊎◌, inl, inr, List, [], ◌∷◌, ⊎_elim}
-use Rattle.std.proofs.lemmas.Int.{ints, by_lt_z}
-use Rattle.std.specs.Prelude.{ℤ, pos, ◌+ℤ◌, ◌-ℤ◌, ◌*ℤ◌, neg_ℤ, ◌≤ℤ◌, ◌<ℤ◌}
-use Rattle.qh_model.specs.contract.ClosedSurface.{Triple, IsClosedSurface}
-use Rattle.qh_model.specs.headline.{Extreme.Others, Predicates.cross, Predicates.vol, Predicates.AreInLine, Sets.In, Sets.Members}
-use Rattle.qh_model.specs.headline.{SupportingPlane.IsSupportingTriple, Vector.Vector, Vector.minus, Vector.dot}
-use Rattle.qh_model.specs.laws.ClosedFaceLaws.{AreSupporting, ClosedMissNoPlane, ClosedMissNoExtreme}
-use Rattle.qh_model.specs.laws.{ClosedSurfaceLaws.IsCornerOf, FaceLaws.IsAlong, Separator.Separator}
-use Rattle.qh_model.proofs.algebra.{Integers.mul_neg, Integers.mul_one, Order.mul-le, Order.product_zero, Order.mul-pos, Order.mul-pos_neg}
-use Rattle.qh_model.proofs.algebra.{Order.mul-nonneg_nonpos, Order.zero_or_not, Order.le_less, Ring.ring, Signs.less_differ}
+use Rattle.qh_model.proofs.Common.{◌≡◌, ℕ, suc, arith, refl, sym, ap, subst, ◌∙◌, ◌⊎◌, inl, inr, List, [], ◌∷◌, ⊎_elim, ints, by_lt_z, ℤ, pos, ◌+ℤ◌, ◌-ℤ◌, ◌*ℤ◌}
+use Rattle.qh_model.proofs.Common.{neg_ℤ, ◌≤ℤ◌, ◌<ℤ◌, Triple, IsClosedSurface, Others, cross, vol, AreInLine, In, Members, IsSupportingTriple, Vector, minus}
+use Rattle.qh_model.proofs.Common.{dot, AreSupporting, IsCornerOf, IsAlong, Separator}
+use Rattle.qh_model.specs.laws.ClosedFaceLaws.{ClosedMissNoPlane, ClosedMissNoExtreme}
+use Rattle.qh_model.proofs.{algebra.Integers.mul_neg, algebra.Integers.mul_one, algebra.Signs.less_differ, closed_surfaces.Cancellation.none_below_and_beyond}
+use Rattle.qh_model.proofs.algebra.Order.{mul-le, product_zero, mul-pos, mul-pos_neg, mul-nonneg_nonpos, zero_or_not, le_less}
+use Rattle.qh_model.proofs.{algebra.Ring.ring, Members.each_more, Members.each_of_three, surfaces.PerturbedInwards.bound, polygons.PlaneTurns.level_parallel}
 use Rattle.qh_model.proofs.algebra.VectorIdentities.{vec, put, dotE, oppositeE, opposite, dot-opposite, dot_comm, in_line-vol, vol-first, vol-second, vol-third}
-use Rattle.qh_model.proofs.closed_surfaces.{Beyond.scaled, Beyond.beyond, Beyond.vol-beyond, Beyond.dot-past, Cancellation.none_below_and_beyond}
+use Rattle.qh_model.proofs.closed_surfaces.Beyond.{scaled, beyond, vol-beyond, dot-past}
 use Rattle.qh_model.proofs.extremes.Directions.{positive_along, dot_along, along_or_opposite, square-positive, from_plane}
-use Rattle.qh_model.proofs.{Members.each_more, Members.each_of_three, extremes.ExtremeIds.separated, surfaces.PerturbedInwards.bound}
-use Rattle.qh_model.proofs.polygons.PlaneTurns.{level_parallel}
+use Rattle.qh_model.proofs.extremes.ExtremeIds.{separated}
 
 -- some element of the list satisfies P, or all satisfy Q
 one_or_all : {X : Type 0} (P Q : X → Type 0) (xs : List X) → ((x : X) → In x xs → P x ⊎ Q x) → ((x : X) × In x xs × P x) ⊎ ((x : X) → In x xs → Q x)

@@ -1,12 +1,10 @@
 -- The theorem of alternatives for points of space.
-use Rattle.std.proofs.Common.{◌≡◌, ℕ, ◌+◌, ◌<◌, ◌≤◌, arith, sym, ap, ◌∙◌, inl, inr, ⊎_elim, List, [], ◌∷◌}
-use Rattle.std.proofs.{Math.Nat.mul-le-mul_left, lemmas.Int.ints}
-use Rattle.std.specs.Prelude.{ℤ, pos, ◌+ℤ◌, ◌-ℤ◌, ◌*ℤ◌, ◌<ℤ◌}
+use Rattle.qh_model.proofs.Common.{◌≡◌, ℕ, ◌+◌, ◌<◌, ◌≤◌, arith, sym, ap, ◌∙◌, inl, inr, ⊎_elim, List, [], ◌∷◌, mul-le-mul_left, ints, ℤ, pos, ◌+ℤ◌, ◌-ℤ◌, ◌*ℤ◌}
+use Rattle.qh_model.proofs.Common.{◌<ℤ◌, IsBalanced, Combination, In, Members, Vector, dot, Separator}
 use borrow.Author.Differences.{lt_out}
 use Rattle.qh_model.proofs.{Members.every_at, algebra.Integers.ring_rules, algebra.Integers.add_mul, combinations.Vectors.V, combinations.Vectors.dot as vdot}
 use Rattle.qh_model.proofs.combinations.WeightedTerms.{total, weight, count, Among, Balanced, Separated, alternative}
-use Rattle.qh_model.specs.headline.{Combination.IsBalanced, Combination.Combination, Sets.In, Sets.Members, Vector.Vector, Vector.dot}
-use Rattle.qh_model.specs.laws.{CombinationLaws.CombinationOrSeparator, CombinationLaws.NeverBoth, Separator.Separator}
+use Rattle.qh_model.specs.laws.CombinationLaws.{CombinationOrSeparator, NeverBoth}
 
 -- ---- four terms
 -- four weighted members with the weight and the totals of a list

@@ -1,7 +1,5 @@
 -- A convex combination of points is a convex combination of the same points under other names, and of a set with more points.
-use Rattle.std.proofs.Common.{◌≡◌, ℕ, ap}
-use Rattle.std.specs.Prelude.{ℤ}
-use Rattle.qh_model.specs.headline.{Combination.Combination, Combination.IsBalanced, Vector.Vector}
+use Rattle.qh_model.proofs.Common.{◌≡◌, ℕ, ap, ℤ, Combination, IsBalanced, Vector}
 
 -- f names the members, with the same points
 pub combination_by_names : (at at' : ℕ → Vector) (A B : ℕ → Type 0) (f : ℕ → ℕ) → ((j : ℕ) → A j → B (f j)) → ((j : ℕ) → A j → at' (f j) ≡ at j)

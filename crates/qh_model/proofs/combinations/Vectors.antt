@@ -1,8 +1,7 @@
 -- Vectors of any dimension, and the projection along one of them.
-use Rattle.std.proofs.Common.{◌≡◌, ℕ, zero, suc, ◌+◌, ◌*◌, arith, refl, sym, ap, ◌∙◌, ◌⊎◌, inl, inr, ⊎_elim}
-use Rattle.std.proofs.lemmas.Int.{ints}
-use Rattle.std.specs.Prelude.{ℤ, pos, negsuc, ◌+ℤ◌, ◌*ℤ◌, neg_ℤ, ◌<ℤ◌, ◌≤ℤ◌}
-use lib.IntN.{*ℤ_comm, zero-*ℤ, *ℤ-zero, +ℤ_idl, +ℤ_idr}
+use Rattle.qh_model.proofs.Common.{◌≡◌, ℕ, zero, suc, ◌+◌, ◌*◌, arith, refl, sym, ap, ◌∙◌, ◌⊎◌, inl, inr, ⊎_elim, ints, ℤ, pos, negsuc, ◌+ℤ◌, ◌*ℤ◌, neg_ℤ, ◌<ℤ◌}
+use Rattle.qh_model.proofs.Common.{◌≤ℤ◌, *ℤ-zero, +ℤ_idr}
+use lib.IntN.{*ℤ_comm, zero-*ℤ, +ℤ_idl}
 use Rattle.qh_model.proofs.algebra.{Integers.ring_rules, Integers.mul_add, Order.square-nonneg}
 
 -- vectors of n numbers

@@ -1,10 +1,9 @@
 -- Weighted members of a list, and the theorem of alternatives in any dimension.
-use Rattle.std.proofs.Common.{◌≡◌, ℕ, zero, suc, ◌+◌, ◌*◌, ◌<◌, ◌≤◌, arith, refl, sym, ap, ◌∙◌, ◌⊎◌, inl, inr, ⊎_elim, List, [], ◌∷◌}
-use Rattle.std.proofs.{Math.Nat.mul-le-mul_left, lemmas.Int.ints, lemmas.Int.by_lt_z}
+use Rattle.qh_model.proofs.Common.{◌≡◌, ℕ, zero, suc, ◌+◌, ◌*◌, ◌<◌, ◌≤◌, arith, refl, sym, ap, ◌∙◌, ◌⊎◌, inl, inr, ⊎_elim, List, [], ◌∷◌, mul-le-mul_left}
+use Rattle.qh_model.proofs.Common.{ints, by_lt_z, ℤ, pos, negsuc, ◌+ℤ◌, ◌*ℤ◌, neg_ℤ, ◌<ℤ◌, ◌≤ℤ◌, *ℤ-zero, +ℤ_idr, In}
 use Rattle.std.specs.List.{AllByRecursion as Every}
-use Rattle.std.specs.Prelude.{ℤ, pos, negsuc, ◌+ℤ◌, ◌*ℤ◌, neg_ℤ, nat_abs, ◌<ℤ◌, ◌≤ℤ◌}
-use lib.IntN.{*ℤ_comm, *ℤ-zero, +ℤ_idr}
-use Rattle.qh_model.specs.headline.Sets.{In}
+use Rattle.std.specs.Prelude.{nat_abs}
+use lib.IntN.{*ℤ_comm}
 use Rattle.qh_model.proofs.Members.{every_at, every_map, every_zip}
 use Rattle.qh_model.proofs.algebra.Integers.{ring_rules, mul_add, mul_assoc}
 use Rattle.qh_model.proofs.combinations.Vectors.{V, dot, lin, nil, dot_lin, Cut, Flat, cut}

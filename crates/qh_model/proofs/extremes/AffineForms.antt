@@ -1,7 +1,5 @@
 -- Affine forms: a form that is not zero at a convex combination is not zero at some of the combined members.
-use Rattle.std.proofs.{Common.◌≡◌, Common.◌≢◌, Common.ℕ, Common.arith, Common.◌∙◌, Common.◌⊎◌, Common.inl, Common.inr, lemmas.Int.ints, lemmas.Int.by_lt_z}
-use Rattle.std.specs.Prelude.{ℤ, pos, ◌+ℤ◌, ◌<ℤ◌}
-use Rattle.qh_model.specs.headline.{Combination.Combination, Vector.Vector, Vector.dot}
+use Rattle.qh_model.proofs.Common.{◌≡◌, ◌≢◌, ℕ, arith, ◌∙◌, ◌⊎◌, inl, inr, ints, by_lt_z, ℤ, pos, ◌+ℤ◌, ◌<ℤ◌, Combination, Vector, dot}
 use Rattle.qh_model.proofs.algebra.{Order.le_antisym, Order.zero_or_not, VectorIdentities.opposite, VectorIdentities.dot-opposite}
 use Rattle.qh_model.proofs.combinations.Alternatives.{all_lower}
 

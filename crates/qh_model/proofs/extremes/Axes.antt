@@ -1,8 +1,5 @@
 -- Different vectors differ along one of the three axes.
-use Rattle.std.proofs.{Common.◌≡◌, Common.◌≢◌, Common.arith, lemmas.Int.ints}
-use Rattle.std.specs.Prelude.{pos}
-use lib.IntN.{ℤ_discrete}
-use Rattle.qh_model.specs.headline.Vector.{Vector, dot}
+use Rattle.qh_model.proofs.Common.{◌≡◌, ◌≢◌, arith, ints, pos, ℤ_discrete, Vector, dot}
 use Rattle.qh_model.proofs.algebra.VectorIdentities.{vector_path}
 
 -- different vectors differ along an axis

@@ -1,14 +1,11 @@
 -- A set has one dimension. A set whose convex combinations include another set has its tetrahedra, triangles and segments.
-use Rattle.std.proofs.{Common.◌≡◌, Common.◌≢◌, Common.ℕ, Common.arith, Common.ap, Common.sym, Common.subst, Common.◌∙◌, Common.inl, Common.inr, lemmas.Int.ints}
-use Rattle.std.specs.Prelude.{pos, ◌-ℤ◌, neg_ℤ}
-use Rattle.qh_model.specs.{contract.IdSets.HasDistinctPoints, headline.Combination.Combination}
-use Rattle.qh_model.specs.headline.Dimension.{HasTetrahedron, HasTriangle, HasSegment, IsDimension}
-use Rattle.qh_model.specs.headline.{Predicates.cross, Predicates.vol, Predicates.left, Predicates.AreInLine, Sets.Members, Vector.Vector, Vector.origin}
-use Rattle.qh_model.specs.{headline.Vector.minus, headline.Vector.cross_product, headline.Vector.dot, laws.DimensionLaws.DimensionIsUnique}
-use Rattle.qh_model.proofs.algebra.Ring.{equal_from_zero}
+use Rattle.qh_model.proofs.Common.{◌≡◌, ◌≢◌, ℕ, arith, ap, sym, subst, ◌∙◌, inl, inr, ints, pos, ◌-ℤ◌, neg_ℤ, HasDistinctPoints, Combination, HasTetrahedron}
+use Rattle.qh_model.proofs.Common.{HasTriangle, HasSegment, IsDimension, cross, vol, AreInLine, Members, Vector, origin, minus, cross_product, dot}
+use Rattle.qh_model.specs.{headline.Predicates.left, laws.DimensionLaws.DimensionIsUnique}
+use Rattle.qh_model.proofs.{algebra.Ring.equal_from_zero, extremes.Axes.Differ, extremes.Axes.differ}
 use Rattle.qh_model.proofs.algebra.VectorIdentities.{vol-linear, vol-first_last, vol-second_last, vol-third_last, left-dot, left-linear, left-turn, in_line-vol}
 use Rattle.qh_model.proofs.algebra.VectorIdentities.{in_line-left, in_line-twice, opposite, dot-opposite, dot_comm}
-use Rattle.qh_model.proofs.extremes.{AffineForms.Form, AffineForms.form_as, AffineForms.NonZero, AffineForms.non_zero_member, Axes.Differ, Axes.differ}
+use Rattle.qh_model.proofs.extremes.AffineForms.{Form, form_as, NonZero, non_zero_member}
 
 -- each member of A is a convex combination of members of E
 abbrev pub AreCombinations : (ℕ → Vector) → (ℕ → Type 0) → (ℕ → Type 0) → Type 0

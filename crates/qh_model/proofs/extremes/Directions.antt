@@ -1,14 +1,13 @@
 -- Directions up to a positive scale, and the normals of triangles in one plane.
-use Rattle.std.proofs.Common.{◌≡◌, ◌≢◌, ℕ, zero, suc, ◌<◌, arith, refl, sym, ap, subst, ◌∙◌, ◌⊎◌, inl, inr, [], ◌∷◌, ⊎_elim}
-use Rattle.std.proofs.lemmas.Int.{ints, by_lt_z}
-use Rattle.std.specs.Prelude.{◌↔◌, ℤ, pos, negsuc, ◌*ℤ◌, neg_ℤ, ◌<ℤ◌, ◌≤ℤ◌}
-use Rattle.qh_model.specs.headline.{Predicates.cross, Predicates.vol, Predicates.left, Predicates.AreInLine, Vector.Vector, Vector.origin, Vector.minus}
-use Rattle.qh_model.specs.{headline.Vector.cross_product, headline.Vector.dot, laws.FaceLaws.IsAlong}
-use Rattle.qh_model.proofs.algebra.{Integers.zero_mul, Integers.neg_mul, Integers.mul_neg, Order.mul-nonneg, Order.mul-nonneg_nonpos}
-use Rattle.qh_model.proofs.algebra.Order.{mul-pos, cancel-nonneg, cancel-nonpos, cancel-pos, cancel-zero, le_antisym, square-nonneg, neg-positive, product_zero}
+use Rattle.qh_model.proofs.Common.{◌≡◌, ◌≢◌, ℕ, zero, suc, ◌<◌, arith, refl, sym, ap, subst, ◌∙◌, ◌⊎◌, inl, inr, [], ◌∷◌, ⊎_elim, ints, by_lt_z, ◌↔◌, ℤ, pos}
+use Rattle.qh_model.proofs.Common.{negsuc, ◌*ℤ◌, neg_ℤ, ◌<ℤ◌, ◌≤ℤ◌, cross, vol, AreInLine, Vector, origin, minus, cross_product, dot, IsAlong}
+use Rattle.qh_model.specs.headline.Predicates.{left}
+use Rattle.qh_model.proofs.algebra.{Integers.zero_mul, Integers.neg_mul, Integers.mul_neg, Signs.equal_positive}
+use Rattle.qh_model.proofs.algebra.Order.{mul-nonneg, mul-nonneg_nonpos, mul-pos, cancel-nonneg, cancel-nonpos, cancel-pos, cancel-zero, le_antisym}
+use Rattle.qh_model.proofs.algebra.Order.{square-nonneg, neg-positive, product_zero}
+use Rattle.qh_model.proofs.algebra.VectorIdentities.{vec, put, dotE, crossE, subE, combine3, opposite, vector_path, dot-minus, vol-dot, vol-linear, left-dot}
+use Rattle.qh_model.proofs.algebra.VectorIdentities.{dot_comm}
 use Rattle.qh_model.proofs.algebra.Ring.{ring, Expr.var, Expr.con, Expr.add, Expr.sub as less, Expr.mul, Expr.neg}
-use Rattle.qh_model.proofs.algebra.{Signs.equal_positive, VectorIdentities.vec, VectorIdentities.put}
-use Rattle.qh_model.proofs.algebra.VectorIdentities.{dotE, crossE, subE, combine3, opposite, vector_path, dot-minus, vol-dot, vol-linear, left-dot, dot_comm}
 
 -- ---- signs under a positive scale
 -- if s v = t w with positive s and t, v and w have the same sign

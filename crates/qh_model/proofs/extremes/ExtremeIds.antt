@@ -1,18 +1,15 @@
 -- The greatest member in a direction is extreme, members are convex combinations of extremes, and extremes of a union.
-use Rattle.std.proofs.Common.{◌≡◌, ◌≢◌, ℕ, arith, refl, sym, subst, ◌⊎◌, inl, inr, ◌↔◌, List, [], ◌∷◌, ⊎_elim}
-use Rattle.std.proofs.lemmas.Int.{ints}
+use Rattle.qh_model.proofs.Common.{◌≡◌, ◌≢◌, ℕ, arith, refl, sym, subst, ◌⊎◌, inl, inr, ◌↔◌, List, [], ◌∷◌, ⊎_elim, ints, HasDistinctPoints, Combination}
+use Rattle.qh_model.proofs.Common.{Others, Extreme, In, Members, Vector, dot, Separator}
 use Rattle.std.specs.{List.AllByRecursion as Every, List.flat_map, List.range_with_len, Prelude.filter, Prelude.ℤ, Prelude.◌+ℤ◌, Prelude.◌*ℤ◌, Prelude.◌<ℤ◌}
 use lib.Signed.{<ℤ_irrefl}
-use Rattle.qh_model.proofs.Decisions.{contrary, same_id, test, told, holds}
-use Rattle.qh_model.proofs.{Members.every_at, algebra.Integers.ring_rules, algebra.VectorIdentities.vector_path}
-use Rattle.qh_model.proofs.combinations.Alternatives.{combination_or_separator, all_lower}
-use Rattle.qh_model.proofs.combinations.{OtherNames.combination_by_names, Vectors.V, Vectors.dot as vdot}
+use Rattle.qh_model.proofs.{Decisions.contrary, Decisions.same_id, Decisions.test, Decisions.told, Decisions.holds, algebra.Integers.ring_rules}
+use Rattle.qh_model.proofs.{Members.every_at, lists.Filters.in_filter, lists.Filters.of_filter, lists.Joined.in_flat_map, lists.Joined.of_flat_map}
+use Rattle.qh_model.proofs.{algebra.VectorIdentities.vector_path, combinations.Alternatives.combination_or_separator, combinations.Alternatives.all_lower}
 use Rattle.qh_model.proofs.extremes.LexicographicOrder.{Less, Same, AtMost, Greatest, greatest, collapse}
-use Rattle.qh_model.proofs.lists.{Filters.in_filter, Filters.of_filter, Joined.in_flat_map, Joined.of_flat_map, Ranges.range_below, Ranges.range_has}
-use Rattle.qh_model.specs.contract.IdSets.{HasDistinctPoints}
-use Rattle.qh_model.specs.headline.{Combination.Combination, Extreme.Others, Extreme.Extreme, Sets.In, Sets.Members, Vector.Vector, Vector.dot}
+use Rattle.qh_model.proofs.lists.Ranges.{range_below, range_has}
+use Rattle.qh_model.proofs.combinations.{OtherNames.combination_by_names, Vectors.V, Vectors.dot as vdot}
 use Rattle.qh_model.specs.laws.ExtremeLaws.{IsLower, InBlocks, GreatestIsExtreme, MembersAreCombinations, UnionOfExtremes}
-use Rattle.qh_model.specs.laws.Separator.{Separator}
 
 -- the key of the order
 abbrev key : Vector → Vector → V 4

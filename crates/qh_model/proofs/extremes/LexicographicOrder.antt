@@ -1,11 +1,9 @@
 -- The lexicographic order of vectors: a greatest vector exists, and one functional determines the order of finitely many.
-use Rattle.std.proofs.Common.{◌≡◌, ℕ, zero, suc, arith, refl, sym, ◌∙◌, ◌⊎◌, inl, inr, List, [], ◌∷◌, ⊎_elim}
-use Rattle.std.proofs.{Math.Nat.mul-le-mul_left, lemmas.Int.ints, lemmas.Int.by_lt_z}
+use Rattle.qh_model.proofs.Common.{◌≡◌, ℕ, zero, suc, arith, refl, sym, ◌∙◌, ◌⊎◌, inl, inr, List, [], ◌∷◌, ⊎_elim, mul-le-mul_left, ints, by_lt_z, In}
 use Rattle.std.specs.{List.AllByRecursion as Every, Prelude.ℤ, Prelude.pos, Prelude.◌+ℤ◌, Prelude.◌-ℤ◌, Prelude.◌*ℤ◌, Prelude.neg_ℤ, Prelude.◌<ℤ◌, Prelude.◌≤ℤ◌}
 use borrow.Author.Differences.{lt_out, le_out}
-use Rattle.qh_model.proofs.{Members.every_map, Members.every_zip, algebra.Order.le_antisym, algebra.Signs.less_le, algebra.Signs.equal_le}
-use Rattle.qh_model.proofs.combinations.{Vectors.V, Vectors.dot, WeightedTerms.bound}
-use Rattle.qh_model.specs.headline.Sets.{In}
+use Rattle.qh_model.proofs.{Members.every_map, Members.every_zip, algebra.Order.le_antisym}
+use Rattle.qh_model.proofs.{algebra.Signs.less_le, algebra.Signs.equal_le, combinations.Vectors.V, combinations.Vectors.dot, combinations.WeightedTerms.bound}
 
 -- u comes before v
 abbrev pub Less : (n : ℕ) → V n → V n → Type 0

@@ -1,7 +1,5 @@
 -- Sets of the same dimension: members with other names, and the extreme ids of a set.
-use Rattle.std.proofs.Common.{◌≡◌, ℕ, refl, sym, ◌∙◌, inl, inr}
-use Rattle.qh_model.specs.headline.Dimension.{HasTetrahedron, HasTriangle, HasSegment, IsDimension}
-use Rattle.qh_model.specs.headline.{Extreme.Extreme, Predicates.cross, Predicates.vol, Sets.Members, Vector.Vector}
+use Rattle.qh_model.proofs.Common.{◌≡◌, ℕ, refl, sym, ◌∙◌, inl, inr, HasTetrahedron, HasTriangle, HasSegment, IsDimension, Extreme, cross, vol, Members, Vector}
 use Rattle.qh_model.specs.laws.DimensionLaws.{DimensionOfExtremes}
 use Rattle.qh_model.proofs.extremes.Dimensions.{AreCombinations, tetrahedron_of, triangle_of, segment_of}
 use Rattle.qh_model.proofs.extremes.ExtremeIds.{listed_itself, combination_of_extremes}

@@ -1,13 +1,11 @@
 -- Each supporting plane of a set is spanned by extreme ids.
-use Rattle.std.proofs.Common.{◌≡◌, ℕ, sym, ◌∙◌, ◌⊎◌, inl, inr}
-use Rattle.std.specs.Prelude.{pos, ◌*ℤ◌}
-use Rattle.qh_model.specs.headline.{Dimension.HasTriangle, Extreme.Extreme, Predicates.cross, Predicates.vol, Predicates.AreInLine, Sets.Members}
-use Rattle.qh_model.specs.headline.{SupportingPlane.IsSupportingTriple, SupportingPlane.Supports, SupportingPlane.OnPlane, Vector.Vector}
-use Rattle.qh_model.specs.laws.FaceLaws.{IsAlong, SpannedByExtremes, PlanesOfExtremes}
-use Rattle.qh_model.proofs.algebra.{Order.zero_or_not, VectorIdentities.vol-first, VectorIdentities.vol-second, VectorIdentities.vol-third}
-use Rattle.qh_model.proofs.extremes.{Dimensions.triangle_of, Directions.at_most_along, Directions.zero_along, Directions.normal_along, Directions.in_line-flip}
-use Rattle.qh_model.proofs.extremes.{Directions.from_plane, Directions.vol_along, ExtremeIds.listed_itself, ExtremeIds.listed_part}
-use Rattle.qh_model.proofs.extremes.{ExtremeIds.combination_of_extremes, Faces.extremes_of_face}
+use Rattle.qh_model.proofs.Common.{◌≡◌, ℕ, sym, ◌∙◌, ◌⊎◌, inl, inr, pos, ◌*ℤ◌, HasTriangle, Extreme, cross, vol, AreInLine, Members, IsSupportingTriple}
+use Rattle.qh_model.proofs.Common.{Supports, OnPlane, Vector, IsAlong, SpannedByExtremes}
+use Rattle.qh_model.specs.laws.FaceLaws.{PlanesOfExtremes}
+use Rattle.qh_model.proofs.{algebra.Order.zero_or_not, extremes.Dimensions.triangle_of, extremes.Faces.extremes_of_face}
+use Rattle.qh_model.proofs.algebra.VectorIdentities.{vol-first, vol-second, vol-third}
+use Rattle.qh_model.proofs.extremes.Directions.{at_most_along, zero_along, normal_along, in_line-flip, from_plane, vol_along}
+use Rattle.qh_model.proofs.extremes.ExtremeIds.{listed_itself, listed_part, combination_of_extremes}
 
 -- a triangle of extremes in the plane, with its direction, spans it
 spanned : (at : ℕ → Vector) (A : ℕ → Type 0) (i j k : ℕ) → Supports at A i j k → (u v w : ℕ) → Extreme at A u → Extreme at A v → Extreme at A w

@@ -1,12 +1,8 @@
 -- Parts of a set of ids, which are sets of ids. A part that has all extreme ids is not empty and has the hull of the set.
-use Rattle.std.proofs.Common.{ℕ, ◌<◌, List, length, get_or, arith}
-use Rattle.std.specs.{List.Sorted.IsStrictlyIncreasing}
-use Rattle.qh_model.specs.contract.IdSets.{AreIndices, IsIdSet}
-use Rattle.qh_model.specs.headline.{Extreme.Extreme, Hull.AreExtremes, Hull.BodyValue, Hull.IsBody, Predicates.place, Sets.In, Sets.Members, Vector.Vector}
-use Rattle.qh_model.specs.laws.HullLaws.{HasExtremes}
-use Rattle.qh_model.proofs.Members.{All-In, All-of, In-get_or, in_at}
+use Rattle.qh_model.proofs.Common.{ℕ, ◌<◌, List, length, get_or, arith, IsStrictlyIncreasing, AreIndices, IsIdSet, Extreme, AreExtremes, BodyValue, IsBody}
+use Rattle.qh_model.proofs.Common.{place, In, Members, Vector, HasExtremes}
+use Rattle.qh_model.proofs.{Members.All-In, Members.All-of, Members.In-get_or, Members.in_at, hulls.SameSets.extremes_of_part, hulls.SameSets.body_of_part}
 use Rattle.qh_model.proofs.{extremes.ExtremeIds.members_are_combinations, hulls.OfExtremes.extremes_told}
-use Rattle.qh_model.proofs.hulls.SameSets.{extremes_of_part, body_of_part}
 
 -- ids of a list of indices are indices
 pub part_indices : (pts : List Vector) (ids part : List ℕ) → AreIndices pts ids → ((i : ℕ) → In i part → In i ids) → AreIndices pts part

@@ -1,12 +1,10 @@
 -- The points of the extreme ids can be read if the points can: there are some, not too many, and they are in range.
-use Rattle.std.proofs.Common.{◌≡◌, ℕ, zero, suc, ◌<◌, ◌≤◌, List, [], ◌∷◌, length, get_or, map, arith, refl, inl, inr}
-use Rattle.std.proofs.lemmas.List.{length-map}
+use Rattle.qh_model.proofs.Common.{◌≡◌, ℕ, zero, suc, ◌<◌, ◌≤◌, List, [], ◌∷◌, length, get_or, map, arith, refl, inl, inr, length-map, IsPlace, HullValue}
+use Rattle.qh_model.proofs.Common.{IsHull, IsCoordinate, coordinates, place, In, Vector, origin, CanBeRead}
 use Rattle.std.specs.List.{AllByRecursion as Every}
-use Rattle.qh_model.specs.{contract.Places.IsPlace, headline.Hull.HullValue}
-use Rattle.qh_model.specs.headline.{Hull.IsHull, Limits.IsCoordinate, PointFile.coordinates, Predicates.place, Sets.In, Vector.Vector, Vector.origin}
-use Rattle.qh_model.specs.laws.RoundTrip.{CanBeRead, extreme_points}
-use Rattle.qh_model.proofs.DistinctIds.{distinct_apart, some_id, few_below}
-use Rattle.qh_model.proofs.{Members.In-get_or, Members.in_at, extremes.ExtremeIds.members_are_combinations}
+use Rattle.qh_model.specs.laws.RoundTrip.{extreme_points}
+use Rattle.qh_model.proofs.{DistinctIds.distinct_apart, DistinctIds.some_id, DistinctIds.few_below, extremes.ExtremeIds.members_are_combinations}
+use Rattle.qh_model.proofs.Members.{In-get_or, in_at}
 
 module _ (pts : List Vector) (h : HullValue) (s : IsHull pts h) where
   -- an extreme id is the index of a point

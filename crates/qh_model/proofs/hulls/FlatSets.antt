@@ -1,9 +1,6 @@
 -- Sets in one plane: their triangles have one direction or the opposite one, and one of the two points forward.
-use Rattle.std.proofs.Common.{◌≡◌, ◌≢◌, ℕ, arith, ap, ◌∙◌, ◌⊎◌, inl, inr, ⊎_elim}
-use Rattle.std.proofs.lemmas.Int.{ints}
-use Rattle.std.specs.Prelude.{pos}
-use Rattle.qh_model.specs.headline.{Dimension.HasTetrahedron, Polygons.PointsForward, Predicates.cross, Predicates.vol, Predicates.AreInLine, Vector.Vector}
-use Rattle.qh_model.specs.{headline.Vector.origin, headline.Vector.minus, headline.Vector.dot, laws.FaceLaws.IsAlong}
+use Rattle.qh_model.proofs.Common.{◌≡◌, ◌≢◌, ℕ, arith, ap, ◌∙◌, ◌⊎◌, inl, inr, ⊎_elim, ints, pos, HasTetrahedron, PointsForward, cross, vol, AreInLine, Vector}
+use Rattle.qh_model.proofs.Common.{origin, minus, dot, IsAlong}
 use Rattle.qh_model.proofs.algebra.{Order.zero_or_not, VectorIdentities.opposite}
 use Rattle.qh_model.proofs.extremes.Directions.{positive_along, zero_along, normal_along, from_plane}
 

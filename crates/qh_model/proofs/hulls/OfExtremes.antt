@@ -1,16 +1,13 @@
 -- A set and its extreme ids have the same supporting planes and the same polygons.
-use Rattle.std.proofs.Common.{ℕ, inl, inr, ⊎_elim, List}
-use Rattle.std.specs.Prelude.{◌↔◌}
-use Rattle.qh_model.specs.contract.IdSets.{HasDistinctPoints}
-use Rattle.qh_model.specs.headline.{Dimension.HasTetrahedron, Dimension.HasTriangle, Dimension.HasSegment, Extreme.Extreme, Hull.AreExtremes}
-use Rattle.qh_model.specs.headline.Polygons.{AreFaces, IsFacePolygon, IsFlatFace, IsSegmentFace, ArePolygons}
-use Rattle.qh_model.specs.headline.{Predicates.cross, Sets.Members, SupportingPlane.IsSupportingTriple, SupportingPlane.OnPlane, Vector.Vector}
-use Rattle.qh_model.specs.laws.{FaceLaws.IsAlong, FaceLaws.SpannedByExtremes, HullLaws.BodyOfExtremes, HullLaws.TriplesOfExtremes, HullLaws.PolygonsOfExtremes}
-use Rattle.qh_model.proofs.extremes.{Dimensions.triangle_of, Directions.along_itself, Directions.along_back}
+use Rattle.qh_model.proofs.Common.{ℕ, inl, inr, ⊎_elim, List, ◌↔◌, HasDistinctPoints, HasTetrahedron, HasTriangle, HasSegment, Extreme, AreExtremes, AreFaces}
+use Rattle.qh_model.proofs.Common.{IsFacePolygon, IsFlatFace, IsSegmentFace, ArePolygons, cross, Members, IsSupportingTriple, OnPlane, Vector, IsAlong}
+use Rattle.qh_model.proofs.Common.{SpannedByExtremes}
+use Rattle.qh_model.specs.laws.HullLaws.{BodyOfExtremes, TriplesOfExtremes, PolygonsOfExtremes}
+use Rattle.qh_model.proofs.{extremes.Dimensions.triangle_of, extremes.SpanningTriples.planes_of_extremes, hulls.Unique.flat_of, hulls.Unique.alone_of}
+use Rattle.qh_model.proofs.extremes.{Directions.along_itself, Directions.along_back, SameDimension.dimension_of_extremes}
 use Rattle.qh_model.proofs.extremes.ExtremeIds.{listed_itself, extremes_between, combination_of_extremes}
-use Rattle.qh_model.proofs.extremes.{Faces.support_of_extremes, SameDimension.dimension_of_extremes, SpanningTriples.planes_of_extremes}
-use Rattle.qh_model.proofs.hulls.FlatSets.{forward_not_zero, forward_along, flat_normals}
-use Rattle.qh_model.proofs.{hulls.Unique.flat_of, hulls.Unique.alone_of, polygons.Direction.polygon_as}
+use Rattle.qh_model.proofs.{extremes.Faces.support_of_extremes, hulls.FlatSets.forward_not_zero, hulls.FlatSets.forward_along, hulls.FlatSets.flat_normals}
+use Rattle.qh_model.proofs.polygons.Direction.{polygon_as}
 
 -- ---- facts about extreme ids hold for another set with the same extreme ids
 -- the list of the extreme ids

@@ -1,17 +1,13 @@
 -- Right values of blocks: of one block, of two sets of blocks together, and of all blocks.
-use Rattle.std.proofs.Common.{ℕ, zero, suc, ◌≡◌, ◌+◌, ◌-◌, ◌*◌, ◌<◌, ◌⊎◌, inl, inr, List, [], ◌++◌, length, get_or, take, drop, subst, refl, sym, ◌∙◌, arith}
-use Rattle.std.proofs.lemmas.Grind.{common_steps}
-use Rattle.std.specs.Prelude.{◌↔◌}
-use native.Mathlib.Decide.{ℕ_discrete}
-use mathlib.Core.Logic.{dite}
-use Rattle.qh_model.specs.contract.{BoardMachine.InSpan, Cut.IsCut, Cut.bound, Cut.block_count, Cut.positions, IdSets.HasDistinctPoints, IdSets.IsIdSet}
-use Rattle.qh_model.specs.{contract.RightValue.block_ids, contract.RightValue.IsIdOfBlocks, contract.RightValue.RightValue, headline.Extreme.Extreme}
-use Rattle.qh_model.specs.headline.{Extreme.Others, Hull.AreExtremes, Predicates.place, Sets.In, Sets.Members, Vector.Vector}
+use Rattle.qh_model.proofs.Common.{ℕ, zero, suc, ◌≡◌, ◌+◌, ◌-◌, ◌*◌, ◌<◌, ◌⊎◌, inl, inr, List, [], ◌++◌, length, get_or, take, drop, subst, refl, sym, ◌∙◌}
+use Rattle.qh_model.proofs.Common.{arith, common_steps, ◌↔◌, ℕ_discrete, dite, InSpan, IsCut, bound, block_count, positions, HasDistinctPoints, IsIdSet}
+use Rattle.qh_model.proofs.Common.{RightValue, Extreme, Others, AreExtremes, place, In, Members, Vector}
+use Rattle.qh_model.specs.contract.RightValue.{block_ids, IsIdOfBlocks}
 use Rattle.qh_model.specs.laws.{CutLaws.IsInBlock, RightValueLaws.RightOfLeaf, RightValueLaws.RightOfNode, RightValueLaws.HullOfRoot}
-use Rattle.qh_model.proofs.{Cuts.blocks_cover, Members.In-get_or, Members.in_at, board.Spans.span_of_leaf, board.Spans.span_of_node, board.Spans.span_of_root}
-use Rattle.qh_model.proofs.{extremes.ExtremeIds.combination_within, extremes.ExtremeIds.extremes_between, hulls.OfExtremes.extremes_told}
-use Rattle.qh_model.proofs.hulls.SameSets.{body_of_part, extreme_as}
-use Rattle.qh_model.proofs.{lists.Joined.in_append, lists.Joined.of_append, lists.Rising.part_at, lists.Rising.rising_part}
+use Rattle.qh_model.proofs.Cuts.{blocks_cover}
+use Rattle.qh_model.proofs.{Members.In-get_or, Members.in_at, hulls.OfExtremes.extremes_told, hulls.SameSets.body_of_part, hulls.SameSets.extreme_as}
+use Rattle.qh_model.proofs.{board.Spans.span_of_leaf, board.Spans.span_of_node, board.Spans.span_of_root, lists.Joined.in_append, lists.Joined.of_append}
+use Rattle.qh_model.proofs.{extremes.ExtremeIds.combination_within, extremes.ExtremeIds.extremes_between, lists.Rising.part_at, lists.Rising.rising_part}
 
 -- ---- the ids of a block
 -- an id of a block is one of the list

@@ -1,10 +1,9 @@
 -- Sets with the same members have the same hull, and a part of a set with all its extreme ids has its hull.
-use Rattle.std.proofs.{Common.ℕ, Common.◌≡◌, Common.List, Common.map, Common.refl, Common.ap, Common.subst, Common.◌∙◌, lemmas.List.map-id}
-use Rattle.std.specs.Prelude.{◌↔◌}
-use Rattle.qh_model.specs.{contract.IdSets.HasDistinctPoints, headline.Extreme.Extreme, headline.Hull.BodyValue, headline.Hull.IsBody, headline.Sets.Members}
-use Rattle.qh_model.specs.{headline.Vector.Vector, laws.HullLaws.ExtremesOfPart, laws.HullLaws.BodyOfPart}
-use Rattle.qh_model.proofs.{extremes.ExtremeIds.listed_itself, extremes.ExtremeIds.extremes_between, hulls.OfExtremes.body_of_extremes}
-use Rattle.qh_model.proofs.renamed.{Bodies.renamed_body, Bodies.body_renamed, Renaming.IsRenaming, Renaming.renaming_back, Renaming.extreme_renamed}
+use Rattle.qh_model.proofs.Common.{ℕ, ◌≡◌, List, map, refl, ap, subst, ◌∙◌, ◌↔◌, HasDistinctPoints, Extreme, BodyValue, IsBody, Members, Vector}
+use Rattle.std.proofs.lemmas.List.{map-id}
+use Rattle.qh_model.specs.laws.HullLaws.{ExtremesOfPart, BodyOfPart}
+use Rattle.qh_model.proofs.{extremes.ExtremeIds.listed_itself, extremes.ExtremeIds.extremes_between, renamed.Bodies.renamed_body, renamed.Bodies.body_renamed}
+use Rattle.qh_model.proofs.{hulls.OfExtremes.body_of_extremes, renamed.Renaming.IsRenaming, renamed.Renaming.renaming_back, renamed.Renaming.extreme_renamed}
 
 -- two sets have the same members
 abbrev pub Same : (ℕ → Type 0) → (ℕ → Type 0) → Type 0

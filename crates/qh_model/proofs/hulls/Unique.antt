@@ -1,17 +1,13 @@
 -- Each part of a hull is unique: distinct ids, polygons, and the number of edges.
-use Rattle.std.proofs.Common.{◌≡◌, ℕ, ◌<◌, refl, List, [], ◌∷◌, length, arith, sym, ap, subst, ◌∙◌, ◌⊎◌, inl, inr}
-use native.Mathlib.Decide.{ℕ_discrete}
-use mathlib.Core.Logic.{dite}
-use Rattle.std.specs.Prelude.{◌↔◌}
-use Rattle.qh_model.specs.headline.Dimension.{HasTetrahedron, HasSegment, IsDimension}
-use Rattle.qh_model.specs.headline.{Extreme.Extreme, Hull.BodyValue, Hull.HullValue, Hull.IsBody}
-use Rattle.qh_model.specs.headline.Polygons.{AreFaces, IsFlatFace, IsSegmentFace, IsPointFace, ArePolygons, IsEdgeCount, PointsForward}
-use Rattle.qh_model.specs.headline.{Predicates.cross, Predicates.place, Sets.In, Sets.Members, SupportingPlane.OnPlane}
-use Rattle.qh_model.specs.{headline.Text.hull_text, headline.Vector.Vector, laws.FaceLaws.IsAlong, laws.HullLaws.BodyIsUnique}
-use Rattle.qh_model.specs.laws.HullLaws.{HullIsUnique, TextIsUnique, PolygonsAreUnique, EdgeCountIsUnique, RisingListIsUnique, DistinctIdsAreUnique}
-use Rattle.qh_model.proofs.{extremes.Dimensions.one_dimension, extremes.Directions.cross-flip, hulls.FlatSets.forward_not_zero, hulls.FlatSets.forward_along}
-use Rattle.qh_model.proofs.{hulls.FlatSets.one_forward, hulls.FlatSets.flat_normals, lists.Lexicographic.rising_unique, lists.OnceEach.once_length}
-use Rattle.qh_model.proofs.{lists.Ordered.ordered_rising, lists.Ordered.ordered_unique, polygons.Direction.polygon_as, polygons.Unique.one_polygon}
+use Rattle.qh_model.proofs.Common.{◌≡◌, ℕ, ◌<◌, refl, List, [], ◌∷◌, length, arith, sym, ap, subst, ◌∙◌, ◌⊎◌, inl, inr, ℕ_discrete, dite, ◌↔◌, HasTetrahedron}
+use Rattle.qh_model.proofs.Common.{HasSegment, IsDimension, Extreme, BodyValue, HullValue, IsBody, AreFaces, IsFlatFace, IsSegmentFace, ArePolygons}
+use Rattle.qh_model.proofs.Common.{IsEdgeCount, PointsForward, cross, place, In, Members, OnPlane, hull_text, Vector, IsAlong}
+use Rattle.qh_model.specs.headline.Polygons.{IsPointFace}
+use Rattle.qh_model.specs.laws.HullLaws.{BodyIsUnique, HullIsUnique, TextIsUnique, PolygonsAreUnique, EdgeCountIsUnique, RisingListIsUnique}
+use Rattle.qh_model.specs.laws.HullLaws.{DistinctIdsAreUnique}
+use Rattle.qh_model.proofs.{extremes.Dimensions.one_dimension, lists.Lexicographic.rising_unique, lists.Ordered.ordered_rising, lists.Ordered.ordered_unique}
+use Rattle.qh_model.proofs.{extremes.Directions.cross-flip, lists.OnceEach.once_length, polygons.Direction.polygon_as, polygons.Unique.one_polygon}
+use Rattle.qh_model.proofs.hulls.FlatSets.{forward_not_zero, forward_along, one_forward, flat_normals}
 
 -- proof of the law `RisingListIsUnique`
 pub rising_list_is_unique : RisingListIsUnique

@@ -1,10 +1,8 @@
 -- The number of members of a list that pass: for its images, for members with twins, and before a position of the list.
-use Rattle.std.proofs.Common.{◌≡◌, ℕ, zero, suc, ◌+◌, ◌<◌, ◌≤◌, inl, inr, arith, ap, sym, ◌∙◌, refl, subst, add-one, Bool, true, cond, List, [], ◌∷◌, length}
-use Rattle.std.proofs.Common.{get_or, map, take}
-use Rattle.std.proofs.lemmas.{Bool.cases_Bool, Bool.cases_lt, Bool.cases_order, List.take-take, List.get_or-take, List.length-take-le, List.length-map}
-use Rattle.std.proofs.lemmas.List.Sums.{sum_by-cons, sum_by_more_le, count_by_more_yes, count_by_more_no, length-filter}
-use Rattle.std.specs.Prelude.{count_by, filter}
-use Rattle.qh_model.specs.headline.Sets.{In, Once}
+use Rattle.qh_model.proofs.Common.{◌≡◌, ℕ, zero, suc, ◌+◌, ◌<◌, ◌≤◌, inl, inr, arith, ap, sym, ◌∙◌, refl, subst, add-one, Bool, true, cond, List, [], ◌∷◌}
+use Rattle.qh_model.proofs.Common.{length, get_or, map, take, cases_Bool, cases_lt, cases_order, get_or-take, length-take-le, length-map, sum_by-cons, count_by}
+use Rattle.qh_model.proofs.Common.{filter, In, Once}
+use Rattle.std.proofs.lemmas.List.{take-take, Sums.sum_by_more_le, Sums.count_by_more_yes, Sums.count_by_more_no, Sums.length-filter}
 use Rattle.qh_model.proofs.lists.{Filters.in_filter, Filters.of_filter, Filters.once_filter, Images.of_map, Images.once_map, OnceEach.once_within}
 
 -- an image has the count of its list

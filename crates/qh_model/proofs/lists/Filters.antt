@@ -1,8 +1,5 @@
 -- The members that a filter keeps, and a filter of an image.
-use Rattle.std.proofs.Common.{◌≡◌, ap, sym, ◌∙◌, refl, Bool, true, false, cond, inl, inr, List, [], ◌∷◌, map}
-use Rattle.std.specs.Prelude.{filter}
-use Rattle.std.proofs.lemmas.Bool.{cases_Bool}
-use Rattle.qh_model.specs.headline.Sets.{In, Once}
+use Rattle.qh_model.proofs.Common.{◌≡◌, ap, sym, ◌∙◌, refl, Bool, true, false, cond, inl, inr, List, [], ◌∷◌, map, filter, cases_Bool, In, Once}
 
 module _ {X : Type 0} (p : X → Bool) where
   -- a member that passes is kept

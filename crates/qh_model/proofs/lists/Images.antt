@@ -1,7 +1,6 @@
 -- The image of a list: its members, also if each occurs once, and its growth.
-use Rattle.std.proofs.Common.{◌≡◌, ℕ, ◌+◌, ◌<◌, List, [], ◌∷◌, ◌++◌, length, get_or, map, take, ap, sym, ◌∙◌, refl, subst, inl, inr}
-use Rattle.std.proofs.lemmas.List.{take_more, map-append}
-use Rattle.qh_model.specs.headline.Sets.{In, Once}
+use Rattle.qh_model.proofs.Common.{◌≡◌, ℕ, ◌+◌, ◌<◌, List, [], ◌∷◌, ◌++◌, length, get_or, map, take, ap, sym, ◌∙◌, refl, subst, inl, inr, take_more, map-append}
+use Rattle.qh_model.proofs.Common.{In, Once}
 
 -- the image of a member is a member of the image
 pub in_map : {X Y : Type 0} (f : X → Y) (xs : List X) (x : X) → In x xs → In (f x) (map f xs)

@@ -1,7 +1,5 @@
 -- Two lists, one after the other: their members, and the condition that each occurs once.
-use Rattle.std.proofs.Common.{List, [], ◌∷◌, ◌++◌, ◌≡◌, ◌∙◌, ◌⊎◌, ap, append_assoc, inl, inr, refl, subst, sym, ⊎_elim}
-use Rattle.std.specs.List.{flat_map}
-use Rattle.qh_model.specs.headline.Sets.{In, Once}
+use Rattle.qh_model.proofs.Common.{List, [], ◌∷◌, ◌++◌, ◌≡◌, ◌∙◌, ◌⊎◌, ap, append_assoc, inl, inr, refl, subst, sym, ⊎_elim, flat_map, In, Once}
 
 -- a member of either list is a member of both joined
 pub in_append : {X : Type 0} (xs ys : List X) (x : X) → In x xs ⊎ In x ys → In x (xs ++ ys)

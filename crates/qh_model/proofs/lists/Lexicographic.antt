@@ -1,7 +1,5 @@
 -- Lexicographic order of lists: rising lists of lists are ordered, so their members determine them.
-use Rattle.std.proofs.Common.{◌≡◌, ℕ, List, [], ◌∷◌, arith, sym, subst, ◌∙◌, inl, inr}
-use Rattle.std.specs.Prelude.{◌↔◌}
-use Rattle.qh_model.specs.headline.{Polygons.ComesBefore, Polygons.RisesFrom, Polygons.RiseStrictly, Sets.In}
+use Rattle.qh_model.proofs.Common.{◌≡◌, ℕ, List, [], ◌∷◌, arith, sym, subst, ◌∙◌, inl, inr, ◌↔◌, ComesBefore, RisesFrom, RiseStrictly, In}
 use Rattle.qh_model.proofs.lists.Ordered.{Ordered, IsAsymmetric, ordered_unique}
 
 -- no two lists come before each other

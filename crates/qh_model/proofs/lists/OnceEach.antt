@@ -1,7 +1,6 @@
 -- Lists with each member once: their members determine their length, and a member determines its position.
-use Rattle.std.proofs.Common.{◌≡◌, ℕ, zero, suc, ◌+◌, ◌<◌, ◌≤◌, refl, List, [], ◌∷◌, length, get_or, arith, ap, sym, subst, ◌∙◌, ◌⊎◌, inl, inr, ⊎_elim}
-use Rattle.std.specs.Prelude.{◌↔◌}
-use Rattle.qh_model.specs.headline.Sets.{In, Once}
+use Rattle.qh_model.proofs.Common.{◌≡◌, ℕ, zero, suc, ◌+◌, ◌<◌, ◌≤◌, refl, List, [], ◌∷◌, length, get_or, arith, ap, sym, subst, ◌∙◌, ◌⊎◌, inl, inr, ⊎_elim}
+use Rattle.qh_model.proofs.Common.{◌↔◌, In, Once}
 use Rattle.qh_model.proofs.Members.{In-get_or}
 
 -- the list without the member at this position

@@ -1,9 +1,6 @@
 -- Rising lists of numbers by position, their parts, and two rising lists joined.
-use Rattle.std.proofs.Common.{ℕ, ◌≡◌, ◌+◌, ◌-◌, ◌≤◌, ◌<◌, List, ◌++◌, length, get_or, take, drop, arith}
-use Rattle.std.proofs.{Math.Seq.get_or-append_right, lemmas.Grind.common_steps, lemmas.List.get_or_append_left}
-use Rattle.std.proofs.lemmas.List.FromFn.{get_or-range_with_len, length-range_with_len}
-use Rattle.std.specs.List.{range_with_len, Sorted.IsStrictlyIncreasing}
-use Rattle.qh_model.specs.headline.Sets.{In}
+use Rattle.qh_model.proofs.Common.{ℕ, ◌≡◌, ◌+◌, ◌-◌, ◌≤◌, ◌<◌, List, ◌++◌, length, get_or, take, drop, arith, get_or-append_right, common_steps}
+use Rattle.qh_model.proofs.Common.{get_or_append_left, get_or-range_with_len, length-range_with_len, range_with_len, IsStrictlyIncreasing, In}
 use Rattle.qh_model.proofs.{Cuts.bounds_order, Members.In-get_or}
 
 -- a later position has a greater number

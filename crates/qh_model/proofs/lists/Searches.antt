@@ -1,7 +1,5 @@
 -- A search through the first numbers, and a walk in a list that returns to its start.
-use Rattle.std.proofs.Common.{◌≡◌, ℕ, zero, suc, ◌+◌, ◌<◌, List, length, get_or, arith, ap, sym, ◌∙◌, ◌⊎◌, inl, inr, ⊎_elim}
-use native.Mathlib.Decide.{ℕ_discrete}
-use Rattle.qh_model.specs.headline.Sets.{In}
+use Rattle.qh_model.proofs.Common.{◌≡◌, ℕ, zero, suc, ◌+◌, ◌<◌, List, length, get_or, arith, ap, sym, ◌∙◌, ◌⊎◌, inl, inr, ⊎_elim, ℕ_discrete, In}
 use Rattle.qh_model.proofs.{Members.in_at, lists.Ranges.pigeon}
 
 -- a number for which P holds, or no such number below n

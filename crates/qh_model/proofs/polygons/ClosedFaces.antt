@@ -1,15 +1,12 @@
 -- Faces that close up are all faces: their fans close up, since each diagonal of a polygon is taken in both directions.
-use Rattle.std.proofs.Common.{◌≡◌, ◌≢◌, ℕ, ◌+◌, arith, refl, sym, ap, subst, ◌∙◌, inl, inr, List, [], ◌∷◌, ◌++◌, cond}
-use Rattle.std.specs.{List.flat_map, Prelude.pos, Prelude.◌<ℤ◌, Prelude.◌↔◌}
-use Rattle.qh_model.specs.contract.ClosedPolygons.{steps_along, steps_round, AreClosed, AreClosedFaces}
-use Rattle.qh_model.specs.contract.ClosedSurface.{Triple, edges, is_edge, IsClosed, IsClosedSurface}
-use Rattle.qh_model.specs.{contract.IdSets.HasDistinctPoints, headline.Extreme.Extreme, headline.Polygon.FollowsAlong, headline.Polygons.IsFacePolygon}
-use Rattle.qh_model.specs.headline.{Predicates.cross, Predicates.left, Sets.In, Sets.Members, SupportingPlane.IsSupportingTriple, Vector.Vector}
-use Rattle.qh_model.specs.laws.ClosedFaceLaws.{AreSupporting, ClosedFacesAreAll, ClosedFacesHaveExtremes}
-use Rattle.qh_model.proofs.{Members.to_contains, algebra.VectorIdentities.left-turn, closed_surfaces.SignedVolume.is_edge-back}
-use Rattle.qh_model.proofs.closed_surfaces.{Sums.count, Sums.count-is, Supporting.closed_miss_no_plane, Supporting.closed_miss_no_extreme}
-use Rattle.qh_model.proofs.lists.Joined.{in_flat_map, of_flat_map}
-use Rattle.qh_model.proofs.polygons.{Edges.seen_from, Fans.corners_support, Fans.face_fan, PlaneTurns.level_along}
+use Rattle.qh_model.proofs.Common.{◌≡◌, ◌≢◌, ℕ, ◌+◌, arith, refl, sym, ap, subst, ◌∙◌, inl, inr, List, [], ◌∷◌, ◌++◌, cond, flat_map, pos, ◌<ℤ◌, ◌↔◌}
+use Rattle.qh_model.proofs.Common.{steps_along, steps_round, AreClosed, AreClosedFaces, Triple, edges, is_edge, IsClosed, IsClosedSurface, HasDistinctPoints}
+use Rattle.qh_model.proofs.Common.{Extreme, FollowsAlong, IsFacePolygon, cross, In, Members, IsSupportingTriple, Vector, AreSupporting}
+use Rattle.qh_model.specs.{headline.Predicates.left, laws.ClosedFaceLaws.ClosedFacesAreAll, laws.ClosedFaceLaws.ClosedFacesHaveExtremes}
+use Rattle.qh_model.proofs.{Members.to_contains, polygons.Edges.seen_from}
+use Rattle.qh_model.proofs.{algebra.VectorIdentities.left-turn, closed_surfaces.SignedVolume.is_edge-back, lists.Joined.in_flat_map, lists.Joined.of_flat_map}
+use Rattle.qh_model.proofs.{closed_surfaces.Sums.count, closed_surfaces.Sums.count-is, polygons.Fans.corners_support, polygons.Fans.face_fan}
+use Rattle.qh_model.proofs.{closed_surfaces.Supporting.closed_miss_no_plane, closed_surfaces.Supporting.closed_miss_no_extreme, polygons.PlaneTurns.level_along}
 
 -- ---- the triangles of a polygon
 -- the triangles of a and two neighbours each, beginning with u along the list

@@ -1,6 +1,5 @@
 -- A fact about all neighbours round a list, as one product.
-use Rattle.std.proofs.Common.{ℕ, refl, subst, inl, inr, List, [], ◌∷◌}
-use Rattle.qh_model.specs.headline.Polygon.{FollowsAlong, Follows}
+use Rattle.qh_model.proofs.Common.{ℕ, refl, subst, inl, inr, List, [], ◌∷◌, FollowsAlong, Follows}
 
 -- P holds for each pair of neighbours on the path from u along the list to e
 abbrev pub AlongPath : (ℕ → ℕ → Type 0) → ℕ → List ℕ → ℕ → Type 0

@@ -1,8 +1,6 @@
 -- A polygon depends on its set and on the direction of its normal alone.
-use Rattle.std.proofs.Common.{ℕ, List}
-use Rattle.std.specs.Prelude.{◌↔◌}
-use Rattle.qh_model.specs.headline.{Polygon.IsPolygon, Sets.Members, Vector.Vector}
-use Rattle.qh_model.specs.laws.{FaceLaws.IsAlong, PolygonLaws.PolygonByDirection}
+use Rattle.qh_model.proofs.Common.{ℕ, List, ◌↔◌, IsPolygon, Members, Vector, IsAlong}
+use Rattle.qh_model.specs.laws.PolygonLaws.{PolygonByDirection}
 use Rattle.qh_model.proofs.extremes.Directions.{positive_along, left_along}
 
 -- the same set and direction in another form

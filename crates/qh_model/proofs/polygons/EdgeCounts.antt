@@ -1,9 +1,8 @@
 -- The number of edges of faces, as a function, and the list of distinct pairs that it counts.
-use Rattle.std.proofs.Common.{ℕ, ◌≡◌, ◌≢◌, ◌<◌, suc, List, [], ◌∷◌, ◌⊎◌, inl, inr, refl, sym, subst, ap, ◌∙◌, length, arith, Bool, true, false, cond, min, max}
-use Rattle.std.proofs.{Common.eqb-true, lemmas.Bool.eqb-false}
-use Rattle.std.specs.{List.flat_map, List.list_any, Prelude.◌==◌, Prelude.◌&&◌, Prelude.◌||◌, Prelude.if◌then◌else◌}
-use Rattle.qh_model.specs.headline.{Fan.pairs_along, Fan.pairs_round, Fan.count_pairs, Polygon.FollowsAlong, Polygon.Follows, Polygons.IsEdge, Sets.In}
-use Rattle.qh_model.specs.{headline.Sets.Once, laws.FanLaws.EdgesAreCounted}
+use Rattle.qh_model.proofs.Common.{ℕ, ◌≡◌, ◌≢◌, ◌<◌, suc, List, [], ◌∷◌, ◌⊎◌, inl, inr, refl, sym, subst, ap, ◌∙◌, length, arith, Bool, true, false, cond, min}
+use Rattle.qh_model.proofs.Common.{max, eqb-true, eqb-false, flat_map, list_any, ◌==◌, ◌&&◌, ◌||◌, if◌then◌else◌, pairs_along, pairs_round, FollowsAlong}
+use Rattle.qh_model.proofs.Common.{Follows, IsEdge, In, Once}
+use Rattle.qh_model.specs.{headline.Fan.count_pairs, laws.FanLaws.EdgesAreCounted}
 use Rattle.qh_model.proofs.lists.Joined.{in_flat_map, of_flat_map}
 
 -- ---- pairs that differ

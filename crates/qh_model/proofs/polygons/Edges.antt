@@ -1,14 +1,10 @@
 -- The edges of a solid: at most one face has a given step.
-use Rattle.std.proofs.Common.{◌≡◌, ℕ, arith, sym, ◌∙◌, List}
-use Rattle.std.proofs.lemmas.Int.{ints}
-use Rattle.std.specs.Prelude.{pos, ◌*ℤ◌, ◌≤ℤ◌, ◌↔◌}
-use Rattle.qh_model.specs.{contract.IdSets.HasDistinctPoints, headline.Extreme.Extreme, headline.Polygon.Follows}
-use Rattle.qh_model.specs.headline.{Polygons.AreFaces, Polygons.IsFacePolygon, Predicates.cross, Predicates.vol, Predicates.left, Sets.In, Sets.Members}
-use Rattle.qh_model.specs.{headline.SupportingPlane.OnPlane, headline.Vector.Vector, laws.EdgeLaws.OneFaceEachWay, laws.FaceLaws.IsAlong}
+use Rattle.qh_model.proofs.Common.{◌≡◌, ℕ, arith, sym, ◌∙◌, List, ints, pos, ◌*ℤ◌, ◌≤ℤ◌, ◌↔◌, HasDistinctPoints, Extreme, Follows, AreFaces, IsFacePolygon}
+use Rattle.qh_model.proofs.Common.{cross, vol, In, Members, OnPlane, Vector, IsAlong}
+use Rattle.qh_model.specs.{headline.Predicates.left, laws.EdgeLaws.OneFaceEachWay}
 use Rattle.qh_model.proofs.algebra.{Order.cancel-zero, Order.positive_le, Order.product_zero, VectorIdentities.vol-swap_last}
-use Rattle.qh_model.proofs.{extremes.Directions.same_plane, polygons.Direction.polygon_as}
+use Rattle.qh_model.proofs.{extremes.Directions.same_plane, polygons.Direction.polygon_as, polygons.PlaneTurns.level_along, polygons.Unique.one_polygon}
 use Rattle.qh_model.proofs.polygons.LeftOfEdge.{at_most, Way, Third, has_u, has_v, to_left, third, square, over}
-use Rattle.qh_model.proofs.polygons.{PlaneTurns.level_along, Unique.one_polygon}
 
 -- a face seen from a triangle of its plane
 pub seen_from : (at : ℕ → Vector) (A : ℕ → Type 0) (i j k u v y : ℕ) (q : List ℕ) → IsFacePolygon at A i j k q

@@ -1,15 +1,11 @@
 -- Fans of triangles: the corners of their triangles are those of the polygons, and the triangles support the set.
-use Rattle.std.proofs.Common.{ℕ, ◌≡◌, List, [], ◌∷◌, All, inl, inr, refl, sym, subst, ⊎_elim}
-use Rattle.std.specs.Prelude.{pos, ◌<ℤ◌, ◌≤ℤ◌}
-use Rattle.qh_model.specs.contract.{FaceTriangles.face_triangles, IdSets.HasDistinctPoints}
-use Rattle.qh_model.specs.headline.{Fan.triangles_along, Fan.fan, Polygon.FollowsAlong, Polygons.IsFacePolygon, Predicates.cross, Predicates.vol}
-use Rattle.qh_model.specs.headline.{Predicates.left, Sets.In, Sets.Members, SupportingPlane.IsSupportingTriple, Vector.Vector, Vector.dot}
-use Rattle.qh_model.specs.laws.{FanLaws.CornersSupport, FanLaws.FansSupport, FanLaws.IsSupportingTriangle}
-use Rattle.qh_model.proofs.Members.{All-In, All-of, each_of_three}
-use Rattle.qh_model.proofs.algebra.{Order.cancel-nonpos, Order.mul-nonneg_nonpos, Order.positive_le, Signs.less_differ}
+use Rattle.qh_model.proofs.Common.{ℕ, ◌≡◌, List, [], ◌∷◌, All, inl, inr, refl, sym, subst, ⊎_elim, pos, ◌<ℤ◌, ◌≤ℤ◌, face_triangles, HasDistinctPoints}
+use Rattle.qh_model.proofs.Common.{triangles_along, fan, FollowsAlong, IsFacePolygon, cross, vol, In, Members, IsSupportingTriple, Vector, dot}
+use Rattle.qh_model.specs.{headline.Predicates.left, laws.FanLaws.CornersSupport, laws.FanLaws.FansSupport, laws.FanLaws.IsSupportingTriangle}
+use Rattle.qh_model.proofs.{Members.All-In, Members.All-of, Members.each_of_three, algebra.Signs.less_differ, extremes.SpanningTriples.planes_of_extremes}
+use Rattle.qh_model.proofs.{algebra.Order.cancel-nonpos, algebra.Order.mul-nonneg_nonpos, algebra.Order.positive_le, extremes.Directions.square-positive}
 use Rattle.qh_model.proofs.algebra.VectorIdentities.{vol-first, in_line-left, left-turn}
-use Rattle.qh_model.proofs.{extremes.Directions.square-positive, extremes.SpanningTriples.planes_of_extremes, lists.Joined.of_flat_map}
-use Rattle.qh_model.proofs.polygons.{LeftOfEdge.third, Neighbours.follows_members, PlaneTurns.level_volume}
+use Rattle.qh_model.proofs.{lists.Joined.of_flat_map, polygons.LeftOfEdge.third, polygons.Neighbours.follows_members, polygons.PlaneTurns.level_volume}
 
 -- proof of the law `CornersSupport`
 pub corners_support : CornersSupport

@@ -1,19 +1,15 @@
 -- The side to the left of an edge in the plane of its face: the other members of the plane lie there.
-use Rattle.std.proofs.Common.{◌≡◌, ◌≢◌, ℕ, arith, refl, sym, ap, subst, ◌∙◌, ◌⊎◌, inl, inr, List}
-use Rattle.std.proofs.lemmas.Int.{ints, by_lt_z}
-use native.Mathlib.Decide.{ℕ_discrete}
-use mathlib.Core.Logic.{dite}
-use Rattle.std.specs.Prelude.{ℤ, pos, ◌*ℤ◌, ◌≤ℤ◌, ◌<ℤ◌}
-use Rattle.qh_model.specs.{contract.IdSets.HasDistinctPoints, headline.Extreme.Extreme, headline.Polygon.Follows}
-use Rattle.qh_model.specs.headline.{Polygons.IsFacePolygon, Predicates.cross, Predicates.vol, Predicates.left, Predicates.AreInLine, Sets.Members}
-use Rattle.qh_model.specs.headline.{SupportingPlane.IsSupportingTriple, SupportingPlane.OnPlane, Vector.Vector, Vector.minus, Vector.cross_product, Vector.dot}
-use Rattle.qh_model.specs.laws.FaceLaws.{SpannedByExtremes}
+use Rattle.qh_model.proofs.Common.{◌≡◌, ◌≢◌, ℕ, arith, refl, sym, ap, subst, ◌∙◌, ◌⊎◌, inl, inr, List, ints, by_lt_z, ℕ_discrete, dite, ℤ, pos, ◌*ℤ◌, ◌≤ℤ◌}
+use Rattle.qh_model.proofs.Common.{◌<ℤ◌, HasDistinctPoints, Extreme, Follows, IsFacePolygon, cross, vol, AreInLine, Members, IsSupportingTriple, OnPlane}
+use Rattle.qh_model.proofs.Common.{Vector, minus, cross_product, dot, SpannedByExtremes}
+use Rattle.qh_model.specs.headline.Predicates.{left}
 use Rattle.qh_model.proofs.algebra.Order.{mul-nonneg, mul-nonneg_nonpos, mul-pos_neg, mul-neg_neg, cancel-nonpos, zero_or_not, positive_le}
 use Rattle.qh_model.proofs.algebra.VectorIdentities.{opposite, dot-opposite, vol-first, vol-second, vol-third, left-linear, in_line-left, in_line-twice}
-use Rattle.qh_model.proofs.{algebra.VectorIdentities.in_line-last, combinations.Alternatives.all_lower}
-use Rattle.qh_model.proofs.extremes.{Directions.square-positive, Directions.in_line-flip, ExtremeIds.listed_itself, ExtremeIds.listed_part}
-use Rattle.qh_model.proofs.extremes.{ExtremeIds.combination_of_extremes, Faces.extremes_of_face, SpanningTriples.planes_of_extremes}
-use Rattle.qh_model.proofs.polygons.{Neighbours.follows_members, PlaneTurns.level_volume}
+use Rattle.qh_model.proofs.algebra.VectorIdentities.{in_line-last}
+use Rattle.qh_model.proofs.{combinations.Alternatives.all_lower, polygons.Neighbours.follows_members, polygons.PlaneTurns.level_volume}
+use Rattle.qh_model.proofs.extremes.{Directions.square-positive, Directions.in_line-flip, SpanningTriples.planes_of_extremes}
+use Rattle.qh_model.proofs.extremes.ExtremeIds.{listed_itself, listed_part, combination_of_extremes}
+use Rattle.qh_model.proofs.extremes.Faces.{extremes_of_face}
 
 -- ---- signs
 -- s x = l y with s above 0

@@ -1,6 +1,5 @@
 -- Neighbours round a polygon.
-use Rattle.std.proofs.Common.{◌≡◌, ℕ, refl, sym, ◌⊎◌, inl, inr, List, [], ◌∷◌, ⊎_elim}
-use Rattle.qh_model.specs.headline.{Polygon.FollowsAlong, Polygon.Follows, Sets.In}
+use Rattle.qh_model.proofs.Common.{◌≡◌, ℕ, refl, sym, ◌⊎◌, inl, inr, List, [], ◌∷◌, ⊎_elim, FollowsAlong, Follows, In}
 
 -- neighbours on a path are members of it
 pub along_members : (u v t : ℕ) (r : List ℕ) (e : ℕ) → FollowsAlong u v t r e → In u (t ∷ r) × ((v ≡ e) ⊎ In v r)

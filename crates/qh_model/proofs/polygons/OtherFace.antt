@@ -1,20 +1,15 @@
 -- The edges of a solid: another face has the reversed step, found by turning a plane about the edge.
-use Rattle.std.proofs.Common.{◌≡◌, ◌≢◌, ℕ, arith, sym, subst, ◌∙◌, inl, inr, ⊎_elim, List, Bool, true}
-use Rattle.std.proofs.lemmas.Int.{ints, by_lt_z}
-use native.Mathlib.Decide.{ℕ_discrete}
-use mathlib.Core.Logic.{dite}
-use Rattle.std.specs.Prelude.{ℤ, pos, ◌-ℤ◌, ◌*ℤ◌, ◌≤ℤ◌, ◌<ℤ◌}
-use Rattle.qh_model.specs.{contract.IdSets.HasDistinctPoints, headline.Dimension.HasTetrahedron, headline.Polygon.Follows}
-use Rattle.qh_model.specs.headline.{Polygons.IsFacePolygon, Predicates.cross, Predicates.vol, Predicates.left, Predicates.AreInLine, Sets.In, Sets.Members}
-use Rattle.qh_model.specs.{headline.SupportingPlane.IsSupportingTriple, headline.Vector.Vector, headline.Vector.dot, laws.EdgeLaws.OtherFace}
-use Rattle.qh_model.proofs.Decisions.{test, told, holds, less_or_not}
-use Rattle.qh_model.proofs.algebra.{Integers.mul_comm, Order.mul-pos, Order.cancel-zero, Order.le_antisym, Order.neg-positive}
-use Rattle.qh_model.proofs.algebra.{Order.positive_le, Order.product_zero, Signs.less_differ, VectorIdentities.edge_product}
-use Rattle.qh_model.proofs.algebra.VectorIdentities.{vol-first, vol-second, vol-flip, vol-swap_last, left-flip, in_line-vol, in_line-left, in_line-twice}
-use Rattle.qh_model.proofs.extremes.Directions.{square-positive}
+use Rattle.qh_model.proofs.Common.{◌≡◌, ◌≢◌, ℕ, arith, sym, subst, ◌∙◌, inl, inr, ⊎_elim, List, Bool, true, ints, by_lt_z, ℕ_discrete, dite, ℤ, pos, ◌-ℤ◌, ◌*ℤ◌}
+use Rattle.qh_model.proofs.Common.{◌≤ℤ◌, ◌<ℤ◌, HasDistinctPoints, HasTetrahedron, Follows, IsFacePolygon, cross, vol, AreInLine, In, Members}
+use Rattle.qh_model.proofs.Common.{IsSupportingTriple, Vector, dot}
+use Rattle.qh_model.specs.{headline.Predicates.left, laws.EdgeLaws.OtherFace}
+use Rattle.qh_model.proofs.{Decisions.test, Decisions.told, Decisions.holds, Decisions.less_or_not, surfaces.VisibleFacets.Least, surfaces.VisibleFacets.least}
+use Rattle.qh_model.proofs.{algebra.Integers.mul_comm, algebra.Signs.less_differ, polygons.PlaneTurns.level_volume}
+use Rattle.qh_model.proofs.algebra.Order.{mul-pos, cancel-zero, le_antisym, neg-positive, positive_le, product_zero}
+use Rattle.qh_model.proofs.algebra.VectorIdentities.{edge_product, vol-first, vol-second, vol-flip, vol-swap_last, left-flip, in_line-vol, in_line-left}
+use Rattle.qh_model.proofs.algebra.VectorIdentities.{in_line-twice}
+use Rattle.qh_model.proofs.{extremes.Directions.square-positive, polygons.Neighbours.follows_members, polygons.Neighbours.next_member}
 use Rattle.qh_model.proofs.polygons.LeftOfEdge.{at_most, below, turn_sign, Way, Third, has_u, has_v, third, square, over, not_right}
-use Rattle.qh_model.proofs.polygons.{Neighbours.follows_members, Neighbours.next_member, PlaneTurns.level_volume}
-use Rattle.qh_model.proofs.surfaces.VisibleFacets.{Least, least}
 
 -- a volume with reversed edge and with its last two points swapped is the same
 vol-both : (u v x y : Vector) → vol v u y x ≡ vol u v x y

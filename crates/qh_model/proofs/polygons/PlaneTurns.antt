@@ -1,8 +1,6 @@
 -- Volumes and turns of points in one plane.
-use Rattle.std.proofs.Common.{◌≡◌, refl, sym, ap, subst, ◌∙◌, []}
-use Rattle.std.specs.Prelude.{pos, ◌*ℤ◌, ◌<ℤ◌}
-use Rattle.qh_model.specs.headline.Predicates.{cross, vol, left, AreInLine}
-use Rattle.qh_model.specs.{headline.Vector.Vector, headline.Vector.minus, headline.Vector.dot, laws.FaceLaws.IsAlong}
+use Rattle.qh_model.proofs.Common.{◌≡◌, refl, sym, ap, subst, ◌∙◌, [], pos, ◌*ℤ◌, ◌<ℤ◌, cross, vol, AreInLine, Vector, minus, dot, IsAlong}
+use Rattle.qh_model.specs.headline.Predicates.{left}
 use Rattle.qh_model.proofs.algebra.Ring.{ring, Expr.add, Expr.sub as less, Expr.mul}
 use Rattle.qh_model.proofs.algebra.VectorIdentities.{vec, put, dotE, combine3, vol-dot, left-dot, dot_comm}
 use Rattle.qh_model.proofs.extremes.Directions.{Parallel, parallel_normal, along_by, square-positive, from_plane}

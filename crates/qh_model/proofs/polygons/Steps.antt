@@ -1,12 +1,11 @@
 -- The faces of a solid close up: one face takes each step along an edge, and another the step back.
-use Rattle.std.proofs.Common.{◌≡◌, ℕ, suc, ◌≤◌, le_antisymm, length, refl, sym, ap, subst, ◌∙◌, inl, inr, ⊎_elim, List, [], ◌∷◌}
-use Rattle.std.specs.{List.flat_map, Prelude.◌↔◌}
-use Rattle.qh_model.specs.contract.{ClosedPolygons.steps_along, ClosedPolygons.steps_round, ClosedPolygons.step_count, ClosedSurface.is_edge}
-use Rattle.qh_model.specs.headline.{Polygon.FollowsAlong, Polygon.Follows, Polygons.ComesBefore, Sets.In, Sets.Once}
+use Rattle.qh_model.proofs.Common.{◌≡◌, ℕ, suc, ◌≤◌, length, refl, sym, ap, subst, ◌∙◌, inl, inr, ⊎_elim, List, [], ◌∷◌, flat_map, ◌↔◌, steps_along}
+use Rattle.qh_model.proofs.Common.{steps_round, step_count, is_edge, FollowsAlong, Follows, ComesBefore, In, Once}
+use Rattle.std.proofs.Common.{le_antisymm}
 use Rattle.qh_model.specs.laws.ClosedFaceLaws.{FacesClose}
-use Rattle.qh_model.proofs.{closed_surfaces.SignedVolume.back, closed_surfaces.SignedVolume.is_edge-back, lists.Counts.count_twins, lists.Joined.once_append}
-use Rattle.qh_model.proofs.lists.{Joined.in_flat_map, Joined.of_flat_map, Lexicographic.before-asymmetric, Lexicographic.rising-ordered, Ordered.Ordered}
-use Rattle.qh_model.proofs.polygons.{Edges.one_face_a_step, Neighbours.along_members, OtherFace.other_face}
+use Rattle.qh_model.proofs.{closed_surfaces.SignedVolume.back, closed_surfaces.SignedVolume.is_edge-back, polygons.Neighbours.along_members}
+use Rattle.qh_model.proofs.{lists.Counts.count_twins, lists.Lexicographic.before-asymmetric, lists.Lexicographic.rising-ordered, polygons.OtherFace.other_face}
+use Rattle.qh_model.proofs.{lists.Joined.once_append, lists.Joined.in_flat_map, lists.Joined.of_flat_map, lists.Ordered.Ordered, polygons.Edges.one_face_a_step}
 
 -- each corner has a step
 pub length_steps : (q : List ℕ) → length (steps_round q) ≡ length q

@@ -1,10 +1,7 @@
 -- Only one list goes round a set and begins with its least id.
-use Rattle.std.proofs.Common.{◌≡◌, ℕ, refl, List, [], ◌∷◌, arith, sym, subst, inl, inr, ⊎_elim}
-use Rattle.std.proofs.lemmas.Int.{ints}
-use native.Mathlib.Decide.{ℕ_discrete}
-use Rattle.std.specs.Prelude.{◌↔◌}
-use Rattle.qh_model.specs.headline.{Polygon.TurnsLeft, Polygon.IsPolygon, Sets.In, Sets.Once, Sets.BeginsWithLeast, Sets.Members}
-use Rattle.qh_model.specs.{headline.Vector.Vector, laws.PolygonLaws.PolygonIsUnique}
+use Rattle.qh_model.proofs.Common.{◌≡◌, ℕ, refl, List, [], ◌∷◌, arith, sym, subst, inl, inr, ⊎_elim, ints, ℕ_discrete, ◌↔◌, TurnsLeft, IsPolygon, In, Once}
+use Rattle.qh_model.proofs.Common.{BeginsWithLeast, Members, Vector}
+use Rattle.qh_model.specs.laws.PolygonLaws.{PolygonIsUnique}
 use Rattle.qh_model.proofs.{algebra.VectorIdentities.left-flip, polygons.Cycles.AlongPath, polygons.Cycles.round_told}
 
 -- the rests of two walks from u are equal

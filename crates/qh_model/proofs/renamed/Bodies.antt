@@ -1,8 +1,7 @@
 -- The hull of a set that is renamed in its order.
-use Rattle.std.proofs.Common.{◌≡◌, ℕ, List, [], ◌∷◌, map, sym, subst, ◌∙◌, inl, inr, ⊎_elim}
-use Rattle.qh_model.specs.headline.{Hull.BodyValue, Hull.IsBody, Polygons.ArePolygons, Sets.In, Vector.Vector}
-use Rattle.qh_model.proofs.renamed.{Edges.edge_count_renamed, Lists.AreWithin, Lists.rising_map, Polygons.members_renamed, Polygons.polygons_renamed}
-use Rattle.qh_model.proofs.renamed.Renaming.{IsRenaming, extremes_renamed, dimension_renamed}
+use Rattle.qh_model.proofs.Common.{◌≡◌, ℕ, List, [], ◌∷◌, map, sym, subst, ◌∙◌, inl, inr, ⊎_elim, BodyValue, IsBody, ArePolygons, In, Vector}
+use Rattle.qh_model.proofs.renamed.{Edges.edge_count_renamed, Polygons.members_renamed, Polygons.polygons_renamed}
+use Rattle.qh_model.proofs.renamed.{Lists.AreWithin, Lists.rising_map, Renaming.IsRenaming, Renaming.extremes_renamed, Renaming.dimension_renamed}
 
 -- the only member of a list of one
 alone : (qs : List (List ℕ)) (p : List ℕ) → qs ≡ p ∷ [] → (q : List ℕ) → In q qs → q ≡ p

@@ -1,9 +1,8 @@
 -- The edges of a set that is renamed in its order.
-use Rattle.std.proofs.Common.{◌≡◌, ℕ, ◌<◌, ◌⊎◌, List, map, sym, ap, subst, ◌∙◌, inl, inr, ⊎_elim}
-use Rattle.std.proofs.lemmas.List.{length-map}
-use Rattle.qh_model.specs.headline.{Polygon.Follows, Polygons.IsEdge, Polygons.IsEdgeCount, Sets.In, Vector.Vector}
-use Rattle.qh_model.proofs.{lists.Images.in_map, lists.Images.of_map, lists.Images.once_map, polygons.Neighbours.follows_members, renamed.Lists.AreWithin}
-use Rattle.qh_model.proofs.renamed.{Lists.follows_map, Lists.of_follows_map, Renaming.IsRenaming, Renaming.renaming_apart, Renaming.renaming_falls}
+use Rattle.qh_model.proofs.Common.{◌≡◌, ℕ, ◌<◌, ◌⊎◌, List, map, sym, ap, subst, ◌∙◌, inl, inr, ⊎_elim, length-map, Follows, IsEdge, IsEdgeCount, In, Vector}
+use Rattle.qh_model.proofs.lists.Images.{in_map, of_map, once_map}
+use Rattle.qh_model.proofs.{polygons.Neighbours.follows_members, renamed.Renaming.IsRenaming, renamed.Renaming.renaming_apart, renamed.Renaming.renaming_falls}
+use Rattle.qh_model.proofs.renamed.Lists.{AreWithin, follows_map, of_follows_map}
 
 module _ {at at' : ℕ → Vector} {A B : ℕ → Type 0} {f g : ℕ → ℕ} (r : IsRenaming at at' A B f g) where
   -- the members of an edge

@@ -1,9 +1,6 @@
 -- Images of lists of ids under a renaming: members once, neighbours, the least id first, and lexicographic order.
-use Rattle.std.proofs.Common.{◌≡◌, ℕ, ◌+◌, ◌<◌, ◌≤◌, refl, List, [], ◌∷◌, length, get_or, map, arith, ap, sym, subst, inl, inr}
-use Rattle.std.proofs.lemmas.List.{length-map, get_or-map}
-use Rattle.std.specs.List.Sorted.{IsStrictlyIncreasing}
-use Rattle.qh_model.specs.headline.Polygon.{FollowsAlong, Follows}
-use Rattle.qh_model.specs.headline.{Polygons.ComesBefore, Polygons.RisesFrom, Polygons.RiseStrictly, Sets.In, Sets.BeginsWithLeast}
+use Rattle.qh_model.proofs.Common.{◌≡◌, ℕ, ◌+◌, ◌<◌, ◌≤◌, refl, List, [], ◌∷◌, length, get_or, map, arith, ap, sym, subst, inl, inr, length-map, get_or-map}
+use Rattle.qh_model.proofs.Common.{IsStrictlyIncreasing, FollowsAlong, Follows, ComesBefore, RisesFrom, RiseStrictly, In, BeginsWithLeast}
 use Rattle.qh_model.proofs.{Members.In-get_or, lists.Images.of_map}
 
 -- the neighbours whose images are neighbours on the image of a path

@@ -1,14 +1,10 @@
 -- The members of a rising list named by their positions: the list of their points has the same hull under these names.
-use Rattle.std.proofs.Common.{◌≡◌, ℕ, zero, suc, ◌<◌, refl, List, [], ◌∷◌, length, get_or, map, arith, sym, ap, subst, ◌∙◌}
-use Rattle.std.proofs.{Common.⊎_elim, Common.eq-eqb, Common.ne_eqb, lemmas.List.length-map, lemmas.List.get_or-map}
-use mathlib.Core.Logic.{dite}
-use native.Mathlib.Decide.{ℕ_discrete}
-use Rattle.std.specs.{List.Sorted.IsStrictlyIncreasing, Prelude.◌↔◌}
-use Rattle.qh_model.specs.{contract.IdSets.HasDistinctPoints, headline.DistinctIds.AreDistinctIds, headline.Extreme.Extreme, headline.Hull.HullValue}
-use Rattle.qh_model.specs.headline.{Hull.IsHull, Predicates.place, Sets.In, Sets.Once, Sets.Members, Text.vertex_number, Vector.Vector, Vector.origin}
-use Rattle.qh_model.proofs.{DistinctIds.distinct_apart, Members.In-get_or, Members.rising_once, hulls.OfExtremes.body_of_extremes, lists.Images.in_map}
-use Rattle.qh_model.proofs.{lists.Images.of_map, lists.Rising.rising_between, renamed.Bodies.renamed_body}
-use Rattle.qh_model.proofs.renamed.{Bodies.body_renamed, Lists.rising_map, Renaming.IsRenaming, Renaming.renaming_apart, Renaming.renaming_back}
+use Rattle.qh_model.proofs.Common.{◌≡◌, ℕ, zero, suc, ◌<◌, refl, List, [], ◌∷◌, length, get_or, map, arith, sym, ap, subst, ◌∙◌, ⊎_elim, eq-eqb, ne_eqb}
+use Rattle.qh_model.proofs.Common.{length-map, get_or-map, dite, ℕ_discrete, IsStrictlyIncreasing, ◌↔◌, HasDistinctPoints, AreDistinctIds, Extreme, HullValue}
+use Rattle.qh_model.proofs.Common.{IsHull, place, In, Once, Members, vertex_number, Vector, origin}
+use Rattle.qh_model.proofs.{DistinctIds.distinct_apart, Members.In-get_or, Members.rising_once, renamed.Lists.rising_map}
+use Rattle.qh_model.proofs.{hulls.OfExtremes.body_of_extremes, renamed.Renaming.IsRenaming, renamed.Renaming.renaming_apart, renamed.Renaming.renaming_back}
+use Rattle.qh_model.proofs.{lists.Images.in_map, lists.Images.of_map, lists.Rising.rising_between, renamed.Bodies.renamed_body, renamed.Bodies.body_renamed}
 
 -- ---- positions
 -- a member's position is one of the list, and the member is at it

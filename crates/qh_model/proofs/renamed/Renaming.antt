@@ -1,7 +1,5 @@
 -- A set of ids that is renamed in its order with the same points: its extreme ids and its dimension.
-use Rattle.std.proofs.Common.{◌≡◌, ℕ, ◌<◌, arith, sym, ap, subst, ◌∙◌}
-use Rattle.qh_model.specs.headline.{Vector.Vector, Combination.Combination, Dimension.IsDimension, Extreme.Others, Extreme.Extreme}
-use Rattle.qh_model.specs.headline.Predicates.{cross, vol}
+use Rattle.qh_model.proofs.Common.{◌≡◌, ℕ, ◌<◌, arith, sym, ap, subst, ◌∙◌, Vector, Combination, IsDimension, Others, Extreme, cross, vol}
 use Rattle.qh_model.proofs.combinations.OtherNames.{combination_by_names}
 use Rattle.qh_model.proofs.extremes.SameDimension.{dimension_as, tetrahedron_by_names, triangle_by_names, segment_by_names}
 

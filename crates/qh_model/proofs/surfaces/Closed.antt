@@ -1,16 +1,13 @@
 -- The live facets of a sound surface are a closed surface: each directed edge is that of at most one facet, and the reversed edge is that of its twin. The
 -- signed volume of the surface is below 0.
-use Rattle.std.proofs.Common.{◌≡◌, ℕ, zero, suc, ◌+◌, ◌<◌, ◌≤◌, arith, refl, sym, ap, subst, ◌∙◌, inl, inr, List, [], ◌∷◌, length, Bool, true, false, cond}
-use Rattle.std.proofs.lemmas.Int.{ints}
-use Rattle.std.specs.Prelude.{ℤ, pos, ◌+ℤ◌, ◌≤ℤ◌, ◌<ℤ◌}
-use Rattle.qh_model.specs.contract.ClosedSurface.{Triple, edges, is_edge, IsClosed, signed_volume, triples_from, triples_of}
-use Rattle.qh_model.specs.contract.{FinishedSurface.weighted_at, FinishedSurface.middle_at, SoundSurface.IsSound, SoundSurface.IsInner}
-use Rattle.qh_model.specs.contract.Surface.{Surface, Side, start, end, IsWhole, rise, Side.first, Side.second, Side.third}
-use Rattle.qh_model.specs.{contract.Weighted.Weighted, contract.Weighted.above, headline.Predicates.vol, headline.Predicates.AreInLine, headline.Sets.In}
-use Rattle.qh_model.specs.{headline.Sets.Once, headline.Vector.Vector, laws.ClosedSurfaceLaws.SoundIsClosed, laws.ClosedSurfaceLaws.SoundHasVolume}
-use Rattle.qh_model.proofs.{Members.each_more, algebra.Signs.less_le, algebra.VectorIdentities.in_line-vol}
-use Rattle.qh_model.proofs.closed_surfaces.{SignedVolume.edge_tests, SignedVolume.volume_is_constant, Sums.count, Sums.count-is}
-use Rattle.qh_model.proofs.surfaces.{Determinants.above-together, Facets.ends_differ, KeptSound.edge_once, SurfaceLaws.rise_is_vol}
+use Rattle.qh_model.proofs.Common.{◌≡◌, ℕ, zero, suc, ◌+◌, ◌<◌, ◌≤◌, arith, refl, sym, ap, subst, ◌∙◌, inl, inr, List, [], ◌∷◌, length, Bool, true, false, cond}
+use Rattle.qh_model.proofs.Common.{ints, ℤ, pos, ◌+ℤ◌, ◌≤ℤ◌, ◌<ℤ◌, Triple, edges, is_edge, IsClosed, signed_volume, triples_from, triples_of, weighted_at}
+use Rattle.qh_model.proofs.Common.{middle_at, IsSound, IsInner, Surface, Side, end, IsWhole, rise, first, second, third, Weighted, above, vol, AreInLine, In}
+use Rattle.qh_model.proofs.Common.{Once, Vector}
+use Rattle.qh_model.specs.{contract.Surface.start, laws.ClosedSurfaceLaws.SoundIsClosed, laws.ClosedSurfaceLaws.SoundHasVolume}
+use Rattle.qh_model.proofs.{Members.each_more, algebra.Signs.less_le, surfaces.Facets.ends_differ, surfaces.KeptSound.edge_once}
+use Rattle.qh_model.proofs.{algebra.VectorIdentities.in_line-vol, closed_surfaces.SignedVolume.edge_tests, closed_surfaces.SignedVolume.volume_is_constant}
+use Rattle.qh_model.proofs.{closed_surfaces.Sums.count, closed_surfaces.Sums.count-is, surfaces.Determinants.above-together, surfaces.SurfaceLaws.rise_is_vol}
 
 -- ---- edges as sides
 -- a side of one of the facets goes from u to v

@@ -1,14 +1,10 @@
 -- A finished surface determines the hull: its dimension, its extreme ids and its polygons.
-use Rattle.std.proofs.Common.{◌≡◌, ℕ, refl, inl, List}
-use Rattle.std.specs.Prelude.{pos, ◌↔◌}
-use Rattle.qh_model.specs.contract.{FinishedSurface.IsFinished, Surface.Surface}
-use Rattle.qh_model.specs.headline.{Dimension.HasTetrahedron, Extreme.Extreme, Polygons.IsFacePolygon, Predicates.cross, Predicates.vol, Sets.In}
-use Rattle.qh_model.specs.headline.{Sets.Members, SupportingPlane.OnPlane, Vector.Vector}
-use Rattle.qh_model.specs.laws.CompletenessLaws.{CornerInPlane, IsLiveCorner, FacetOfPlane, FinishedIsSolid, ExtremesOfCorners, ExtremesOfPlane}
-use Rattle.qh_model.specs.laws.CompletenessLaws.{PolygonsOfFacets}
-use Rattle.qh_model.proofs.{algebra.Order.zero_or_not, algebra.Signs.less_differ, extremes.Directions.along_back}
+use Rattle.qh_model.proofs.Common.{◌≡◌, ℕ, refl, inl, List, pos, ◌↔◌, IsFinished, Surface, HasTetrahedron, Extreme, IsFacePolygon, cross, vol, In, Members}
+use Rattle.qh_model.proofs.Common.{OnPlane, Vector, CornerInPlane, IsLiveCorner}
+use Rattle.qh_model.specs.laws.CompletenessLaws.{FacetOfPlane, FinishedIsSolid, ExtremesOfCorners, ExtremesOfPlane, PolygonsOfFacets}
+use Rattle.qh_model.proofs.{algebra.Order.zero_or_not, extremes.Directions.along_back, extremes.Faces.extremes_of_face, polygons.Direction.polygon_as}
+use Rattle.qh_model.proofs.algebra.Signs.{less_differ}
 use Rattle.qh_model.proofs.extremes.ExtremeIds.{Listed, listed_itself, listed_part, extremes_between}
-use Rattle.qh_model.proofs.{extremes.Faces.extremes_of_face, polygons.Direction.polygon_as}
 use Rattle.qh_model.proofs.surfaces.Finished.{extremes_are_corners, extremes_of_plane_are_corners, facets_support, planes_have_facets}
 
 -- the four ids of the middle are a tetrahedron

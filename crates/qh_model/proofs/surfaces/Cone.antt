@@ -1,13 +1,11 @@
 -- A surface whose facets that see an id are replaced by its cone over the horizon.
-use Rattle.qh_model.specs.contract.SoundSurface.{IsInner, IsStrictWhenPerturbed, IsSound, IsStrict, perturbed, towards}
-use Rattle.qh_model.specs.contract.BoardMachine.{put}
-use Rattle.qh_model.specs.contract.Surface.{IsCorner, Side, Surface, IsWhole, end, rise, start}
-use Rattle.qh_model.specs.{contract.Weighted.Weighted, headline.Sets.In, steps.FarCorners.far}
-use Rattle.std.proofs.Common.{◌≡◌, ◌≢◌, ℕ, ◌+◌, ◌≤◌, refl, arith, ap, sym, ◌∙◌, subst, ◌⊎◌, inl, inr, ⊎_elim}
-use Rattle.std.specs.Prelude.{pos, ◌≤ℤ◌, ◌<ℤ◌}
-use Rattle.qh_model.proofs.{algebra.Signs.not_less, algebra.Signs.equal_negative, board.Updates.put_here, board.Updates.put_else, surfaces.ConePlanes.Old}
-use Rattle.qh_model.proofs.surfaces.{ConePlanes.apex_rise, ConePlanes.apex_inner, ConePlanes.corner_below_cone, Connected.cert, Facets.corner_start}
-use Rattle.qh_model.proofs.surfaces.{Facets.corner_end, Facets.corner_rest, Facets.side_rise, PerturbedInwards.Choice, PerturbedInwards.choose}
+use Rattle.qh_model.proofs.Common.{IsInner, IsSound, IsStrict, perturbed, towards, put, IsCorner, Side, Surface, IsWhole, end, rise, Weighted, In, far, ◌≡◌}
+use Rattle.qh_model.proofs.Common.{◌≢◌, ℕ, ◌+◌, ◌≤◌, refl, arith, ap, sym, ◌∙◌, subst, ◌⊎◌, inl, inr, ⊎_elim, pos, ◌≤ℤ◌, ◌<ℤ◌}
+use Rattle.qh_model.specs.contract.{SoundSurface.IsStrictWhenPerturbed, Surface.start}
+use Rattle.qh_model.proofs.{algebra.Signs.not_less, algebra.Signs.equal_negative, surfaces.PerturbedInwards.Choice, surfaces.PerturbedInwards.choose}
+use Rattle.qh_model.proofs.{board.Updates.put_here, board.Updates.put_else, surfaces.Connected.cert}
+use Rattle.qh_model.proofs.surfaces.ConePlanes.{Old, apex_rise, apex_inner, corner_below_cone}
+use Rattle.qh_model.proofs.surfaces.Facets.{corner_start, corner_end, corner_rest, side_rise}
 
 -- a kept facet: p is not above it
 pub record KeptOf (m m' : Surface) (home : ℕ → Weighted) (p f' : ℕ) : Type 0 where

@@ -1,14 +1,12 @@
 -- The plane of a facet of the cone, compared with those of the two facets at its edge of the horizon.
-use Rattle.qh_model.specs.contract.SoundSurface.{IsInner, IsStrict}
-use Rattle.qh_model.specs.contract.Surface.{IsCorner, Side, Surface, HasTwin, IsWhole, end, rise, start, rest}
-use Rattle.qh_model.specs.{contract.Weighted.Weighted, contract.Weighted.above, headline.Sets.In, steps.FarCorners.far}
-use Rattle.std.proofs.Common.{◌≡◌, ◌≢◌, ℕ, arith, sym, ◌∙◌, subst, ◌⊎◌, inl, inr, ⊎_elim}
-use Rattle.std.proofs.lemmas.Int.{ints, by_lt_z}
-use Rattle.std.specs.Prelude.{ℤ, pos, ◌-ℤ◌, ◌*ℤ◌, ◌≤ℤ◌, ◌<ℤ◌}
+use Rattle.qh_model.proofs.Common.{IsInner, IsStrict, IsCorner, Side, Surface, HasTwin, IsWhole, end, rise, rest, Weighted, above, In, far, ◌≡◌, ◌≢◌, ℕ, arith}
+use Rattle.qh_model.proofs.Common.{sym, ◌∙◌, subst, ◌⊎◌, inl, inr, ⊎_elim, ints, by_lt_z, ℤ, pos, ◌-ℤ◌, ◌*ℤ◌, ◌≤ℤ◌, ◌<ℤ◌}
+use Rattle.qh_model.specs.contract.Surface.{start}
 use Rattle.qh_model.proofs.algebra.Order.{mul-pos, mul-nonneg, mul-nonneg_nonpos, mul-nonpos_nonneg, mul-nonpos, mul-neg_pos, mul-pos_neg, positive_le}
-use Rattle.qh_model.proofs.algebra.{Order.negative_le, Signs.not_less}
+use Rattle.qh_model.proofs.algebra.Order.{negative_le}
+use Rattle.qh_model.proofs.{algebra.Signs.not_less, surfaces.CramersRule.line_product}
 use Rattle.qh_model.proofs.surfaces.Facets.{corner_rest, corner_cases, corner_test, far_apart, weak, bends, side_rise, far_rise, side_seen, side_blind}
-use Rattle.qh_model.proofs.surfaces.{Facets.side_below, Facets.far_seen, Facets.far_blind, Facets.far_below, CramersRule.line_product}
+use Rattle.qh_model.proofs.surfaces.Facets.{side_below, far_seen, far_blind, far_below}
 
 -- ---- signs, for two planes through one line, and a third through it and p
 -- a ≤ 0 with a positive product

@@ -1,12 +1,11 @@
 -- Surfaces that become strict when their corners are perturbed inwards: the facets that a real point sees are connected.
-use Rattle.qh_model.specs.contract.SoundSurface.{HasDistinctFacets, IsInner, IsStrict, IsStrictWhenPerturbed, IsSound, perturbed, towards}
-use Rattle.qh_model.specs.contract.Surface.{IsCorner, Side, Surface, HasTwin, IsWhole, start, end, rest, rise, Side.first, Side.second, Side.third}
-use Rattle.qh_model.specs.{contract.Weighted.Weighted, contract.Weighted.weighted_dot, contract.Weighted.plane_of, headline.Sets.In, steps.FarCorners.far}
-use Rattle.std.proofs.Common.{◌≡◌, ◌≢◌, ℕ, suc, ◌+◌, arith, refl, ap, sym, ◌∙◌, subst, inl, inr, Bool, true, false}
-use Rattle.std.proofs.lemmas.{Bool.and_parts, Bool.both_ways, Bool.not-true, Int.ints, Int.by_lt_z}
-use Rattle.std.specs.Prelude.{ℤ, pos, ◌+ℤ◌, ◌*ℤ◌, neg_ℤ, ◌≤ℤ◌, ◌<ℤ◌, ◌&&◌, not}
-use Rattle.qh_model.proofs.Decisions.{test, told, holds, less_or_not}
-use Rattle.qh_model.proofs.algebra.{Order.mul-pos, Signs.not_less, Signs.less_one_way}
+use Rattle.qh_model.proofs.Common.{HasDistinctFacets, IsInner, IsStrict, IsSound, perturbed, towards, IsCorner, Side, Surface, HasTwin, IsWhole, end, rest}
+use Rattle.qh_model.proofs.Common.{rise, first, second, third, Weighted, weighted_dot, plane_of, In, far, ◌≡◌, ◌≢◌, ℕ, suc, ◌+◌, arith, refl, ap, sym, ◌∙◌}
+use Rattle.qh_model.proofs.Common.{subst, inl, inr, Bool, true, false, and_parts, both_ways, not-true, ints, by_lt_z, ℤ, pos, ◌+ℤ◌, ◌*ℤ◌, neg_ℤ, ◌≤ℤ◌, ◌<ℤ◌}
+use Rattle.qh_model.proofs.Common.{◌&&◌, not}
+use Rattle.qh_model.specs.contract.{SoundSurface.IsStrictWhenPerturbed, Surface.start}
+use Rattle.qh_model.proofs.{Decisions.test, Decisions.told, Decisions.holds, Decisions.less_or_not, algebra.Signs.not_less, algebra.Signs.less_one_way}
+use Rattle.qh_model.proofs.algebra.Order.{mul-pos}
 use Rattle.qh_model.proofs.surfaces.Facets.{rise_side, rise_over, weak, middle, middle_on, middle_weak, middle_below, bends, plane-is}
 use Rattle.qh_model.proofs.surfaces.PerturbedInwards.{tilt, above-perturbed_all, Choice, choose, size, size_le, cube, scale}
 use Rattle.qh_model.proofs.surfaces.VisibleFacets.{Corners, Over, Cut, none_cut_off}

@@ -1,7 +1,5 @@
 -- Vectors of four whole numbers, and the identities of their determinant.
-use Rattle.qh_model.specs.contract.Weighted.{Weighted, weighted_dot, middle_of, plane_of, above}
-use Rattle.std.proofs.Common.{◌≡◌, ℕ, ◌+◌, ◌*◌, refl, List, [], ◌∷◌}
-use Rattle.std.specs.Prelude.{ℤ, pos, ◌+ℤ◌, neg_ℤ}
+use Rattle.qh_model.proofs.Common.{Weighted, weighted_dot, middle_of, plane_of, above, ◌≡◌, ℕ, ◌+◌, ◌*◌, refl, List, [], ◌∷◌, ℤ, pos, ◌+ℤ◌, neg_ℤ}
 use Rattle.qh_model.proofs.algebra.Ring.{Expr, ring, ring_zero, Expr.var, Expr.add, Expr.sub as less, Expr.mul, Expr.neg}
 
 -- ---- expressions

@@ -1,18 +1,15 @@
 -- The live facets in one plane are those that see a point slightly beyond one of them, so they are connected.
-use Rattle.std.proofs.Common.{◌≡◌, ℕ, arith, ap, refl, sym, ◌∙◌, inl, inr, Bool, true, List, [], ◌∷◌}
-use Rattle.std.proofs.lemmas.Int.{ints, by_lt_z}
-use Rattle.std.specs.Prelude.{ℤ, pos, ◌+ℤ◌, ◌*ℤ◌, neg_ℤ, ◌≤ℤ◌, ◌<ℤ◌}
-use Rattle.qh_model.specs.contract.{FinishedSurface.weighted_at, FinishedSurface.middle_at, FinishedSurface.IsFinished, Surface.Surface, Surface.IsCorner}
-use Rattle.qh_model.specs.{contract.SoundSurface.towards, contract.Surface.rise, contract.Surface.Sees, contract.Weighted.Weighted, contract.Weighted.above}
-use Rattle.qh_model.specs.{headline.Sets.In, headline.Vector.Vector}
-use Rattle.qh_model.specs.laws.FacetPlanes.{IsLevelWith, IsLevelFacet, IsPlaneWalk, LevelFacetsSpan, PlaneWalkFindsAll}
-use Rattle.qh_model.proofs.algebra.{Integers.one_mul, Integers.neg_mul, Order.product_zero, Order.le_antisym}
-use Rattle.qh_model.proofs.algebra.Ring.{ring, Expr.var, Expr.add, Expr.mul}
+use Rattle.qh_model.proofs.Common.{◌≡◌, ℕ, arith, ap, refl, sym, ◌∙◌, inl, inr, Bool, true, List, [], ◌∷◌, ints, by_lt_z, ℤ, pos, ◌+ℤ◌, ◌*ℤ◌, neg_ℤ, ◌≤ℤ◌, ◌<ℤ◌}
+use Rattle.qh_model.proofs.Common.{weighted_at, middle_at, IsFinished, Surface, IsCorner, towards, rise, Sees, Weighted, above, In, Vector, IsLevelWith}
+use Rattle.qh_model.proofs.Common.{IsLevelFacet}
+use Rattle.qh_model.specs.laws.FacetPlanes.{IsPlaneWalk, LevelFacetsSpan, PlaneWalkFindsAll}
+use Rattle.qh_model.proofs.algebra.{Integers.one_mul, Integers.neg_mul, Ring.Expr.var, Ring.Expr.add, Ring.Expr.mul}
+use Rattle.qh_model.proofs.{algebra.Order.product_zero, algebra.Order.le_antisym, surfaces.SurfaceLaws.rise_is_vol, surfaces.SurfaceLaws.walk_finds_all}
+use Rattle.qh_model.proofs.{algebra.Ring.ring, surfaces.PerturbedInwards.towardsE, surfaces.PerturbedInwards.bound, surfaces.PerturbedInwards.share}
 use Rattle.qh_model.proofs.algebra.{Signs.equal_le, VectorIdentities.vol-first, VectorIdentities.vol-second, VectorIdentities.vol-third}
-use Rattle.qh_model.proofs.surfaces.{Determinants.above_of, Determinants.quad, Determinants.aboveE, Determinants.put4, Facets.middle, Facets.of_corners}
-use Rattle.qh_model.proofs.surfaces.{Facets.sum_blind, Facets.sum_level, Facets.level_parts, Finished.one_plane, Finished.unseen_above, Finished.facets_support}
-use Rattle.qh_model.proofs.surfaces.{PerturbedInwards.towardsE, PerturbedInwards.bound, PerturbedInwards.share, SurfaceLaws.rise_is_vol}
-use Rattle.qh_model.proofs.surfaces.SurfaceLaws.{walk_finds_all}
+use Rattle.qh_model.proofs.surfaces.Determinants.{above_of, quad, aboveE, put4}
+use Rattle.qh_model.proofs.surfaces.Facets.{middle, of_corners, sum_blind, sum_level, level_parts}
+use Rattle.qh_model.proofs.surfaces.Finished.{one_plane, unseen_above, facets_support}
 
 -- ---- a point slightly beyond another, as seen from o
 -- a point perturbed, as the last argument

@@ -1,7 +1,6 @@
 -- The sides of a facet in cyclic order, and the side that starts at a corner.
-use Rattle.qh_model.specs.contract.Surface.{IsCorner, Side, Surface, end, start, rest, Side.first, Side.second, Side.third}
-use Rattle.std.proofs.Common.{◌≡◌, ℕ, refl, sym, inl, inr}
-use native.Mathlib.Decide.{ℕ_discrete}
+use Rattle.qh_model.proofs.Common.{IsCorner, Side, Surface, end, rest, first, second, third, ◌≡◌, ℕ, refl, sym, inl, inr, ℕ_discrete}
+use Rattle.qh_model.specs.contract.Surface.{start}
 
 -- the next side
 abbrev pub side_next : Side → Side

@@ -1,12 +1,8 @@
 -- Facets with neighbours across their sides, and the points of their corners: no corner is above a facet.
-use Rattle.qh_model.specs.contract.SoundSurface.{HasDistinctFacets, IsInner, IsStrict}
-use Rattle.qh_model.specs.contract.Surface.{IsCorner, Side, Surface, HasTwin, IsWhole, end, rise, start, rest, Side.first, Side.second, Side.third}
-use Rattle.qh_model.specs.contract.Weighted.{Weighted, above, weighted_dot, plane_of}
-use Rattle.qh_model.specs.{headline.Sets.In, steps.FarCorners.far}
-use Rattle.std.proofs.Common.{◌≡◌, ◌≢◌, ℕ, refl, [], arith, sym, ◌∙◌, subst, ◌⊎◌, inl, inr, ⊎_elim}
-use Rattle.std.proofs.lemmas.Int.{ints, by_lt_z}
-use native.Mathlib.Decide.{ℕ_discrete}
-use Rattle.std.specs.Prelude.{ℤ, pos, ◌+ℤ◌, neg_ℤ, ◌≤ℤ◌, ◌<ℤ◌}
+use Rattle.qh_model.proofs.Common.{HasDistinctFacets, IsInner, IsStrict, IsCorner, Side, Surface, HasTwin, IsWhole, end, rise, rest, first, second, third}
+use Rattle.qh_model.proofs.Common.{Weighted, above, weighted_dot, plane_of, In, far, ◌≡◌, ◌≢◌, ℕ, refl, [], arith, sym, ◌∙◌, subst, ◌⊎◌, inl, inr, ⊎_elim, ints}
+use Rattle.qh_model.proofs.Common.{by_lt_z, ℕ_discrete, ℤ, pos, ◌+ℤ◌, neg_ℤ, ◌≤ℤ◌, ◌<ℤ◌}
+use Rattle.qh_model.specs.contract.Surface.{start}
 use Rattle.qh_model.proofs.algebra.{Order.negative_le, Ring.Expr, Ring.ring, Ring.Expr.add}
 use Rattle.qh_model.proofs.algebra.Signs.{less_differ, less_one_way, equal_le, sum_nonpos, sum_parts, sum_zero, equal_nonpos, equal_negative, equal_positive}
 use Rattle.qh_model.proofs.algebra.Signs.{opposite_nonneg, opposite_positive, opposite_negative}

@@ -1,24 +1,17 @@
 -- A finished surface includes every extreme id and every supporting plane.
-use Rattle.std.proofs.Common.{◌↔◌, ◌≡◌, ℕ, arith, refl, sym, subst, ◌∙◌, ◌⊎◌, inl, inr, ⊎_elim, List, [], ◌∷◌}
-use Rattle.std.proofs.lemmas.Int.{ints, by_lt_z}
-use Rattle.std.specs.Prelude.{ℤ, pos, ◌≤ℤ◌, ◌<ℤ◌}
-use Rattle.qh_model.specs.contract.{ClosedSurface.Triple, ClosedSurface.IsClosedSurface, ClosedSurface.triples_of, SoundSurface.IsSound}
-use Rattle.qh_model.specs.contract.{FinishedSurface.weighted_at, FinishedSurface.middle_at, FinishedSurface.IsFinished, Surface.Surface, Surface.IsCorner}
-use Rattle.qh_model.specs.contract.{Surface.rise, Surface.IsWhole, Weighted.Weighted, Weighted.above}
-use Rattle.qh_model.specs.headline.{Extreme.Extreme, Predicates.cross, Predicates.vol, Predicates.AreInLine, Sets.In, Sets.Once, Sets.Members}
-use Rattle.qh_model.specs.headline.{SupportingPlane.IsSupportingTriple, SupportingPlane.OnPlane, Vector.Vector, Vector.dot}
-use Rattle.qh_model.specs.laws.{ClosedFaceLaws.AreSupporting, ClosedFaceLaws.TriangleOfPlane, FaceLaws.IsAlong}
-use Rattle.qh_model.specs.laws.CompletenessLaws.{FacetsSupport, IsLiveCorner, ExtremesAreCorners, CornerInPlane, ExtremesOfPlaneAreCorners, FacetOfPlane}
-use Rattle.qh_model.specs.laws.CompletenessLaws.{PlanesHaveFacets}
-use Rattle.qh_model.proofs.Decisions.{Decided, in_or_not, less_or_not, some_or_none}
-use Rattle.qh_model.proofs.{Members.each_more, Members.each_of_three}
-use Rattle.qh_model.proofs.algebra.{Order.cancel-zero, Order.le_antisym, Order.product_zero, Signs.less_differ, Signs.not_less, VectorIdentities.vol-flip_last}
-use Rattle.qh_model.proofs.closed_surfaces.{Cancellation.none_below, PlaneCorners.corner_in_plane, SignedVolume.vol_at}
-use Rattle.qh_model.proofs.closed_surfaces.Supporting.{closed_miss_no_plane, closed_miss_no_extreme}
+use Rattle.qh_model.proofs.Common.{◌↔◌, ◌≡◌, ℕ, arith, refl, sym, subst, ◌∙◌, ◌⊎◌, inl, inr, ⊎_elim, List, [], ◌∷◌, ints, by_lt_z, ℤ, pos, ◌≤ℤ◌, ◌<ℤ◌, Triple}
+use Rattle.qh_model.proofs.Common.{IsClosedSurface, triples_of, IsSound, weighted_at, middle_at, IsFinished, Surface, IsCorner, rise, IsWhole, Weighted, above}
+use Rattle.qh_model.proofs.Common.{Extreme, cross, vol, AreInLine, In, Once, Members, IsSupportingTriple, OnPlane, Vector, dot, AreSupporting, IsAlong}
+use Rattle.qh_model.proofs.Common.{IsLiveCorner, CornerInPlane}
+use Rattle.qh_model.specs.laws.ClosedFaceLaws.{TriangleOfPlane}
+use Rattle.qh_model.specs.laws.CompletenessLaws.{FacetsSupport, ExtremesAreCorners, ExtremesOfPlaneAreCorners, FacetOfPlane, PlanesHaveFacets}
+use Rattle.qh_model.proofs.{Decisions.Decided, Decisions.in_or_not, Decisions.less_or_not, Decisions.some_or_none, closed_surfaces.PlaneCorners.corner_in_plane}
+use Rattle.qh_model.proofs.{Members.each_more, Members.each_of_three, algebra.VectorIdentities.vol-flip_last, closed_surfaces.Cancellation.none_below}
+use Rattle.qh_model.proofs.algebra.{Order.cancel-zero, Order.le_antisym, Order.product_zero, Signs.less_differ, Signs.not_less}
+use Rattle.qh_model.proofs.{closed_surfaces.SignedVolume.vol_at, polygons.PlaneTurns.level_volume, surfaces.SurfaceLaws.rise_is_vol}
+use Rattle.qh_model.proofs.{closed_surfaces.Supporting.closed_miss_no_plane, closed_surfaces.Supporting.closed_miss_no_extreme, surfaces.Facets.of_corners}
 use Rattle.qh_model.proofs.extremes.Directions.{along_back, at_least_along, normal_along, from_plane, vol_along, same_plane, square-positive}
-use Rattle.qh_model.proofs.polygons.PlaneTurns.{level_volume}
-use Rattle.qh_model.proofs.surfaces.{Closed.inner_area, Closed.of_facets, Closed.sound_is_closed, Closed.sound_has_volume, Closed.seen_volume}
-use Rattle.qh_model.proofs.surfaces.{Facets.of_corners, SurfaceLaws.rise_is_vol}
+use Rattle.qh_model.proofs.surfaces.Closed.{inner_area, of_facets, sound_is_closed, sound_has_volume, seen_volume}
 
 -- a list without its repetitions
 each_once : (xs : List ℕ) → (ys : List ℕ) × Once ys × ((x : ℕ) → In x xs ↔ In x ys)

@@ -1,16 +1,12 @@
 -- The horizon: at the end of a side exactly one side begins, and at its start exactly one ends.
-use Rattle.qh_model.specs.contract.{Rewired.IsHorizonSide, SoundSurface.IsSound, SoundSurface.perturbed, SoundSurface.towards}
-use Rattle.qh_model.specs.contract.Surface.{Side, Surface, IsWhole, end, rise, start, Side.first, Side.second, Side.third}
-use Rattle.qh_model.specs.{contract.Weighted.Weighted, contract.Weighted.above, headline.Sets.In, laws.Horizons.HasHorizonSide}
-use Rattle.std.proofs.Common.{◌≡◌, ◌≢◌, ℕ, zero, suc, ◌+◌, refl, arith, sym, ◌∙◌, subst, inl, inr, List, [], ◌∷◌}
-use Rattle.std.proofs.lemmas.Int.{by_lt_z}
-use native.Mathlib.Decide.{ℕ_discrete}
-use mathlib.Core.Logic.{dite}
-use Rattle.std.specs.{List.flat_map, Prelude.pos, Prelude.◌≤ℤ◌, Prelude.◌<ℤ◌}
-use Rattle.qh_model.proofs.{algebra.Signs.less_one_way, algebra.Signs.opposite_positive, lists.Joined.in_flat_map, lists.Searches.comes_back}
-use Rattle.qh_model.proofs.surfaces.{Determinants.swap14, Facets.corner_start, Facets.ends_differ}
+use Rattle.qh_model.proofs.Common.{IsHorizonSide, IsSound, perturbed, towards, Side, Surface, IsWhole, end, rise, first, second, third, Weighted, above, In}
+use Rattle.qh_model.proofs.Common.{◌≡◌, ◌≢◌, ℕ, zero, suc, ◌+◌, refl, arith, sym, ◌∙◌, subst, inl, inr, List, [], ◌∷◌, by_lt_z, ℕ_discrete, dite, flat_map, pos}
+use Rattle.qh_model.proofs.Common.{◌≤ℤ◌, ◌<ℤ◌}
+use Rattle.qh_model.specs.{contract.Surface.start, laws.Horizons.HasHorizonSide}
+use Rattle.qh_model.proofs.{algebra.Signs.less_one_way, algebra.Signs.opposite_positive, surfaces.PerturbedInwards.Choice, surfaces.PerturbedInwards.choose}
+use Rattle.qh_model.proofs.lists.Joined.{in_flat_map}
+use Rattle.qh_model.proofs.{lists.Searches.comes_back, surfaces.Determinants.swap14, surfaces.Facets.corner_start, surfaces.Facets.ends_differ}
 use Rattle.qh_model.proofs.surfaces.PerturbedHorizon.{Scene, HorizonSide, Joined, horizon_below, horizon_once, horizon_next}
-use Rattle.qh_model.proofs.surfaces.PerturbedInwards.{Choice, choose}
 
 -- ---- at the start of a horizon side another ends
 -- a horizon side that ends at u

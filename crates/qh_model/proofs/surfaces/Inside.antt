@@ -1,10 +1,9 @@
 -- A point strictly below all facets of the surface of a part of a set is no extreme point of the set.
-use Rattle.std.proofs.Common.{◌≡◌, ℕ, inl, inr, List, ◌∷◌, refl}
-use Rattle.std.specs.Prelude.{pos, ◌≤ℤ◌, ◌<ℤ◌}
-use Rattle.qh_model.specs.{contract.FinishedSurface.IsFinished, contract.Surface.Surface, headline.Extreme.Others, headline.Extreme.Extreme}
-use Rattle.qh_model.specs.{headline.Predicates.vol, headline.Sets.In, headline.Sets.Members, headline.Vector.Vector, laws.CompletenessLaws.IsLiveCorner}
-use Rattle.qh_model.proofs.algebra.{Signs.less_differ, Signs.less_le, VectorIdentities.vol-first, VectorIdentities.vol-second, VectorIdentities.vol-third}
-use Rattle.qh_model.proofs.{Members.each_more, extremes.ExtremeIds.combination_within, surfaces.Facets.of_corners, surfaces.Finished.extremes_are_corners}
+use Rattle.qh_model.proofs.Common.{◌≡◌, ℕ, inl, inr, List, ◌∷◌, refl, pos, ◌≤ℤ◌, ◌<ℤ◌, IsFinished, Surface, Others, Extreme, vol, In, Members, Vector}
+use Rattle.qh_model.proofs.Common.{IsLiveCorner}
+use Rattle.qh_model.proofs.{algebra.Signs.less_differ, algebra.Signs.less_le, extremes.ExtremeIds.combination_within, surfaces.Finished.extremes_are_corners}
+use Rattle.qh_model.proofs.{algebra.VectorIdentities.vol-first, algebra.VectorIdentities.vol-second, algebra.VectorIdentities.vol-third, Members.each_more}
+use Rattle.qh_model.proofs.surfaces.Facets.{of_corners}
 
 -- a surface is finished for each list that has its ids and no id above a facet
 pub finished_over : (at : ℕ → Vector) (ids more : List ℕ) (m : Surface) → IsFinished at ids m → ((l : ℕ) → In l ids → In l more)

@@ -1,12 +1,9 @@
 -- The invariant of a surface if a cone replaces the facets that see an id, and the points that see none of the new surface.
-use Rattle.qh_model.specs.contract.SoundSurface.{HasDistinctFacets, IsInner, IsSound, IsStrict, perturbed}
-use Rattle.qh_model.specs.contract.Surface.{IsCorner, Side, Surface, HasTwin, IsWhole, end, rise, start, rest, Side.first, Side.second, Side.third}
-use Rattle.qh_model.specs.{contract.Weighted.Weighted, headline.Sets.In}
-use Rattle.std.proofs.Common.{◌≡◌, ◌≢◌, ℕ, refl, arith, ap, sym, ◌∙◌, subst, ◌⊎◌, inl, inr, ⊎_elim}
-use Rattle.std.proofs.lemmas.Int.{ints}
-use Rattle.std.specs.Prelude.{pos, neg_ℤ, ◌≤ℤ◌}
-use Rattle.qh_model.proofs.{algebra.Signs.not_less, surfaces.Cone.KeptOf, surfaces.Cone.ConeOf, surfaces.Cone.Replaced, surfaces.Cone.p_fresh}
-use Rattle.qh_model.proofs.surfaces.{Cone.kept_corner, Cone.corner_kept, Cone.inner_kept, Cone.lifted_kept, ConePlanes.Old, Determinants.above-swap_last}
+use Rattle.qh_model.proofs.Common.{HasDistinctFacets, IsInner, IsSound, IsStrict, perturbed, IsCorner, Side, Surface, HasTwin, IsWhole, end, rise, rest, first}
+use Rattle.qh_model.proofs.Common.{second, third, Weighted, In, ◌≡◌, ◌≢◌, ℕ, refl, arith, ap, sym, ◌∙◌, subst, ◌⊎◌, inl, inr, ⊎_elim, ints, pos, neg_ℤ, ◌≤ℤ◌}
+use Rattle.qh_model.specs.contract.Surface.{start}
+use Rattle.qh_model.proofs.{algebra.Signs.not_less, surfaces.ConePlanes.Old, surfaces.Determinants.above-swap_last}
+use Rattle.qh_model.proofs.surfaces.Cone.{KeptOf, ConeOf, Replaced, p_fresh, kept_corner, corner_kept, inner_kept, lifted_kept}
 use Rattle.qh_model.proofs.surfaces.Facets.{side_rise, side_below, corner_start, corner_end, corner_rest, corner_cases, corner_test, ends_differ}
 
 -- all corners of a facet, from those of a side

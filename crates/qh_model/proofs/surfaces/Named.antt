@@ -1,16 +1,13 @@
 -- A surface with other names of its corners: if different corners have different names, with the same points, it is sound if it was sound before, and finished
 -- if it was finished before. So a surface over positions in a list of points is a surface over their ids.
-use Rattle.std.proofs.Common.{◌≡◌, ℕ, zero, suc, ◌+◌, ◌/◌, ◌%◌, ◌<◌, refl, sym, ap, subst, ◌∙◌, inl, inr, List, [], ◌∷◌, length, map, true, false, cond}
-use Rattle.std.proofs.{Common.slice_index, lemmas.Bool.both_ways, lemmas.List.get_or-map}
-use Rattle.std.specs.{List.range_with_len, Prelude.pos, Prelude.◌<ℤ◌, Prelude.◌≤ℤ◌}
-use Rattle.qh_model.specs.contract.{FinishedSurface.weighted_at, FinishedSurface.middle_at, FinishedSurface.IsFinished, Simplex.one_of, Simplex.by_side}
-use Rattle.qh_model.specs.contract.SoundSurface.{IsStrict, HasDistinctFacets, IsSound, towards, perturbed}
-use Rattle.qh_model.specs.contract.StoredSurface.{StoredFacet, named_facet, facet_at, live_from, surface_of}
-use Rattle.qh_model.specs.contract.Surface.{Side, Surface, start, end, IsCorner, HasTwin, IsWhole, rise, Side.first, Side.second, Side.third}
-use Rattle.qh_model.specs.contract.Weighted.{Weighted, weighted, middle_of, above}
-use Rattle.qh_model.specs.headline.{Predicates.place, Predicates.vol, Sets.In, Sets.Once, Text.vertex_number, Vector.Vector, Vector.origin}
-use Rattle.qh_model.proofs.lists.{Images.in_map, Images.of_map, Ranges.range_below, Ranges.range_named}
-use Rattle.qh_model.proofs.{renamed.Positions.number_at, surfaces.Stored.live_is_marked}
+use Rattle.qh_model.proofs.Common.{◌≡◌, ℕ, zero, suc, ◌+◌, ◌/◌, ◌%◌, ◌<◌, refl, sym, ap, subst, ◌∙◌, inl, inr, List, [], ◌∷◌, length, map, true, false, cond}
+use Rattle.qh_model.proofs.Common.{slice_index, both_ways, get_or-map, range_with_len, pos, ◌<ℤ◌, ◌≤ℤ◌, weighted_at, middle_at, IsFinished, one_of, by_side}
+use Rattle.qh_model.proofs.Common.{IsStrict, HasDistinctFacets, IsSound, towards, perturbed, StoredFacet, named_facet, facet_at, live_from, surface_of, Side}
+use Rattle.qh_model.proofs.Common.{Surface, end, IsCorner, HasTwin, IsWhole, rise, first, second, third, Weighted, weighted, middle_of, above, place, vol, In}
+use Rattle.qh_model.proofs.Common.{Once, vertex_number, Vector, origin}
+use Rattle.qh_model.specs.contract.Surface.{start}
+use Rattle.qh_model.proofs.{lists.Images.in_map, lists.Images.of_map, lists.Ranges.range_below, lists.Ranges.range_named, surfaces.Stored.live_is_marked}
+use Rattle.qh_model.proofs.renamed.Positions.{number_at}
 
 -- m' is m with renamed corners
 pub record IsNamed (m m' : Surface) (name : ℕ → ℕ) : Type 0 where

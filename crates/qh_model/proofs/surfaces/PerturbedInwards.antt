@@ -1,13 +1,9 @@
 -- Corners perturbed slightly towards an inner point, each by its own share: level corners are then strictly below.
-use Rattle.qh_model.specs.contract.{SoundSurface.IsInner, SoundSurface.perturbed, SoundSurface.towards, Surface.Surface, Surface.rise, Weighted.Weighted}
-use Rattle.qh_model.specs.{contract.Weighted.above, headline.Sets.In}
-use Rattle.std.proofs.Common.{◌≡◌, ℕ, zero, suc, ◌+◌, ◌≤◌, refl, List, [], ◌∷◌, arith, sym, subst}
-use Rattle.std.proofs.lemmas.Int.{ints}
-use Rattle.std.specs.Prelude.{ℤ, pos, negsuc, ◌+ℤ◌, ◌-ℤ◌, ◌*ℤ◌, neg_ℤ, ◌≤ℤ◌, ◌<ℤ◌}
-use Rattle.qh_model.proofs.Members.{each_more}
-use Rattle.qh_model.proofs.algebra.Order.{mul-nonneg, mul-nonneg_nonpos, mul-pos, mul-pos_neg}
-use Rattle.qh_model.proofs.algebra.Ring.{Expr, ring, Expr.var, Expr.con, Expr.add, Expr.sub as less, Expr.mul}
+use Rattle.qh_model.proofs.Common.{IsInner, perturbed, towards, Surface, rise, Weighted, above, In, ◌≡◌, ℕ, zero, suc, ◌+◌, ◌≤◌, refl, List, [], ◌∷◌, arith}
+use Rattle.qh_model.proofs.Common.{sym, subst, ints, ℤ, pos, negsuc, ◌+ℤ◌, ◌-ℤ◌, ◌*ℤ◌, neg_ℤ, ◌≤ℤ◌, ◌<ℤ◌}
+use Rattle.qh_model.proofs.{Members.each_more, algebra.Order.mul-nonneg, algebra.Order.mul-nonneg_nonpos, algebra.Order.mul-pos, algebra.Order.mul-pos_neg}
 use Rattle.qh_model.proofs.surfaces.Determinants.{above_of, quad, QE, aboveE, put4}
+use Rattle.qh_model.proofs.algebra.Ring.{Expr, ring, Expr.var, Expr.con, Expr.add, Expr.sub as less, Expr.mul}
 
 -- the contribution of the shares
 abbrev pub tilt : (o a b c p : Weighted) (h i j k : ℤ) → ℤ

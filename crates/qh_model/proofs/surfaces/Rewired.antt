@@ -1,9 +1,7 @@
 -- The twins of the cone, determined by the ends of the horizon's sides, make a whole surface again.
-use Rattle.qh_model.specs.contract.{Rewired.IsHorizonSide, Rewired.LinksTo, Rewired.IsRewired, Rewired.KeepsCorners, SoundSurface.IsSound}
-use Rattle.qh_model.specs.contract.Surface.{Side, Surface, HasTwin, IsWhole, end, rise, start, Side.first, Side.second, Side.third}
-use Rattle.qh_model.specs.{contract.Weighted.Weighted, headline.Sets.In}
-use Rattle.std.proofs.{Common.◌≡◌, Common.ℕ, Common.ap, Common.sym, Common.◌∙◌, Common.subst, Common.◌⊎◌, Common.inl, Common.inr, lemmas.Int.by_lt_z}
-use Rattle.std.specs.Prelude.{pos, ◌≤ℤ◌, ◌<ℤ◌}
+use Rattle.qh_model.proofs.Common.{IsHorizonSide, IsRewired, IsSound, Side, Surface, HasTwin, IsWhole, end, rise, first, second, third, Weighted, In, ◌≡◌, ℕ}
+use Rattle.qh_model.proofs.Common.{ap, sym, ◌∙◌, subst, ◌⊎◌, inl, inr, by_lt_z, pos, ◌≤ℤ◌, ◌<ℤ◌}
+use Rattle.qh_model.specs.contract.{Rewired.LinksTo, Rewired.KeepsCorners, Surface.start}
 use Rattle.qh_model.proofs.surfaces.{Cone.KeptOf, Cone.ConeOf, Cone.Replaced, Horizon.edge_next, Horizon.edge_prev, KeptSound.side_once, KeptSound.sound_kept}
 
 -- the sides of a kept facet start as before

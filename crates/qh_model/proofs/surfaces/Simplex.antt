@@ -1,15 +1,11 @@
 -- The surface of a simplex.
-use Rattle.qh_model.specs.contract.{Simplex.one_of, SoundSurface.IsInner, Surface.Side, Surface.Surface, Surface.IsWhole, Surface.HasTwin, Surface.IsCorner}
-use Rattle.qh_model.specs.contract.{Surface.start, Surface.end, Surface.rise, Surface.Side.first, Surface.Side.second, Surface.Side.third, Weighted.Weighted}
-use Rattle.qh_model.specs.{contract.Weighted.above, contract.Weighted.middle_of, contract.Weighted.weighted_dot, contract.Weighted.plane_of, headline.Sets.In}
-use Rattle.qh_model.specs.laws.{SimplexSurface.IsSimplexBoundary, SimplexSurface.simplex_surface, SurfaceLaws.SimplexIsSound, SurfaceLaws.MiddleIsBelow}
-use Rattle.std.proofs.Common.{◌∙◌, ◌≡◌, ℕ, refl, sym, subst, arith, ap, [], ◌∷◌, ◌⊎◌, inl, inr, ⊎_elim}
-use Rattle.std.proofs.lemmas.Int.{ints, by_lt_z}
-use Rattle.std.specs.Prelude.{ℤ, pos, ◌+ℤ◌, ◌<ℤ◌, ◌≤ℤ◌}
-use Rattle.qh_model.proofs.algebra.{Order.cancel-zero_neg, Order.product_zero, Ring.ring, Signs.less_differ}
-use Rattle.qh_model.proofs.surfaces.CramersRule.{cramer_level}
+use Rattle.qh_model.proofs.Common.{one_of, IsInner, Side, Surface, IsWhole, HasTwin, IsCorner, end, rise, first, second, third, Weighted, above, middle_of}
+use Rattle.qh_model.proofs.Common.{weighted_dot, plane_of, In, IsSimplexBoundary, simplex_surface, ◌∙◌, ◌≡◌, ℕ, refl, sym, subst, arith, ap, [], ◌∷◌, ◌⊎◌, inl}
+use Rattle.qh_model.proofs.Common.{inr, ⊎_elim, ints, by_lt_z, ℤ, pos, ◌+ℤ◌, ◌<ℤ◌, ◌≤ℤ◌}
+use Rattle.qh_model.specs.{contract.Surface.start, laws.SurfaceLaws.SimplexIsSound, laws.SurfaceLaws.MiddleIsBelow}
+use Rattle.qh_model.proofs.{algebra.Order.cancel-zero_neg, algebra.Order.product_zero, algebra.Ring.ring, surfaces.Facets.rise_own, surfaces.Facets.plane-is}
+use Rattle.qh_model.proofs.{algebra.Signs.less_differ, surfaces.CramersRule.cramer_level, surfaces.SimplexBoundary.simplex_boundary_sound}
 use Rattle.qh_model.proofs.surfaces.Determinants.{above_of, put4, above-together, above-first, above-second, above-third, above-turn_last}
-use Rattle.qh_model.proofs.surfaces.{Facets.rise_own, Facets.plane-is, SimplexBoundary.simplex_boundary_sound}
 
 -- a fact about 0, 1, 2 and 3 holds for each number below 4
 pub four : (P : ℕ → Type 0) → P 0 → P 1 → P 2 → P 3 → (f : ℕ) → In f (0 ∷ 1 ∷ 2 ∷ 3 ∷ []) → P f

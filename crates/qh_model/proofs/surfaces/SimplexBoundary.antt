@@ -1,12 +1,8 @@
 -- The surface of the initial simplex.
-use Rattle.qh_model.specs.contract.{Surface.Surface, Surface.rise, Weighted.Weighted, Weighted.above}
-use Rattle.qh_model.specs.contract.SoundSurface.{HasDistinctFacets, IsInner, IsSound, IsStrict, perturbed}
-use Rattle.qh_model.specs.laws.SimplexSurface.{IsSimplexBoundary}
-use Rattle.std.proofs.Common.{ap, ◌≡◌, ℕ, ◌≤◌, arith, sym, ◌∙◌, subst, ⊎_elim}
-use Rattle.std.proofs.lemmas.Int.{ints}
-use Rattle.std.specs.Prelude.{ℤ, pos, ◌+ℤ◌, ◌*ℤ◌, ◌<ℤ◌}
-use Rattle.qh_model.proofs.algebra.{Order.mul-pos_neg, Signs.less_differ}
-use Rattle.qh_model.proofs.surfaces.{Facets.rise_own, PerturbedInwards.above-perturbed_all, PerturbedInwards.cube}
+use Rattle.qh_model.proofs.Common.{Surface, rise, Weighted, above, HasDistinctFacets, IsInner, IsSound, IsStrict, perturbed, IsSimplexBoundary, ap, ◌≡◌, ℕ, ◌≤◌}
+use Rattle.qh_model.proofs.Common.{arith, sym, ◌∙◌, subst, ⊎_elim, ints, ℤ, pos, ◌+ℤ◌, ◌*ℤ◌, ◌<ℤ◌}
+use Rattle.qh_model.proofs.{algebra.Order.mul-pos_neg, algebra.Signs.less_differ, surfaces.PerturbedInwards.above-perturbed_all, surfaces.PerturbedInwards.cube}
+use Rattle.qh_model.proofs.surfaces.Facets.{rise_own}
 
 module _ (m : Surface) (home : ℕ → Weighted) (r : IsSimplexBoundary m home) where
   -- the surface is strict without perturbation

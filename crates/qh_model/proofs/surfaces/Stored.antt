@@ -1,9 +1,7 @@
 -- The live facets of a stored surface.
-use Rattle.qh_model.specs.contract.StoredSurface.{StoredFacet, facet_at, live_from, no_facet}
-use Rattle.qh_model.specs.{headline.Sets.In, headline.Sets.Once, laws.LiveFacets.LiveIsMarked, laws.LiveFacets.LiveIsListedOnce}
-use Rattle.std.proofs.Common.{◌≡◌, ℕ, zero, suc, ◌+◌, ◌<◌, length, ap, refl, sym, ◌∙◌, subst, arith, List, [], ◌∷◌, inl, inr, Bool, true, false, cond}
-use Rattle.std.proofs.lemmas.{Bool.both_ways, Bool.cases_lt, List.get_or_past, List.Sums.sum_by-cons}
-use Rattle.std.specs.Prelude.{count_by}
+use Rattle.qh_model.proofs.Common.{StoredFacet, facet_at, live_from, no_facet, In, Once, ◌≡◌, ℕ, zero, suc, ◌+◌, ◌<◌, length, ap, refl, sym, ◌∙◌, subst, arith}
+use Rattle.qh_model.proofs.Common.{List, [], ◌∷◌, inl, inr, Bool, true, false, cond, both_ways, cases_lt, get_or_past, sum_by-cons, count_by}
+use Rattle.qh_model.specs.laws.LiveFacets.{LiveIsMarked, LiveIsListedOnce}
 
 -- g is the live facet k places after n
 abbrev IsMarked : ℕ → List StoredFacet → ℕ → Type 0

@@ -1,13 +1,11 @@
 -- The laws of surfaces, from their proofs.
-use Rattle.qh_model.specs.{contract.Surface.rise, contract.Weighted.above, headline.Predicates.cross, headline.Predicates.vol}
+use Rattle.qh_model.proofs.Common.{rise, above, cross, vol, ℕ, refl, [], inl, inr, pos}
 use Rattle.qh_model.specs.laws.SurfaceLaws.{CornersAreSettled, AddedIsSettled, RiseIsVol, WalkFindsAll, SettledStayUnseen, HorizonGoesOn, HorizonIsKnown}
-use Rattle.std.proofs.Common.{ℕ, refl, [], inl, inr}
-use Rattle.std.specs.Prelude.{pos}
-use Rattle.qh_model.proofs.Decisions.{told, holds, less_or_not}
-use Rattle.qh_model.proofs.algebra.{Ring.ring, Ring.Expr.con, VectorIdentities.vec, VectorIdentities.volE, VectorIdentities.put, VectorIdentities.VE}
-use Rattle.qh_model.proofs.surfaces.Connected.{connected, cert}
-use Rattle.qh_model.proofs.surfaces.{Determinants.QE, Determinants.aboveE, Horizon.edge_next, Horizon.edge_prev, Horizon.edge_known_by_start}
-use Rattle.qh_model.proofs.surfaces.{Horizon.edge_known_by_end, Rewired.replaced, Unseen.settled_kept, Unseen.apex_settled}
+use Rattle.qh_model.proofs.{Decisions.told, Decisions.holds, Decisions.less_or_not, surfaces.Unseen.settled_kept, surfaces.Unseen.apex_settled}
+use Rattle.qh_model.proofs.{algebra.Ring.ring, surfaces.Connected.connected, surfaces.Connected.cert, surfaces.Determinants.QE, surfaces.Determinants.aboveE}
+use Rattle.qh_model.proofs.{algebra.Ring.Expr.con, surfaces.Rewired.replaced}
+use Rattle.qh_model.proofs.algebra.VectorIdentities.{vec, volE, put, VE}
+use Rattle.qh_model.proofs.surfaces.Horizon.{edge_next, edge_prev, edge_known_by_start, edge_known_by_end}
 
 -- a point with weight 1, as expressions
 abbrev weightedE : VE → QE

@@ -1,14 +1,11 @@
 -- Points that see a removed facet and no facet of the cone see no facet; points that see no facet see no facet of the cone.
-use Rattle.qh_model.specs.contract.{SoundSurface.IsSound, Surface.Side, Surface.Surface, Surface.IsWhole, Surface.end, Surface.rise, Surface.start}
-use Rattle.qh_model.specs.{contract.Weighted.Weighted, headline.Sets.In, laws.Horizons.IsConeUnseen, steps.FarCorners.far}
-use Rattle.std.proofs.Common.{◌≡◌, ℕ, refl, sym, ◌∙◌, ◌⊎◌, inl, inr, Bool, true, ⊎_elim}
-use Rattle.std.proofs.lemmas.{Bool.and_parts, Int.by_lt_z}
-use Rattle.std.specs.Prelude.{pos, ◌≤ℤ◌, ◌<ℤ◌, ◌&&◌}
-use Rattle.qh_model.proofs.Decisions.{told, holds, less_or_not}
-use Rattle.qh_model.proofs.algebra.Signs.{not_less, equal_le, equal_nonpos}
+use Rattle.qh_model.proofs.Common.{IsSound, Side, Surface, IsWhole, end, rise, Weighted, In, IsConeUnseen, far, ◌≡◌, ℕ, refl, sym, ◌∙◌, ◌⊎◌, inl, inr, Bool}
+use Rattle.qh_model.proofs.Common.{true, ⊎_elim, and_parts, by_lt_z, pos, ◌≤ℤ◌, ◌<ℤ◌, ◌&&◌}
+use Rattle.qh_model.specs.contract.Surface.{start}
+use Rattle.qh_model.proofs.{Decisions.told, Decisions.holds, Decisions.less_or_not, algebra.Signs.not_less, algebra.Signs.equal_le, algebra.Signs.equal_nonpos}
 use Rattle.qh_model.proofs.surfaces.Cone.{KeptOf, ConeOf, Replaced, cone_rise, kept_rise, cone_inside}
-use Rattle.qh_model.proofs.surfaces.{ConePlanes.apex_blind, ConePlanes.apex_seen, Connected.Grown}
-use Rattle.qh_model.proofs.surfaces.{Connected.sees, Connected.connected, Connected.cert, Determinants.above-third, Facets.corner_rest}
+use Rattle.qh_model.proofs.surfaces.{ConePlanes.apex_blind, ConePlanes.apex_seen, Determinants.above-third, Facets.corner_rest}
+use Rattle.qh_model.proofs.surfaces.Connected.{Grown, sees, connected, cert}
 
 -- THEOREM: q sees no kept facet, if it saw a removed one and sees no facet of the cone
 pub dropped_stay_unseen : (m : Surface) (home : ℕ → Weighted) (o : Weighted) → IsWhole m → IsSound m home o

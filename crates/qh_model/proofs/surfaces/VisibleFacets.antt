@@ -1,12 +1,10 @@
 -- The facets that see a point are connected: no group of them is separated from a first one.
-use Rattle.qh_model.specs.{contract.Weighted.Weighted, contract.Weighted.above, contract.Weighted.weighted_dot, headline.Sets.In}
-use Rattle.std.proofs.Common.{◌≡◌, refl, List, [], ◌∷◌, arith, ap, sym, ◌∙◌, Bool, true, false, ◌⊎◌, inl, inr, ⊎_elim, subst}
-use Rattle.std.proofs.lemmas.Int.{ints, by_lt_z}
-use Rattle.std.specs.Prelude.{ℤ, pos, ◌+ℤ◌, ◌-ℤ◌, ◌*ℤ◌, neg_ℤ, ◌≤ℤ◌, ◌<ℤ◌}
+use Rattle.qh_model.proofs.Common.{Weighted, above, weighted_dot, In, ◌≡◌, refl, List, [], ◌∷◌, arith, ap, sym, ◌∙◌, Bool, true, false, ◌⊎◌, inl, inr, ⊎_elim}
+use Rattle.qh_model.proofs.Common.{subst, ints, by_lt_z, ℤ, pos, ◌+ℤ◌, ◌-ℤ◌, ◌*ℤ◌, neg_ℤ, ◌≤ℤ◌, ◌<ℤ◌}
 use Rattle.qh_model.proofs.Members.{each_more}
 use Rattle.qh_model.proofs.algebra.Order.{mul-nonneg_nonpos, mul-nonpos, mul-pos, cancel-pos, mul-neg_pos, neg-positive, product_zero, positive_le, negative_le}
+use Rattle.qh_model.proofs.surfaces.{CramersRule.cramer, CramersRule.line_product, Determinants.above-turn, Determinants.above-flip}
 use Rattle.qh_model.proofs.algebra.{Ring.ring, Ring.Expr.var, Ring.Expr.add, Ring.Expr.sub as less, Ring.Expr.mul, Ring.Expr.neg, Signs.not_less}
-use Rattle.qh_model.proofs.surfaces.{CramersRule.cramer, Determinants.above-turn, Determinants.above-flip, CramersRule.line_product}
 
 -- three corners
 pub record Corners : Type 0 where

@@ -1,9 +1,8 @@
 -- Joined lines and spaced words, split again.
-use Rattle.std.proofs.Common.{◌≡◌, ℕ, suc, ◌+◌, ◌<◌, ◌==◌, Bool, true, false, cond, refl, List, [], ◌∷◌, ◌++◌, length, map, filter, append_assoc, arith, sym}
-use Rattle.std.proofs.{Common.ap, Common.◌∙◌, Common.ne_eqb, lemmas.List.Splits.slice_split-cons_yes, lemmas.List.Splits.slice_split-cons_no}
+use Rattle.qh_model.proofs.Common.{◌≡◌, ℕ, suc, ◌+◌, ◌<◌, ◌==◌, Bool, true, false, cond, refl, List, [], ◌∷◌, ◌++◌, length, map, filter, append_assoc, arith}
+use Rattle.qh_model.proofs.Common.{sym, ap, ◌∙◌, ne_eqb, before_hash, line, Word, is_blank, is_word, lines_of, words_of, on_line, words_from}
+use Rattle.std.proofs.lemmas.List.Splits.{slice_split-cons_yes, slice_split-cons_no}
 use Rattle.std.specs.List.{AllByRecursion as Every, slice_split, onto_first, flat_map}
-use Rattle.qh_model.specs.headline.{OffFile.before_hash, Text.line}
-use Rattle.qh_model.specs.headline.Words.{Word, is_blank, is_word, lines_of, words_of, on_line, words_from}
 use Rattle.qh_model.proofs.{Members.every_map, texts.Decimals.IsOfNumber, texts.Decimals.IsNumberWord}
 
 -- ---- splitting

@@ -1,10 +1,8 @@
 -- The text of vertices and faces, read as an OFF file.
-use Rattle.std.proofs.Common.{◌≡◌, ℕ, ◌+◌, ◌≤◌, refl, List, [], ◌∷◌, ◌++◌, length, map, append_assoc, arith, ap, ap₂, ◌∙◌, decimal}
+use Rattle.qh_model.proofs.Common.{◌≡◌, ℕ, ◌+◌, ◌≤◌, refl, List, [], ◌∷◌, ◌++◌, length, map, append_assoc, arith, ap, ap₂, ◌∙◌, decimal, BYTE_LIMIT}
+use Rattle.qh_model.proofs.Common.{IsCoordinate, read_digits, number_of, before_hash, off_words, ReadsOff, coordinates, line, spaced, vertex_text, Vector, Word}
+use Rattle.qh_model.proofs.Common.{lines_of, words_of, on_line, words_from, CanBeRead}
 use Rattle.std.specs.{Fmt.signed_decimal, List.AllByRecursion as Every, List.flat_map, Prelude.ℤ, Prelude.pos, Prelude.codes, Prelude.Some}
-use Rattle.qh_model.specs.{declared.limits.TheConstants.BYTE_LIMIT, headline.Limits.IsCoordinate, headline.Numbers.read_digits}
-use Rattle.qh_model.specs.headline.{Numbers.number_of, OffFile.before_hash, OffFile.off_words, OffFile.ReadsOff, PointFile.coordinates, Text.line, Text.spaced}
-use Rattle.qh_model.specs.headline.{Text.vertex_text, Vector.Vector, Words.Word, Words.lines_of, Words.words_of, Words.on_line, Words.words_from}
-use Rattle.qh_model.specs.laws.RoundTrip.{CanBeRead}
 use Rattle.qh_model.proofs.texts.Decimals.{decimal_digits, number_of_digits, number_of_decimal, number_of_signed, decimal_word, signed_word}
 use Rattle.qh_model.proofs.texts.Lines.{Clear, ends_line, first_line, joined_lines, words_from-append, three, three_in_line, three_words}
 

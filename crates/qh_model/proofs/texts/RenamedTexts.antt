@@ -1,13 +1,10 @@
 -- The text of faces, computed from the points of the extreme ids, is that of the set.
-use Rattle.std.proofs.Common.{◌≡◌, ℕ, suc, refl, List, [], ◌∷◌, ◌++◌, map, sym, ap, ap₂, ◌∙◌, inl, inr, eq-eqb, ne_eqb}
-use Rattle.std.proofs.{Common.get_or, Common.decimal, lemmas.List.length-map, lemmas.List.map-append, lemmas.List.Folds.flat_map-map}
-use mathlib.Core.Logic.{dite}
-use native.Mathlib.Decide.{ℕ_discrete}
-use Rattle.std.specs.{List.flat_map}
-use Rattle.qh_model.specs.headline.{Fan.triangles_along, Fan.fan, Fan.fans, Hull.BodyValue, Predicates.place, Sets.In, Sets.Members, Text.line, Text.spaced}
-use Rattle.qh_model.specs.headline.{Text.vertex_number, Text.vertex_text, Text.face_text, Text.off_text, Vector.Vector}
-use Rattle.qh_model.proofs.renamed.{Bodies.renamed_body, Lists.AreWithin}
-use Rattle.qh_model.proofs.renamed.Positions.{vertex_numbers, points_of, at_number, point_at}
+use Rattle.qh_model.proofs.Common.{◌≡◌, ℕ, suc, refl, List, [], ◌∷◌, ◌++◌, map, sym, ap, ap₂, ◌∙◌, inl, inr, eq-eqb, ne_eqb, get_or, decimal, length-map}
+use Rattle.qh_model.proofs.Common.{map-append, dite, ℕ_discrete, flat_map, triangles_along, fan, fans, BodyValue, place, In, Members, line, spaced}
+use Rattle.qh_model.proofs.Common.{vertex_number, vertex_text, face_text, off_text, Vector}
+use Rattle.std.proofs.lemmas.List.Folds.{flat_map-map}
+use Rattle.qh_model.proofs.renamed.{Bodies.renamed_body, Positions.vertex_numbers, Positions.points_of, Positions.at_number, Positions.point_at}
+use Rattle.qh_model.proofs.renamed.Lists.{AreWithin}
 
 -- joined texts are the same if they are the same for each member
 pub flat_map_same : {X : Type 0} (s t : X → List ℕ) (xs : List X) → ((x : X) → In x xs → s x ≡ t x) → flat_map s xs ≡ flat_map t xs

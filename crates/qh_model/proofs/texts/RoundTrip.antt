@@ -1,18 +1,16 @@
 -- An OFF file that is written is read as the extreme points, which are written as the same bytes.
-use Rattle.std.proofs.Common.{◌≡◌, ℕ, ◌≤◌, List, [], ◌∷◌, ◌++◌, length, map, sym, ap, subst, ◌∙◌}
-use Rattle.std.proofs.lemmas.List.{length-map, append-nil, Folds.flat_map-map}
-use Rattle.std.specs.List.{flat_map}
-use Rattle.qh_model.specs.declared.{limits.TheConstants.BYTE_LIMIT, out.Out.Out}
-use Rattle.qh_model.specs.declared.out.Out.TheVariants.{Rank, Summary, Fx, Off, OffTriangles}
-use Rattle.qh_model.specs.headline.{Extreme.Extreme, Fan.fan, Fan.fans, Fan.edge_count, Hull.BodyValue, Hull.HullValue, Hull.IsHull, OffFile.ReadsOff}
-use Rattle.qh_model.specs.headline.{Predicates.place, Sets.Members, Text.vertex_text, Text.vertex_number, Text.face_text, Text.off_text, Text.in_triangles}
-use Rattle.qh_model.specs.headline.{Text.output_text, Text.hull_text, Vector.Vector}
-use Rattle.qh_model.specs.laws.RoundTrip.{CanBeRead, IsOffOutput, extreme_points, IsReadAsExtremePoints, ExtremePointsHaveText, IsWrittenAgain}
-use Rattle.qh_model.proofs.{DistinctIds.distinct_apart, hulls.ExtremePoints.extreme_points_can_be_read, hulls.OfExtremes.body_of_extremes}
-use Rattle.qh_model.proofs.{hulls.Unique.edge_count_is_unique, hulls.Unique.hull_is_unique, lists.Joined.of_flat_map, polygons.EdgeCounts.edges_are_counted}
-use Rattle.qh_model.proofs.{polygons.Fans.fan_members, renamed.Bodies.polygon_members, renamed.Bodies.renamed_body, renamed.Edges.edge_count_renamed}
-use Rattle.qh_model.proofs.renamed.{Lists.AreWithin, Positions.points_of, Positions.by_position, Positions.hull_of_extremes, Positions.extreme_points_have_hull}
-use Rattle.qh_model.proofs.texts.{OffTexts.surface_text, OffTexts.reads_surface, RenamedTexts.fans-map, RenamedTexts.off_text_renamed}
+use Rattle.qh_model.proofs.Common.{◌≡◌, ℕ, ◌≤◌, List, [], ◌∷◌, ◌++◌, length, map, sym, ap, subst, ◌∙◌, length-map, append-nil, flat_map, BYTE_LIMIT, Out, Rank}
+use Rattle.qh_model.proofs.Common.{Summary, Fx, OffTriangles, Extreme, fan, fans, edge_count, BodyValue, HullValue, IsHull, ReadsOff, place, Members}
+use Rattle.qh_model.proofs.Common.{vertex_text, vertex_number, face_text, off_text, output_text, hull_text, Vector, CanBeRead}
+use Rattle.std.proofs.lemmas.List.Folds.{flat_map-map}
+use Rattle.qh_model.specs.{declared.out.Out.TheVariants.Off, headline.Text.in_triangles}
+use Rattle.qh_model.specs.laws.RoundTrip.{IsOffOutput, extreme_points, IsReadAsExtremePoints, ExtremePointsHaveText, IsWrittenAgain}
+use Rattle.qh_model.proofs.{DistinctIds.distinct_apart, lists.Joined.of_flat_map, polygons.Fans.fan_members, renamed.Edges.edge_count_renamed}
+use Rattle.qh_model.proofs.{hulls.ExtremePoints.extreme_points_can_be_read, hulls.OfExtremes.body_of_extremes, polygons.EdgeCounts.edges_are_counted}
+use Rattle.qh_model.proofs.{hulls.Unique.edge_count_is_unique, hulls.Unique.hull_is_unique, texts.RenamedTexts.fans-map, texts.RenamedTexts.off_text_renamed}
+use Rattle.qh_model.proofs.{renamed.Bodies.polygon_members, renamed.Bodies.renamed_body, texts.OffTexts.surface_text, texts.OffTexts.reads_surface}
+use Rattle.qh_model.proofs.renamed.Lists.{AreWithin}
+use Rattle.qh_model.proofs.renamed.Positions.{points_of, by_position, hull_of_extremes, extreme_points_have_hull}
 
 -- ---- reading
 -- the text of a body's faces, by its vertices

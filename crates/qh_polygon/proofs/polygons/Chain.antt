@@ -1,10 +1,9 @@
 -- The chain of a rising list: its edges have all processed ids on their left, and it turns left at each corner.
-use Rattle.std.proofs.Common.{◌≡◌, ℕ, refl, List, [], ◌∷◌, arith, ap, sym, subst, ◌⊎◌, inl, inr, true, false, cond}
-use Rattle.std.proofs.lemmas.Int.{ints, by_lt_z}
-use Rattle.std.specs.{Cmp.int_ranks, Ordering.MatchOrdering, Ordering.is_gt, Prelude.ℤ, Prelude.pos, Prelude.◌≤ℤ◌, Prelude.◌<ℤ◌, Prelude.◌↔◌}
-use Rattle.std.specs.declared.cmp.Ordering.TheVariants.{Less, Equal, Greater}
+use Rattle.qh_model.proofs.Common.{◌≡◌, ℕ, refl, List, [], ◌∷◌, arith, ap, sym, subst, ◌⊎◌, inl, inr, true, false, cond, ints, by_lt_z, is_gt, ℤ, pos, ◌≤ℤ◌}
+use Rattle.qh_model.proofs.Common.{◌<ℤ◌, ◌↔◌, In}
+use Rattle.std.specs.{Cmp.int_ranks, declared.cmp.Ordering.TheVariants.Less, declared.cmp.Ordering.TheVariants.Equal, declared.cmp.Ordering.TheVariants.Greater}
+use Rattle.std.specs.Ordering.{MatchOrdering}
 use Rattle.qh_model.proofs.algebra.{Order.le_antisym, Order.positive_le, Signs.not_less, Signs.less_le, Signs.equal_le}
-use Rattle.qh_model.specs.headline.Sets.{In}
 use Rattle.qh_pred.specs.contract.Turns.{sign}
 use Rattle.qh_polygon.specs.steps.Chains.{is_left, kept_below, chain}
 use Rattle.qh_polygon.proofs.polygons.TurnLaws.{RisesBy, TurnLaws, TurnsAt, HasOnLeft, IsChain, Added, chain_top}

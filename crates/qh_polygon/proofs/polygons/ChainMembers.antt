@@ -1,8 +1,5 @@
 -- The members of a chain, and the ids under its edges.
-use Rattle.std.proofs.Common.{◌≡◌, ℕ, refl, List, [], ◌∷◌, arith, sym, subst, ◌⊎◌, inl, inr}
-use Rattle.std.proofs.lemmas.Int.{ints, by_lt_z}
-use Rattle.std.specs.Prelude.{ℤ, pos, ◌≤ℤ◌, ◌<ℤ◌}
-use Rattle.qh_model.specs.headline.Sets.{In, Once}
+use Rattle.qh_model.proofs.Common.{◌≡◌, ℕ, refl, List, [], ◌∷◌, arith, sym, subst, ◌⊎◌, inl, inr, ints, by_lt_z, ℤ, pos, ◌≤ℤ◌, ◌<ℤ◌, In, Once}
 use Rattle.qh_model.proofs.algebra.{Order.le_antisym, Signs.less_differ, Signs.not_less}
 use Rattle.qh_polygon.proofs.polygons.{Cycles.bottom, TurnLaws.HasOnLeft, TurnLaws.IsChain, TurnLaws.chain_top}
 

@@ -1,8 +1,7 @@
 -- In one plane, a turn computed from one component of the normal is to the left exactly if the turn itself is; so both have the same chains.
-use Rattle.std.proofs.Common.{◌≡◌, ◌≢◌, ℕ, List, [], ◌∷◌, ap, sym, ◌∙◌, refl, inl, inr, true, false, cond, reverse, subst, ⊎_elim}
-use Rattle.std.specs.{Ordering.is_gt, Prelude.ℤ, Prelude.pos}
+use Rattle.qh_model.proofs.Common.{◌≡◌, ◌≢◌, ℕ, List, [], ◌∷◌, ap, sym, ◌∙◌, refl, inl, inr, true, false, cond, reverse, subst, ⊎_elim, is_gt, ℤ, pos, place}
+use Rattle.qh_model.proofs.Common.{In, Vector, origin, dot}
 use Rattle.qh_model.proofs.algebra.Signs.{less_differ}
-use Rattle.qh_model.specs.headline.{Predicates.place, Sets.In, Vector.Vector, Vector.origin, Vector.dot}
 use Rattle.qh_pred.proofs.Turns.{turn_sign}
 use Rattle.qh_polygon.proofs.polygons.{Cycles.turned_onto-in, Stacks.reverse-turned_onto, Turns.IsFlat, Turns.turn_about}
 use Rattle.qh_polygon.specs.steps.Chains.{turn_of, is_left, kept_below, chain, joined}

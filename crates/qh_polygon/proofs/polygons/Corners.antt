@@ -1,13 +1,11 @@
 -- Corners: members that are beyond all others in some direction. No three of them are in line.
-use Rattle.std.proofs.Common.{◌≡◌, ◌≢◌, ℕ, refl, [], ◌∷◌, arith, sym, subst, ◌∙◌}
-use Rattle.std.proofs.lemmas.Int.{ints, by_lt_z}
-use Rattle.std.specs.Prelude.{ℤ, pos, ◌+ℤ◌, ◌-ℤ◌, ◌*ℤ◌, ◌≤ℤ◌, ◌<ℤ◌}
+use Rattle.qh_model.proofs.Common.{◌≡◌, ◌≢◌, ℕ, refl, [], ◌∷◌, arith, sym, subst, ◌∙◌, ints, by_lt_z, ℤ, pos, ◌+ℤ◌, ◌-ℤ◌, ◌*ℤ◌, ◌≤ℤ◌, ◌<ℤ◌, Extreme, Others}
+use Rattle.qh_model.proofs.Common.{cross, Vector, minus, cross_product, dot}
 use Rattle.qh_model.proofs.algebra.Order.{le_antisym, mul-pos, cancel-nonpos, cancel-zero, le_less}
-use Rattle.qh_model.proofs.algebra.{Ring.ring, Ring.Expr.var, Ring.Expr.add, Ring.Expr.sub as less, Ring.Expr.mul, Signs.opposite_zero, Signs.gap_positive}
 use Rattle.qh_model.proofs.algebra.VectorIdentities.{vec, subE, crossE, dotE, put, dot-minus, left-flip}
 use Rattle.qh_model.proofs.combinations.Alternatives.{all_lower}
-use Rattle.qh_model.specs.headline.{Extreme.Extreme, Extreme.Others, Predicates.cross, Predicates.left}
-use Rattle.qh_model.specs.headline.Vector.{Vector, minus, cross_product, dot}
+use Rattle.qh_model.proofs.algebra.{Ring.ring, Ring.Expr.var, Ring.Expr.add, Ring.Expr.sub as less, Ring.Expr.mul, Signs.opposite_zero, Signs.gap_positive}
+use Rattle.qh_model.specs.headline.Predicates.{left}
 use Rattle.qh_polygon.proofs.{PlaneDirections.bracket, PlaneDirections.bracketE, PlaneDirections.bracket-fan, polygons.TurnLaws.HasOnLeft}
 use Rattle.qh_polygon.proofs.polygons.Turns.{IsFlat, IsKeyed, turn_about, height_of, step, forward, left-middle, left-bracket, left-swap}
 

@@ -1,7 +1,5 @@
 -- Cyclic lists: made from two stacks, and rotated.
-use Rattle.std.proofs.Common.{◌≡◌, ℕ, refl, List, [], ◌∷◌, ◌++◌, sym, subst, ◌⊎◌, inl, inr}
-use Rattle.std.proofs.lemmas.List.{append-nil}
-use Rattle.qh_model.specs.headline.Sets.{In, Once}
+use Rattle.qh_model.proofs.Common.{◌≡◌, ℕ, refl, List, [], ◌∷◌, ◌++◌, sym, subst, ◌⊎◌, inl, inr, append-nil, In, Once}
 use Rattle.qh_model.proofs.polygons.Cycles.{AlongPath, AroundCycle}
 use Rattle.qh_polygon.specs.steps.Chains.{turned_onto}
 use Rattle.qh_polygon.proofs.polygons.Sides.{Down}

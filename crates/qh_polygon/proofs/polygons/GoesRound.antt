@@ -1,12 +1,9 @@
 -- The list that goes round the extremes, from a rising list and its reverse.
-use Rattle.std.proofs.Common.{ℕ, List, [], ◌∷◌, ◌++◌, arith, sym, subst, inl, inr, ⊎_elim}
-use Rattle.std.proofs.lemmas.Int.{ints}
-use Rattle.std.specs.Prelude.{◌≤ℤ◌, ◌<ℤ◌, ◌↔◌}
-use Rattle.qh_model.specs.headline.{Extreme.Extreme, Polygon.TurnsLeft, Sets.In, Sets.Once, Vector.Vector}
-use Rattle.qh_model.proofs.{algebra.VectorIdentities.opposite, lists.Joined.in_append, lists.Joined.of_append, lists.Joined.once_append}
-use Rattle.qh_model.proofs.polygons.Cycles.{AroundCycle, cycle_map}
-use Rattle.qh_polygon.proofs.polygons.{Chain.chain-good, Cycles.cycle-rotate, TurnLaws.RisesBy, TurnLaws.IsChain}
-use Rattle.qh_polygon.proofs.polygons.Turns.{IsFlat, IsKeyed, turn_about, height_of, turn_laws}
+use Rattle.qh_model.proofs.Common.{ℕ, List, [], ◌∷◌, ◌++◌, arith, sym, subst, inl, inr, ⊎_elim, ints, ◌≤ℤ◌, ◌<ℤ◌, ◌↔◌, Extreme, TurnsLeft, In, Once, Vector}
+use Rattle.qh_model.proofs.algebra.VectorIdentities.{opposite}
+use Rattle.qh_model.proofs.{lists.Joined.in_append, lists.Joined.of_append, lists.Joined.once_append, polygons.Cycles.AroundCycle, polygons.Cycles.cycle_map}
+use Rattle.qh_polygon.proofs.polygons.{Chain.chain-good, Cycles.cycle-rotate}
+use Rattle.qh_polygon.proofs.polygons.{TurnLaws.RisesBy, TurnLaws.IsChain, Turns.IsFlat, Turns.IsKeyed, Turns.turn_about, Turns.height_of, Turns.turn_laws}
 use Rattle.qh_polygon.proofs.polygons.TwoChains.{keyed_opposite, Chains, ring_members, ring_once, ring_round}
 use Rattle.qh_polygon.specs.steps.Chains.{chain, turned_onto, joined}
 

@@ -1,7 +1,6 @@
 -- A cycle that is rotated to its least id begins with it.
-use Rattle.std.proofs.Common.{◌≡◌, ℕ, zero, suc, ◌<◌, ◌≤◌, List, [], ◌∷◌, ◌++◌, length, get_or, take, drop, arith, sym, subst, inr, drop-cons}
-use Rattle.std.proofs.{lemmas.List.take-append-drop}
-use Rattle.qh_model.specs.headline.{Extreme.Extreme, Polygon.IsPolygon, Polygon.TurnsLeft, Sets.In, Sets.BeginsWithLeast, Vector.Vector}
+use Rattle.qh_model.proofs.Common.{◌≡◌, ℕ, zero, suc, ◌<◌, ◌≤◌, List, [], ◌∷◌, ◌++◌, length, get_or, take, drop, arith, sym, subst, inr, drop-cons}
+use Rattle.qh_model.proofs.Common.{take-append-drop, Extreme, IsPolygon, TurnsLeft, In, BeginsWithLeast, Vector}
 use Rattle.qh_model.proofs.{Members.in_at, polygons.Cycles.round_holds}
 use Rattle.qh_polygon.proofs.polygons.GoesRound.{GoesRound, goes_round-rotate, in-rotate}
 

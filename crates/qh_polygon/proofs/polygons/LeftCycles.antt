@@ -1,12 +1,8 @@
 -- A cycle that turns left at each member is the polygon of its members: each of them is a corner.
-use Rattle.std.proofs.Common.{◌≡◌, ◌≢◌, ◌⊎◌, ℕ, List, [], ◌∷◌, inl, inr, arith, refl, sym, ap, subst, ◌∙◌, ⊎_elim}
-use Rattle.std.proofs.lemmas.Int.{ints}
-use Rattle.std.specs.Prelude.{pos, ◌<ℤ◌, ◌↔◌}
-use mathlib.Core.Logic.{dite}
-use native.Mathlib.Decide.{ℕ_discrete}
+use Rattle.qh_model.proofs.Common.{◌≡◌, ◌≢◌, ◌⊎◌, ℕ, List, [], ◌∷◌, inl, inr, arith, refl, sym, ap, subst, ◌∙◌, ⊎_elim, ints, pos, ◌<ℤ◌, ◌↔◌, dite, ℕ_discrete}
+use Rattle.qh_model.proofs.Common.{Extreme, IsPolygon, TurnsLeft, In, Once, BeginsWithLeast, Vector, minus, cross_product}
 use Rattle.qh_model.proofs.{algebra.VectorIdentities.left-turn, polygons.Cycles.AlongPath, polygons.Cycles.AroundCycle, polygons.Cycles.round_holds}
-use Rattle.qh_model.specs.headline.{Extreme.Extreme, Polygon.IsPolygon, Polygon.TurnsLeft, Predicates.left, Sets.In, Sets.Once, Sets.BeginsWithLeast}
-use Rattle.qh_model.specs.headline.Vector.{Vector, minus, cross_product}
+use Rattle.qh_model.specs.headline.Predicates.{left}
 use Rattle.qh_polygon.proofs.polygons.{Corners.Corner, Corners.corner_eq, Corners.corner_extreme, Turns.left-back, Turns.left-there, Turns.left-swap}
 
 -- the list has a member other than any two numbers

@@ -1,9 +1,7 @@
 -- The number of a place as a height: the numbers are ordered along one direction.
-use Rattle.std.proofs.{Common.◌≡◌, Common.ℕ, Common.◌+◌, Common.◌*◌, Common.◌<◌, Common.List, Common.arith, lemmas.Int.ints}
-use Rattle.std.specs.{List.All, Prelude.ℤ, Prelude.pos, Prelude.◌+ℤ◌, Prelude.◌*ℤ◌, Prelude.◌<ℤ◌}
+use Rattle.qh_model.proofs.Common.{◌≡◌, ℕ, ◌+◌, ◌*◌, ◌<◌, List, arith, ints, All, ℤ, pos, ◌+ℤ◌, ◌*ℤ◌, ◌<ℤ◌, HasDistinctPoints, IsPlace, place, In, Vector, dot}
 use Rattle.qh_model.proofs.Members.{All-In}
-use Rattle.qh_model.specs.{contract.IdSets.HasDistinctPoints, contract.Places.IsPlace, declared.limits.TheConstants.COORDINATE_LIMIT}
-use Rattle.qh_model.specs.headline.{Predicates.place, Sets.In, Vector.Vector, Vector.dot}
+use Rattle.qh_model.specs.declared.limits.TheConstants.{COORDINATE_LIMIT}
 use Rattle.qh_polygon.proofs.{PlaceOrder.place_code-same, polygons.Turns.IsKeyed}
 use Rattle.qh_polygon.specs.{declared.place_keys.TheConstants.ROOM, contract.PlaceNumbers.biased, contract.PlaceNumbers.place_code, contract.PlaceKeys.HasKey}
 

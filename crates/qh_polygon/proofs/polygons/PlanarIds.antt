@@ -1,13 +1,9 @@
 -- Ids in one plane: they are flat across their normal, and three of them, so at least two, are not in line.
-use Rattle.std.proofs.Common.{◌≡◌, ◌≢◌, ℕ, ◌<◌, List, [], length, arith, ap, sym, ◌∙◌, refl, inl, inr, ⊎_elim}
-use Rattle.std.proofs.{Common.get_or, lemmas.Bool.cases_lt, lemmas.Int.ints}
-use Rattle.std.specs.Prelude.{pos, neg_ℤ}
-use Rattle.qh_model.proofs.Members.{in_at}
-use Rattle.qh_model.proofs.algebra.{Ring.ring, Ring.Expr.con, Ring.Expr.sub as less, Ring.Expr.neg, Signs.opposite_zero}
+use Rattle.qh_model.proofs.Common.{◌≡◌, ◌≢◌, ℕ, ◌<◌, List, [], length, arith, ap, sym, ◌∙◌, refl, inl, inr, ⊎_elim, get_or, cases_lt, ints, pos, neg_ℤ}
+use Rattle.qh_model.proofs.Common.{HasTriangle, place, cross, In, Members, Vector, origin, minus, dot}
+use Rattle.qh_model.proofs.{Members.in_at, extremes.Dimensions.segment_of_triangle, extremes.Directions.square-positive}
 use Rattle.qh_model.proofs.algebra.VectorIdentities.{vec, dotE, put, vector_path, vol-dot}
-use Rattle.qh_model.proofs.extremes.{Dimensions.segment_of_triangle, Directions.square-positive}
-use Rattle.qh_model.specs.headline.{Dimension.HasTriangle, Predicates.place, Predicates.cross, Sets.In, Sets.Members}
-use Rattle.qh_model.specs.headline.Vector.{Vector, origin, minus, dot}
+use Rattle.qh_model.proofs.algebra.{Ring.ring, Ring.Expr.con, Ring.Expr.sub as less, Ring.Expr.neg, Signs.opposite_zero}
 use Rattle.qh_polygon.proofs.{LinesAndPlanes.between_eq, LinesAndPlanes.none, polygons.Turns.IsFlat}
 use Rattle.qh_polygon.specs.contract.PlanarSets.{IsPlanarSet}
 

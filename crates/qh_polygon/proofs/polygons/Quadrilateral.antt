@@ -1,8 +1,7 @@
 -- The polygon of four points that turn left one after the other.
-use Rattle.std.proofs.Common.{◌≡◌, ◌≢◌, ℕ, ◌<◌, List, [], ◌∷◌, arith, sym, subst, ◌∙◌, inl, inr, refl, length, get_or, true}
-use Rattle.std.proofs.{Math.Nat.ne_of_lt, lemmas.Bool.and_parts, lemmas.Grind.common_steps}
-use Rattle.std.specs.Prelude.{pos, ◌<ℤ◌, ◌↔◌}
-use Rattle.qh_model.specs.headline.{Extreme.Extreme, Polygon.IsPolygon, Predicates.place, Predicates.left, Sets.In, Sets.Members, Vector.Vector}
+use Rattle.qh_model.proofs.Common.{◌≡◌, ◌≢◌, ℕ, ◌<◌, List, [], ◌∷◌, arith, sym, subst, ◌∙◌, inl, inr, refl, length, get_or, true, ne_of_lt, and_parts}
+use Rattle.qh_model.proofs.Common.{common_steps, pos, ◌<ℤ◌, ◌↔◌, Extreme, IsPolygon, place, In, Members, Vector}
+use Rattle.qh_model.specs.headline.Predicates.{left}
 use Rattle.qh_polygon.proofs.polygons.{Chain.is_left-yes, ComponentTurns.turns_agree, LeftCycles.cycle_polygon, LeftCycles.side_of, LeftCycles.third_of}
 use Rattle.qh_polygon.proofs.polygons.PlanarIds.{flat_of}
 use Rattle.qh_polygon.specs.{contract.PlanarSets.IsPlanarSet, steps.Chains.is_left, steps.Chains.turn_of, steps.Chains.IsLeftCycle}

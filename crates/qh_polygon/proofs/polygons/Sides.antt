@@ -1,7 +1,5 @@
 -- Sides of the polygon: two corners with all members on the left. The edges of a chain are sides.
-use Rattle.std.proofs.Common.{◌≢◌, ℕ, List, [], ◌∷◌, ap, sym, subst, inl, inr}
-use Rattle.std.specs.Prelude.{◌≤ℤ◌}
-use Rattle.qh_model.specs.headline.{Sets.In, Vector.Vector}
+use Rattle.qh_model.proofs.Common.{◌≢◌, ℕ, List, [], ◌∷◌, ap, sym, subst, inl, inr, ◌≤ℤ◌, In, Vector}
 use Rattle.qh_model.proofs.algebra.Signs.{less_differ}
 use Rattle.qh_polygon.proofs.polygons.{Corners.Corner, Corners.inner, TurnLaws.HasOnLeft, TurnLaws.TurnsAt, TurnLaws.IsChain, TurnLaws.chain_top}
 use Rattle.qh_polygon.proofs.polygons.Turns.{IsFlat, IsKeyed, turn_about, height_of}

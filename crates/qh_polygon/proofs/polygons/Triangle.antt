@@ -1,15 +1,14 @@
 -- The polygon of three points that are not in line.
-use Rattle.std.proofs.Common.{◌≡◌, ◌≢◌, ℕ, ◌<◌, List, [], ◌∷◌, arith, ap, sym, subst, ◌∙◌, inl, inr, true, false, cond, refl, length, get_or}
-use Rattle.std.proofs.{Math.Nat.ne_of_lt, lemmas.Grind.common_steps, lemmas.Int.ints}
-use Rattle.std.specs.Prelude.{ℤ, pos, ◌*ℤ◌, ◌<ℤ◌, ◌↔◌}
+use Rattle.qh_model.proofs.Common.{◌≡◌, ◌≢◌, ℕ, ◌<◌, List, [], ◌∷◌, arith, ap, sym, subst, ◌∙◌, inl, inr, true, false, cond, refl, length, get_or, ne_of_lt}
+use Rattle.qh_model.proofs.Common.{common_steps, ints, ℤ, pos, ◌*ℤ◌, ◌<ℤ◌, ◌↔◌, Extreme, IsPolygon, place, cross, AreInLine, In, Members, Vector, origin, minus}
+use Rattle.qh_model.proofs.Common.{dot}
 use Rattle.qh_model.proofs.algebra.{Integers.zero_mul, Order.cancel-zero, Order.le_less}
 use Rattle.qh_model.proofs.algebra.VectorIdentities.{vector_path, left-dot, left-turn, left-flip, in_line-twice, in_line-last, dot_comm}
 use Rattle.qh_model.proofs.extremes.Directions.{Parallel, parallel_normal, in_line-flip, square-positive}
-use Rattle.qh_model.specs.headline.{Extreme.Extreme, Polygon.IsPolygon, Predicates.place, Predicates.cross, Predicates.left, Predicates.AreInLine, Sets.In}
-use Rattle.qh_model.specs.headline.{Sets.Members, Vector.Vector, Vector.origin, Vector.minus, Vector.dot}
-use Rattle.qh_polygon.proofs.LinesAndPlanes.{three_line, same_point}
-use Rattle.qh_polygon.proofs.polygons.{Chain.is_left-yes, Chain.is_left-no, ComponentTurns.turns_agree, LeftCycles.cycle_polygon, LeftCycles.side_of}
-use Rattle.qh_polygon.proofs.polygons.{LeftCycles.third_of, PlanarIds.flat_of, Turns.IsFlat}
+use Rattle.qh_model.specs.headline.Predicates.{left}
+use Rattle.qh_polygon.proofs.{LinesAndPlanes.three_line, LinesAndPlanes.same_point, polygons.Chain.is_left-yes, polygons.Chain.is_left-no}
+use Rattle.qh_polygon.proofs.polygons.{ComponentTurns.turns_agree, LeftCycles.cycle_polygon, LeftCycles.side_of, LeftCycles.third_of}
+use Rattle.qh_polygon.proofs.polygons.{PlanarIds.flat_of, Turns.IsFlat}
 use Rattle.qh_polygon.specs.{contract.PlanarSets.IsPlanarSet, steps.Chains.is_left, steps.Chains.turn_of, steps.Chains.triangle}
 
 -- three members that turn left, beginning with the least, are their polygon

@@ -1,6 +1,5 @@
 -- The laws of the sign of a turn, and stacks that have all processed ids on their left.
-use Rattle.std.proofs.Common.{◌≡◌, ℕ, List, [], ◌∷◌, ◌⊎◌}
-use Rattle.std.specs.Prelude.{ℤ, pos, neg_ℤ, ◌≤ℤ◌, ◌<ℤ◌}
+use Rattle.qh_model.proofs.Common.{◌≡◌, ℕ, List, [], ◌∷◌, ◌⊎◌, ℤ, pos, neg_ℤ, ◌≤ℤ◌, ◌<ℤ◌}
 
 -- the keys rise from t along the list
 abbrev pub RisesBy : (ℕ → ℤ) → ℕ → List ℕ → Type 0

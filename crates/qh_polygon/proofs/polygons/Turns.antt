@@ -1,9 +1,8 @@
 -- Turns of points of one plane, and their laws.
-use Rattle.std.proofs.{Common.◌∙◌, Common.◌≡◌, Common.ℕ, Common.refl, Common.[], Common.arith, Common.sym, Common.subst, lemmas.Int.ints}
-use Rattle.std.specs.Prelude.{ℤ, pos, neg_ℤ, ◌≤ℤ◌, ◌<ℤ◌}
+use Rattle.qh_model.proofs.Common.{◌∙◌, ◌≡◌, ℕ, refl, [], arith, sym, subst, ints, ℤ, pos, neg_ℤ, ◌≤ℤ◌, ◌<ℤ◌, cross, Vector, minus, dot}
 use Rattle.qh_model.proofs.algebra.{Ring.Expr, Ring.ring, Signs.opposite_nonneg}
 use Rattle.qh_model.proofs.algebra.VectorIdentities.{vec, subE, crossE, dotE, put, left-flip, dot-minus, left-turn}
-use Rattle.qh_model.specs.headline.{Predicates.cross, Predicates.left, Vector.Vector, Vector.minus, Vector.dot}
+use Rattle.qh_model.specs.headline.Predicates.{left}
 use Rattle.qh_polygon.proofs.PlaneDirections.{bracket, bracket-fan, fan_sign, fan_sign_left}
 use Rattle.qh_polygon.proofs.polygons.TurnLaws.{TurnLaws}
 

@@ -1,19 +1,15 @@
 -- Two chains, there and back: their members are the extremes, each once, and the cycle turns left.
-use Rattle.std.proofs.Common.{◌≡◌, ℕ, refl, List, [], ◌∷◌, arith, sym, subst, ◌∙◌, ◌⊎◌, inl, inr, ⊎_elim}
-use Rattle.std.proofs.lemmas.Int.{ints, by_lt_z}
-use Rattle.std.specs.Prelude.{pos, neg_ℤ, ◌≤ℤ◌, ◌<ℤ◌, ◌↔◌}
-use Rattle.qh_model.proofs.Decisions.{in_or_not}
+use Rattle.qh_model.proofs.Common.{◌≡◌, ℕ, refl, List, [], ◌∷◌, arith, sym, subst, ◌∙◌, ◌⊎◌, inl, inr, ⊎_elim, ints, by_lt_z, pos, neg_ℤ, ◌≤ℤ◌, ◌<ℤ◌, ◌↔◌}
+use Rattle.qh_model.proofs.Common.{Extreme, Others, TurnsLeft, In, Once, Vector, cross_product, dot, Separator}
+use Rattle.qh_model.proofs.{Decisions.in_or_not, extremes.ExtremeIds.combination_within, extremes.ExtremeIds.alternative_in, extremes.ExtremeIds.listed_itself}
 use Rattle.qh_model.proofs.algebra.{Order.le_antisym, Order.mul-nonneg_nonpos, Order.le_less, Ring.ring, Ring.Expr.neg}
 use Rattle.qh_model.proofs.algebra.Signs.{not_less, opposite_same, neg_le, le_neg, neg_lt, lt_neg}
 use Rattle.qh_model.proofs.algebra.VectorIdentities.{vec, crossE, dotE, put, opposite, oppositeE, dot-opposite}
-use Rattle.qh_model.proofs.extremes.ExtremeIds.{combination_within, alternative_in, listed_itself}
 use Rattle.qh_model.proofs.polygons.Cycles.{AroundCycle, cycle_map}
-use Rattle.qh_model.specs.headline.{Extreme.Extreme, Extreme.Others, Polygon.TurnsLeft, Sets.In, Sets.Once, Vector.Vector, Vector.cross_product, Vector.dot}
-use Rattle.qh_model.specs.laws.Separator.{Separator}
 use Rattle.qh_polygon.proofs.polygons.ChainMembers.{Under, Inside, chain-in, chain-below, chain-once, chain-bottom, under, inside, span}
-use Rattle.qh_polygon.proofs.polygons.Corners.{Corner, greatest_corner, corner_extreme, core, strict}
+use Rattle.qh_polygon.proofs.polygons.{Corners.Corner, Corners.greatest_corner, Corners.corner_extreme, Corners.core, Corners.strict, TurnLaws.IsChain}
 use Rattle.qh_polygon.proofs.polygons.Cycles.{bottom, bottom-in, cycle-of, in-turned_onto, turned_onto-in, once-turned_onto}
-use Rattle.qh_polygon.proofs.polygons.{Sides.Side, Sides.Down, Sides.sides, Sides.down_corner, TurnLaws.IsChain}
+use Rattle.qh_polygon.proofs.polygons.Sides.{Side, Down, sides, down_corner}
 use Rattle.qh_polygon.proofs.polygons.Turns.{IsFlat, IsKeyed, turn_about, height_of, turn_laws}
 use Rattle.qh_polygon.specs.steps.Chains.{turned_onto}
 

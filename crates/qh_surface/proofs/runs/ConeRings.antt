@@ -1,17 +1,15 @@
 -- The rings of large cones: the facts about their wedges, and the meaning of the results of a search.
-use Rattle.std.proofs.Common.{◌≡◌, ℕ, ◌<◌, All, slice_index, arith, ap, sym, ◌∙◌, refl, List, [], ◌∷◌, ◌++◌, length, inl, inr, ℤ, pos, ◌≤ℤ◌, ◌<ℤ◌}
-use Rattle.std.proofs.lemmas.{Int.ints, List.get_or_append_left, List.get_or_push, List.length_push, List.Elements.All-from_get_or}
-use Rattle.qh_model.specs.contract.{FinishedSurface.weighted_at, Surface.IsCorner, StoredSurface.StoredFacet, StoredSurface.facet_at, StoredSurface.surface_of}
-use Rattle.qh_model.specs.{contract.Surface.Side.second, contract.Surface.Side.third, headline.Vector.Vector}
-use Rattle.qh_model.specs.headline.{Predicates.vol, Predicates.place, Sets.In}
-use Rattle.qh_model.proofs.Members.{All-In, All-of, In-get_or, in_at}
+use Rattle.qh_model.proofs.Common.{◌≡◌, ℕ, ◌<◌, All, slice_index, arith, ap, sym, ◌∙◌, refl, List, [], ◌∷◌, ◌++◌, length, inl, inr, ℤ, pos, ◌≤ℤ◌, ◌<ℤ◌, ints}
+use Rattle.qh_model.proofs.Common.{get_or_append_left, get_or_push, length_push, All-from_get_or, weighted_at, IsCorner, StoredFacet, facet_at, surface_of}
+use Rattle.qh_model.proofs.Common.{second, third, Vector, vol, place, In}
+use Rattle.qh_model.proofs.{Members.All-In, Members.All-of, Members.In-get_or, Members.in_at, surfaces.SurfaceLaws.corners_are_settled}
 use Rattle.qh_model.proofs.algebra.VectorIdentities.{vol-flip, vol-flip_last, vol-swap_last}
-use Rattle.qh_model.proofs.surfaces.{ConeRays.between_rays, SurfaceLaws.corners_are_settled}
+use Rattle.qh_model.proofs.surfaces.ConeRays.{between_rays}
 use Rattle.qh_pred.specs.contract.Planes.{PlaneValue, height}
 use Rattle.qh_mesh.specs.contract.{Edges.edge_of, Edges.facet_of, Edges.twin_of, Replacement.IsLive, Replacement.IsReplacement, SoundMesh.facet_vol}
 use Rattle.qh_mesh.proofs.{EdgeSides.edge-facet, EdgeSides.twin-is, Rewiring.in_live, Rewiring.rise-vol, NumberCases.by_le}
-use Rattle.qh_surface.specs.{declared.quickhull.cone_ring.Wedge.Wedge, steps.Planes.plane_at, steps.Runs.IsPlaneOf, steps.Runs.IsGrown}
-use Rattle.qh_surface.specs.steps.Settling.{IsAboveNone}
+use Rattle.qh_surface.specs.{declared.quickhull.cone_ring.Wedge.Wedge, steps.Runs.IsPlaneOf, steps.Runs.IsGrown, steps.Settling.IsAboveNone}
+use Rattle.qh_surface.specs.steps.Planes.{plane_at}
 use Rattle.qh_surface.specs.steps.Cones.{IsFan, apex_of, HasNoCornerAbove, no_wedge, wedge_at, IsWedge, AreWedges, AreTriangles, IsConePlane, IsBetweenRays}
 use Rattle.qh_surface.specs.steps.Cones.{IsAmongRays}
 

@@ -1,9 +1,6 @@
 -- From new facets to the next round, and from the last round to a finished surface.
-use Rattle.std.proofs.Common.{All, ◌≡◌, ℕ, ◌<◌, ◌≤◌, sym, ◌∙◌, refl, inl, inr, List, [], ◌∷◌, length, subst, pos, ◌<ℤ◌}
-use Rattle.qh_model.specs.contract.{FinishedSurface.IsFinished, StoredSurface.StoredFacet, StoredSurface.surface_of}
-use Rattle.qh_model.specs.{contract.ClosedSurface.signed_volume, contract.ClosedSurface.triples_from, headline.Vector.Vector, headline.Vector.origin}
-use Rattle.qh_model.specs.headline.{Predicates.place, Sets.In}
-use Rattle.std.specs.List.{range_with_len}
+use Rattle.qh_model.proofs.Common.{All, ◌≡◌, ℕ, ◌<◌, ◌≤◌, sym, ◌∙◌, refl, inl, inr, List, [], ◌∷◌, length, subst, pos, ◌<ℤ◌, IsFinished, StoredFacet}
+use Rattle.qh_model.proofs.Common.{surface_of, signed_volume, triples_from, Vector, origin, place, In, range_with_len}
 use Rattle.qh_model.proofs.{algebra.Signs.less_one_way, lists.Ranges.range_has, lists.Ranges.range_below}
 use Rattle.qh_pred.specs.contract.Planes.{PlaneValue}
 use Rattle.qh_mesh.specs.contract.SoundMesh.{IsClosedMesh}

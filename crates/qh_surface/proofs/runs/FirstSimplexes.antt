@@ -1,14 +1,12 @@
 -- The start of a run: the facets of a simplex, with every position an orphan.
-use Rattle.std.proofs.Common.{All, ◌≡◌, ◌≢◌, ℕ, zero, suc, ◌<◌, arith, sym, refl, inl, inr, List, [], ◌∷◌, length, subst, slice_index_or, pos, ◌<ℤ◌, ◌≤ℤ◌}
-use Rattle.std.proofs.lemmas.{Int.ints, Int.by_lt_z, List.Elements.All-from_recursion, List.Elements.All-nil}
-use Rattle.std.specs.List.{range_with_len}
-use Rattle.qh_model.specs.contract.{Weighted.weighted, FinishedSurface.middle_at, StoredSurface.StoredFacet, StoredSurface.facet_at}
-use Rattle.qh_model.specs.headline.{Vector.Vector, Predicates.place, Predicates.vol, Sets.In}
+use Rattle.qh_model.proofs.Common.{All, ◌≡◌, ◌≢◌, ℕ, zero, suc, ◌<◌, arith, sym, refl, inl, inr, List, [], ◌∷◌, length, subst, slice_index_or, pos, ◌<ℤ◌, ◌≤ℤ◌}
+use Rattle.qh_model.proofs.Common.{ints, by_lt_z, All-from_recursion, All-nil, range_with_len, weighted, middle_at, StoredFacet, facet_at, Vector, place, vol}
+use Rattle.qh_model.proofs.Common.{In}
 use Rattle.qh_model.proofs.{Members.All-In, Members.In-get_or, algebra.VectorIdentities.vol-flip_last, lists.Ranges.range_has, surfaces.Simplex.middle-turned}
 use Rattle.qh_polygon.proofs.ShapeIds.{first_two_in}
 use Rattle.qh_polygon.specs.contract.Shapes.{IsInLine, IsInPlane, IsFirstNot, AreFirstTwo}
-use Rattle.qh_surface.specs.contract.{Simplexes.IsSimplexOf, OutsideSets.set_of}
-use Rattle.qh_surface.specs.steps.Runs.{height_at, IsGrown, RunState, IsRemade}
+use Rattle.qh_surface.specs.{contract.Simplexes.IsSimplexOf, steps.Runs.height_at, steps.Runs.IsGrown, steps.Runs.RunState, steps.Runs.IsRemade}
+use Rattle.qh_surface.specs.contract.OutsideSets.{set_of}
 use Rattle.qh_mesh.specs.contract.{Replacement.IsLive, SoundMesh.IsSoundMesh, SoundMesh.IsClosedMesh, SoundMesh.simplex_facets}
 
 -- the corners of facet f are below n

@@ -1,18 +1,15 @@
 -- Ids of a run in another order, and by their positions.
-use Rattle.std.proofs.Common.{◌≡◌, ◌∙◌, ℕ, ◌<◌, List, [], ◌∷◌, length, map, ap, sym, subst, refl, inl, inr, false, arith, eqb, eq-eqb, slice_index}
-use Rattle.std.proofs.{Common.IsPermutation, lemmas.List.get_or-map, lemmas.List.get_or_default, lemmas.List.length-map, lemmas.Bool.Decides.nat_tests}
-use Rattle.std.proofs.lemmas.List.Sorted.{IsPermutation-sym}
-use Rattle.std.proofs.lemmas.Map.Keys.{IsDistinct-IsPermutation, IsDistinct-cons, IsDistinct-head, IsDistinct-tail}
-use Rattle.std.specs.List.{IsDistinct, range_with_len}
-use Rattle.qh_model.specs.contract.{FinishedSurface.IsFinished, Surface.Surface, Surface.IsCorner}
-use Rattle.qh_model.specs.contract.{StoredSurface.StoredFacet, StoredSurface.named_facet, StoredSurface.surface_of, IdSets.AreIndices}
-use Rattle.qh_model.specs.headline.{Vector.Vector, Vector.origin, Predicates.place, Predicates.vol, Sets.In, Sets.Once, Sets.Members}
+use Rattle.qh_model.proofs.Common.{◌≡◌, ◌∙◌, ℕ, ◌<◌, List, [], ◌∷◌, length, map, ap, sym, subst, refl, inl, inr, false, arith, eqb, eq-eqb, slice_index}
+use Rattle.qh_model.proofs.Common.{IsPermutation, get_or-map, get_or_default, length-map, nat_tests, IsPermutation-sym, IsDistinct-IsPermutation, IsDistinct}
+use Rattle.qh_model.proofs.Common.{range_with_len, IsFinished, Surface, IsCorner, StoredFacet, named_facet, surface_of, AreIndices, Vector, origin, place, vol}
+use Rattle.qh_model.proofs.Common.{In, Once, Members}
+use Rattle.std.proofs.lemmas.Map.Keys.{IsDistinct-cons, IsDistinct-head, IsDistinct-tail}
 use Rattle.qh_model.proofs.Members.{All-In, All-of, In-get_or, every_of, every_at, in_permutation}
-use Rattle.qh_model.proofs.{lists.Ranges.range_below, surfaces.Inside.finished_over, surfaces.Named.IsNamed, surfaces.Named.stored_named}
-use Rattle.qh_model.proofs.surfaces.Stored.{live_is_marked}
+use Rattle.qh_model.proofs.lists.Ranges.{range_below}
+use Rattle.qh_model.proofs.surfaces.{Inside.finished_over, Named.IsNamed, Named.stored_named, Stored.live_is_marked}
 use Rattle.qh_mesh.specs.contract.{Names.name_in, Replacement.IsLive}
-use Rattle.qh_surface.specs.{contract.Corners.AreCornersBelow, contract.Simplexes.IsSimplexOf, declared.starts.initial_simplex.Simplex.Simplex}
-use Rattle.qh_surface.specs.steps.Positions.{IsSimplexIn, IsPositionOf, ArePositionsOf}
+use Rattle.qh_surface.specs.{contract.Corners.AreCornersBelow, steps.Positions.IsSimplexIn, steps.Positions.IsPositionOf, steps.Positions.ArePositionsOf}
+use Rattle.qh_surface.specs.{contract.Simplexes.IsSimplexOf, declared.starts.initial_simplex.Simplex.Simplex}
 use Rattle.qh_polygon.proofs.KeyOrder.{eqb_flips}
 
 module _ {ids near : List ℕ} (p : IsPermutation ids near) where

@@ -1,12 +1,10 @@
 -- The next apex: facets without an outside set are skipped, and the first point of a set is removed from it.
-use Rattle.std.proofs.Common.{◌≡◌, ℕ, ◌<◌, arith, ap, sym, ◌∙◌, true, ◌⊎◌, ⊎_elim, inl, inr, List, [], ◌∷◌, All, length, drop, subst, slice_set, length-set}
-use Rattle.std.proofs.{Common.get_or-set_same, Common.pos, Common.◌<ℤ◌, lemmas.List.set-get_or, lemmas.List.set-set}
-use Rattle.std.proofs.lemmas.List.{Elements.All-head, Elements.All-tail, Sorted.All-permutation}
-use Rattle.qh_model.specs.headline.Sets.{In}
+use Rattle.qh_model.proofs.Common.{◌≡◌, ℕ, ◌<◌, arith, ap, sym, ◌∙◌, true, ◌⊎◌, ⊎_elim, inl, inr, List, [], ◌∷◌, All, length, drop, subst, slice_set}
+use Rattle.qh_model.proofs.Common.{length-set, get_or-set_same, pos, ◌<ℤ◌, All-head, All-tail, All-permutation, In, IsPermutation}
+use Rattle.std.proofs.lemmas.List.{set-get_or, set-set}
 use Rattle.qh_mesh.specs.contract.Replacement.{IsLive}
 use Rattle.qh_surface.specs.contract.OutsideSets.{OutsideValue, set_of, joined}
 use Rattle.qh_surface.specs.steps.Runs.{height_at, IsDone, AreDone, IsOutside, AreOutside, RunState, with_waiting, with_first, IsUnderWay, IsPicked}
-use Rattle.std.specs.Prelude.{IsPermutation}
 use Rattle.qh_model.proofs.Members.{in_permutation}
 use Rattle.qh_surface.proofs.runs.SetWrites.{of_join, join_has, join_keeps, joined_front}
 

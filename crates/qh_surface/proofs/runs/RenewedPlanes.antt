@@ -1,7 +1,6 @@
 -- The planes of new facets, written one after the other.
-use Rattle.std.proofs.Common.{drop, slice_index, ◌≡◌, ℕ, ◌+◌, ◌<◌, ◌≤◌, arith, ◌⊎◌, inl, inr, List, length, slice_set, get_or-set_same, get_or-set_other}
-use Rattle.std.proofs.{Common.length-set, lemmas.Bool.cases_eq, lemmas.List.drop_all, lemmas.List.drop_more}
-use Rattle.qh_model.specs.{contract.StoredSurface.StoredFacet, headline.Vector.Vector, headline.Sets.In, headline.Predicates.place}
+use Rattle.qh_model.proofs.Common.{drop, slice_index, ◌≡◌, ℕ, ◌+◌, ◌<◌, ◌≤◌, arith, ◌⊎◌, inl, inr, List, length, slice_set, get_or-set_same, get_or-set_other}
+use Rattle.qh_model.proofs.Common.{length-set, cases_eq, drop_all, drop_more, StoredFacet, Vector, In, place}
 use Rattle.qh_pred.specs.contract.Planes.{PlaneValue, height}
 use Rattle.qh_mesh.specs.contract.{Replacement.IsLive, SoundMesh.facet_vol}
 use Rattle.qh_surface.specs.steps.{Planes.no_plane, Planes.plane_at, Runs.IsPlaneOf}

@@ -1,21 +1,15 @@
 -- A round of Quickhull: after a cone replaces the facets that the apex sees, only the released points need a test.
-use Rattle.std.proofs.Common.{All, ◌≡◌, ℕ, ◌<◌, arith, ap, sym, ◌∙◌, true, inl, inr, List, ◌∷◌, length, get_or, subst, pos, ◌<ℤ◌, ◌≤ℤ◌}
-use Rattle.std.proofs.lemmas.{List.get_or_read, Bool.cases_Bool, List.Elements.All-from_get_or}
-use Rattle.qh_model.specs.contract.{Weighted.Weighted, Weighted.above, FinishedSurface.weighted_at, FinishedSurface.middle_at}
-use Rattle.qh_model.specs.contract.Surface.{Surface, Side, start, end}
-use Rattle.qh_model.specs.contract.{Rewired.IsTriangle, Rewired.IsRewired, StoredSurface.StoredFacet, StoredSurface.facet_at, StoredSurface.surface_of}
-use Rattle.qh_model.specs.contract.Surface.Side.{first, second, third}
-use Rattle.qh_model.specs.headline.{Vector.Vector, Vector.origin, Predicates.vol, Predicates.place, Sets.In}
-use Rattle.qh_model.specs.laws.{Horizons.IsConeUnseen, UnseenPoints.IsUnseen}
-use Rattle.qh_model.proofs.{Members.All-In, algebra.Signs.not_less}
+use Rattle.qh_model.proofs.Common.{All, ◌≡◌, ℕ, ◌<◌, arith, ap, sym, ◌∙◌, true, inl, inr, List, ◌∷◌, length, get_or, subst, pos, ◌<ℤ◌, ◌≤ℤ◌, get_or_read}
+use Rattle.qh_model.proofs.Common.{cases_Bool, All-from_get_or, Weighted, above, weighted_at, middle_at, Surface, Side, end, IsRewired, StoredFacet, facet_at}
+use Rattle.qh_model.proofs.Common.{surface_of, first, second, third, Vector, origin, vol, place, In, IsConeUnseen, IsUnseen}
+use Rattle.qh_model.specs.contract.{Surface.start, Rewired.IsTriangle}
+use Rattle.qh_model.proofs.{Members.All-In, algebra.Signs.not_less, surfaces.Unseen.dropped_stay_unseen}
 use Rattle.qh_model.proofs.surfaces.SurfaceLaws.{rise_is_vol, settled_stay_unseen, corners_are_settled, added_is_settled}
-use Rattle.qh_model.proofs.surfaces.Unseen.{dropped_stay_unseen}
 use Rattle.qh_mesh.specs.contract.Replacement.{is_listed, IsLive, IsKept, IsReplacement}
 use Rattle.qh_mesh.specs.contract.SoundMesh.{facet_vol, IsSoundMesh, IsClosedMesh, AreVisible}
 use Rattle.qh_mesh.proofs.{ListedFacets.in_listed, ListedFacets.listed_in, Rewiring.live_in, Rewiring.in_live, Rewiring.rise-vol}
-use Rattle.qh_surface.specs.contract.{OutsideSets.OutsideValue, OutsideSets.set_of, Corners.AreCornersBelow}
+use Rattle.qh_surface.specs.{contract.OutsideSets.OutsideValue, contract.OutsideSets.set_of, contract.Corners.AreCornersBelow, steps.Settling.AreReleased}
 use Rattle.qh_surface.specs.steps.Runs.{height_at, IsDone, RunState, with_waiting, with_first, IsUnderWay, IsPicked, IsRemade}
-use Rattle.qh_surface.specs.steps.Settling.{AreReleased}
 use Rattle.qh_surface.proofs.LiveFacets.{live_below}
 use Rattle.qh_surface.proofs.runs.PickedApexes.{pending_within, apex_outside, still_outside, still_waits, still_all}
 

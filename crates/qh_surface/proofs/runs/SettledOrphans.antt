@@ -1,7 +1,6 @@
 -- How orphans are released and settled.
-use Rattle.std.proofs.Common.{All, ◌≡◌, ℕ, ◌<◌, ap, sym, refl, ◌⊎◌, inl, inr, List, [], ◌∷◌, ◌++◌, length, drop, subst, slice_set, slice_index, slice_index_or}
-use Rattle.std.proofs.{Common.pos, Common.◌<ℤ◌, lemmas.Bool.cases_eq}
-use Rattle.qh_model.specs.{contract.StoredSurface.StoredFacet, headline.Vector.Vector, headline.Vector.origin, headline.Predicates.place, headline.Sets.In}
+use Rattle.qh_model.proofs.Common.{All, ◌≡◌, ℕ, ◌<◌, ap, sym, refl, ◌⊎◌, inl, inr, List, [], ◌∷◌, ◌++◌, length, drop, subst, slice_set, slice_index}
+use Rattle.qh_model.proofs.Common.{slice_index_or, pos, ◌<ℤ◌, cases_eq, StoredFacet, Vector, origin, place, In}
 use Rattle.qh_model.proofs.{Members.All-In, lists.Joined.of_append, lists.Joined.in_append}
 use Rattle.qh_pred.specs.contract.Planes.{PlaneValue, height}
 use Rattle.qh_mesh.specs.contract.Replacement.{IsLive}

@@ -1,7 +1,5 @@
 -- The new facets with an outside set wait to be processed.
-use Rattle.std.proofs.Common.{All, ◌≡◌, ℕ, ◌<◌, ap, ◌∙◌, inl, inr, List, [], ◌∷◌, ◌++◌, length, subst}
-use Rattle.std.proofs.lemmas.List.Elements.{All-push}
-use Rattle.qh_model.specs.headline.Sets.{In}
+use Rattle.qh_model.proofs.Common.{All, ◌≡◌, ℕ, ◌<◌, ap, ◌∙◌, inl, inr, List, [], ◌∷◌, ◌++◌, length, subst, All-push, In}
 use Rattle.qh_model.proofs.lists.Joined.{in_append, of_append}
 use Rattle.qh_surface.specs.contract.OutsideSets.{OutsideValue, set_of}
 

@@ -1,6 +1,5 @@
 -- The remaining words request help if all words do.
-use Rattle.std.proofs.Common.{◌≡◌, drop, map}
-use Rattle.std.specs.{List.list_any, Prelude.string_bytes}
+use Rattle.qh_model.proofs.Common.{◌≡◌, drop, map, list_any, string_bytes}
 use Rattle.hullcheck.specs.contract.CommandLine.{is_help}
 use Rattle.hullcheck.proofs.command_line.asks_help.Given as goal
 

@@ -1,6 +1,5 @@
 -- The words so far and the remaining ones specify the same settings as all words.
-use Rattle.std.proofs.Common.{◌≡◌, drop, map}
-use Rattle.std.specs.Prelude.{string_bytes}
+use Rattle.qh_model.proofs.Common.{◌≡◌, drop, map, string_bytes}
 use Rattle.hullcheck.specs.{contract.CommandLine.asked_by_default, contract.CommandLine.asked_in, contract.CommandLine.with_words, steps.Words.with_next}
 use Rattle.hullcheck.proofs.command_line.settings_of.Given as goal
 

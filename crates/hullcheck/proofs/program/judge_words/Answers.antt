@@ -1,7 +1,6 @@
 -- The bytes read from the source are the content of the files that the words name.
-use Rattle.std.proofs.Common.{◌≡◌, Some, IfSome, map}
-use Rattle.std.proofs.lemmas.Result.{IfOk-weaker, IfErr-weaker}
-use Rattle.std.specs.Prelude.{string_bytes}
+use Rattle.qh_model.proofs.Common.{◌≡◌, Some, IfSome, map, IfOk-weaker, string_bytes}
+use Rattle.std.proofs.lemmas.Result.{IfErr-weaker}
 use Rattle.hullcheck.specs.contract.{CommandLine.Asked, CommandLine.asked_in, Judging.IsWhole}
 use Rattle.hullcheck.proofs.KnownFiles.{all_of, judge_fault}
 use Rattle.hullcheck.proofs.program.judge_words.Goals as goal

@@ -1,5 +1,4 @@
-use Rattle.std.proofs.Common.{◌≡◌, ℕ, ◌+◌, ◌<◌, [], length, slice_index, slice_index_or}
-use Rattle.std.specs.List.{slice_range}
+use Rattle.qh_model.proofs.Common.{◌≡◌, ℕ, ◌+◌, ◌<◌, [], length, slice_index, slice_index_or, slice_range}
 use Rattle.qconvex_c.proofs.cut_faces.cut_faces.Given as goal
 
 abbrev pub invariant-loop-number : goal.invariant-loop-number

@@ -1,5 +1,4 @@
-use Rattle.std.proofs.Common.{◌∙◌, subst, sym}
-use Rattle.qh_model.specs.headline.Hull.{IsHull}
+use Rattle.qh_model.proofs.Common.{◌∙◌, subst, sym, IsHull}
 use Rattle.qconvex_c.proofs.FanLists.{extremes_within, fans_made}
 use Rattle.qconvex_c.proofs.fan_lists.fan_lists.Goals as goal
 

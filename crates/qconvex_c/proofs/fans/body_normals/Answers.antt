@@ -1,6 +1,4 @@
-use Rattle.std.proofs.Common.{sym, subst}
-use Rattle.std.specs.List.{All}
-use Rattle.qh_model.specs.contract.IdSets.{AreIndices}
+use Rattle.qh_model.proofs.Common.{sym, subst, All, AreIndices}
 use Rattle.qconvex_c.proofs.FanLists.{faces_within}
 use Rattle.qconvex_c.proofs.fans.body_normals.Goals as goal
 

@@ -1,5 +1,4 @@
-use Rattle.std.proofs.Common.{◌≡◌, ◌++◌, drop}
-use Rattle.std.specs.List.{flat_map}
+use Rattle.qh_model.proofs.Common.{◌≡◌, ◌++◌, drop, flat_map}
 use Rattle.qconvex_c.specs.steps.FaceFans.{face_corners}
 use Rattle.qconvex_c.proofs.fans.fan_corners.Given as goal
 

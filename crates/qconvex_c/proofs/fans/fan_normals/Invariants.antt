@@ -1,6 +1,4 @@
-use Rattle.std.proofs.Common.{◌≡◌, ◌++◌, drop}
-use Rattle.std.specs.List.{flat_map}
-use Rattle.qh_model.specs.headline.Predicates.{place}
+use Rattle.qh_model.proofs.Common.{◌≡◌, ◌++◌, drop, flat_map, place}
 use Rattle.qconvex_c.specs.steps.FaceFans.{face_normals}
 use Rattle.qconvex_c.proofs.fans.fan_normals.Given as goal
 

@@ -1,8 +1,6 @@
 -- One triangle after the other, whose corners are corners of the face.
-use Rattle.std.proofs.Common.{rules, ◌≡◌, ◌∙◌, ◌++◌, ◌<◌, [], ◌∷◌, All, ap, length, slice_index_or, subst, sym}
-use Rattle.std.proofs.lemmas.List.Elements.{All-head, All-tail}
-use Rattle.std.specs.List.{flat_map}
-use Rattle.qh_model.specs.{contract.IdSets.AreIndices, headline.Predicates.place}
+use Rattle.qh_model.proofs.Common.{rules, ◌≡◌, ◌∙◌, ◌++◌, ◌<◌, [], ◌∷◌, All, ap, length, slice_index_or, subst, sym, All-head, All-tail, flat_map, AreIndices}
+use Rattle.qh_model.proofs.Common.{place}
 use Rattle.qh_model.proofs.{lists.Joined.join_next, polygons.Fans.triangles_all}
 use Rattle.qconvex_c.specs.contract.Triangles.{normal_of}
 use Rattle.qconvex_c.proofs.FanLists.{three_of}

@@ -1,7 +1,5 @@
 -- The normals so far, and the remaining triangles.
-use Rattle.std.proofs.Common.{◌≡◌, ◌++◌, All}
-use Rattle.std.specs.List.{flat_map}
-use Rattle.qh_model.specs.{contract.IdSets.AreIndices, headline.Predicates.place}
+use Rattle.qh_model.proofs.Common.{◌≡◌, ◌++◌, All, flat_map, AreIndices, place}
 use Rattle.qconvex_c.specs.{contract.Triangles.normal_of, steps.FaceFans.face_normals}
 use Rattle.qconvex_c.proofs.fans.push_normals.Given as goal
 

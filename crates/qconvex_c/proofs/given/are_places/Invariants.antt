@@ -1,5 +1,4 @@
-use Rattle.std.proofs.Common.{ℕ, ◌<◌, length, slice_index_or}
-use Rattle.qh_model.specs.{headline.Vector.Vector, contract.Places.IsPlace}
+use Rattle.qh_model.proofs.Common.{ℕ, ◌<◌, length, slice_index_or, Vector, IsPlace}
 use Rattle.qconvex_c.proofs.given.are_places.Given as goal
 
 abbrev pub invariant-loop-point : goal.invariant-loop-point

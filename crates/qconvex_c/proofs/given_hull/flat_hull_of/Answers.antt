@@ -1,5 +1,4 @@
-use Rattle.std.proofs.{Common.subst, Common.◌∙◌, lemmas.Result.IfOk-weaker}
-use Rattle.qh_model.specs.headline.Hull.{IsHull}
+use Rattle.qh_model.proofs.Common.{subst, ◌∙◌, IfOk-weaker, IsHull}
 use Rattle.qconvex_c.proofs.given_hull.flat_hull_of.Goals as goal
 
 pub returns : goal.returns

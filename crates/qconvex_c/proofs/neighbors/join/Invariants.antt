@@ -1,7 +1,6 @@
 -- The sides so far are joined, and the keys before the position have lower ends than the rest.
-use Rattle.std.proofs.Common.{ℕ, ◌*◌, ◌/◌, ◌≤◌, ◌<◌, length, slice_index}
-use Rattle.qconvex_c.specs.declared.side_keys.TheConstants.{SIDE_ROOM}
-use Rattle.qconvex_c.specs.steps.SideKeys.{AreJoined}
+use Rattle.qh_model.proofs.Common.{ℕ, ◌*◌, ◌/◌, ◌≤◌, ◌<◌, length, slice_index}
+use Rattle.qconvex_c.specs.{declared.side_keys.TheConstants.SIDE_ROOM, steps.SideKeys.AreJoined}
 use Rattle.qconvex_c.proofs.neighbors.join.Given as goal
 
 abbrev pub invariant-loop-key : goal.invariant-loop-key

@@ -1,6 +1,5 @@
 -- The numbers of the sides are those of the two joins.
-use Rattle.std.proofs.Common.{◌<◌, length, arith, sym, subst}
-use Rattle.std.proofs.lemmas.List.{get_or_append_left, length-take-le}
+use Rattle.qh_model.proofs.Common.{◌<◌, length, arith, sym, subst, get_or_append_left, length-take-le}
 use Rattle.qconvex_c.specs.contract.Neighbors.{IsNeighbor, sides_in}
 use Rattle.qconvex_c.proofs.SideKeys.{both_joined}
 use Rattle.qconvex_c.proofs.neighbors.qconvex_neighbors.Goals as goal

@@ -1,7 +1,5 @@
-use Rattle.std.proofs.Common.{◌≡◌, ◌*◌, ◌+◌, ◌/◌, ◌<◌, ◌+ℤ◌, length, drop, arith, ap, sym, subst, ◌∙◌, rules}
-use Rattle.std.proofs.lemmas.Int.{to_z-of_z}
+use Rattle.qh_model.proofs.Common.{◌≡◌, ◌*◌, ◌+◌, ◌/◌, ◌<◌, ◌+ℤ◌, length, drop, arith, ap, sym, subst, ◌∙◌, rules, to_z-of_z, place}
 use Rattle.std.specs.{Int.w128, Int.cast_signed as to_z, Prelude.FitsSigned}
-use Rattle.qh_model.specs.headline.Predicates.{place}
 use Rattle.qconvex_c.proofs.VolumeSums.{volume_at, sum_step, fits_step, sum_end}
 use Rattle.qconvex_c.specs.contract.Volumes.{six_volumes, PartialSumsFit}
 use Rattle.qconvex_c.proofs.volumes.sum_of_volumes.Goals as goal

@@ -1,5 +1,4 @@
-use Rattle.std.proofs.Common.{◌≡◌, ◌*◌, pos, ◌+ℤ◌, drop}
-use Rattle.qh_model.specs.headline.Predicates.{place}
+use Rattle.qh_model.proofs.Common.{◌≡◌, ◌*◌, pos, ◌+ℤ◌, drop, place}
 use Rattle.qconvex_c.specs.contract.Volumes.{six_volumes, PartialSumsFit}
 use Rattle.qconvex_c.proofs.volumes.sum_of_volumes.Given as goal
 

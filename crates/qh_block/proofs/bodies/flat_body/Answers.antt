@@ -1,6 +1,5 @@
 -- A body of one polygon: its extreme ids are the members of the polygon.
-use Rattle.std.proofs.Common.{◌≡◌, [], ◌∷◌, ⊎_elim, subst}
-use Rattle.qh_model.specs.headline.Sets.{In}
+use Rattle.qh_model.proofs.Common.{◌≡◌, [], ◌∷◌, ⊎_elim, subst, In}
 use Rattle.qh_block.proofs.bodies.flat_body.Goals as goal
 
 pub invariant_of-result : goal.invariant_of-result

@@ -1,6 +1,5 @@
 -- A walk has found live facets: their corners are ids of points, and the polygon of the corners is a new face.
-use Rattle.std.proofs.{Common.rules, Common.◌≡◌, Common.length, lemmas.Result.IfOk-weaker, lemmas.List.Elements.All-weaker}
-use Rattle.qh_model.specs.{contract.StoredSurface.surface_of, headline.Predicates.place}
+use Rattle.qh_model.proofs.Common.{rules, ◌≡◌, length, IfOk-weaker, All-weaker, surface_of, place}
 use Rattle.qh_mesh.specs.contract.Replacement.{IsLive}
 use Rattle.qh_surface.specs.contract.NamedMeshes.{named}
 use Rattle.qh_surface.proofs.NamedFacets.{named_live}

@@ -1,7 +1,5 @@
 -- The faces are gathered facet by facet, into the list that the mark of the facet selects.
-use Rattle.std.proofs.Common.{◌≡◌, ◌∙◌, ℕ, List, Bool, false, arith, ap, length, sym, subst}
-use Rattle.std.proofs.lemmas.List.{length-map}
-use Rattle.qh_model.specs.contract.StoredSurface.{named_facet}
+use Rattle.qh_model.proofs.Common.{◌≡◌, ◌∙◌, ℕ, List, Bool, false, arith, ap, length, sym, subst, length-map, named_facet}
 use Rattle.qh_mesh.specs.contract.Names.{name_in}
 use Rattle.qh_surface.specs.contract.{NamedMeshes.named, Walks.mark_at}
 use Rattle.qh_surface.proofs.NamedFacets.{names}

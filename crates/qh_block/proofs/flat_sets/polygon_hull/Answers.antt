@@ -1,7 +1,5 @@
 -- The hull of a set in one plane, from the normal of three of its ids.
-use Rattle.std.proofs.Common.{◌≡◌, ◌⊎◌, length, subst}
-use Rattle.std.proofs.lemmas.Result.{IfOk-weaker}
-use Rattle.qh_model.specs.headline.{Predicates.place, Predicates.cross, Vector.Vector, Vector.origin, Vector.minus}
+use Rattle.qh_model.proofs.Common.{◌≡◌, ◌⊎◌, length, subst, IfOk-weaker, place, cross, Vector, origin, minus}
 use Rattle.qh_polygon.proofs.ShapeDimension.{flat}
 use Rattle.qh_block.specs.steps.FlatBodies.{IsFlatBody}
 use Rattle.qh_block.proofs.flats.Polygons.{planar, polygon_is_body}

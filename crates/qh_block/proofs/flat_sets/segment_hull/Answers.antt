@@ -1,6 +1,5 @@
 -- The hull of a set in one line, from its two ends in order.
-use Rattle.std.proofs.Common.{rules, ◌∙◌, inl, inr}
-use Rattle.std.proofs.lemmas.Result.{IfOk-weaker}
+use Rattle.qh_model.proofs.Common.{rules, ◌∙◌, inl, inr, IfOk-weaker}
 use Rattle.qh_block.proofs.{flat_sets.segment_hull.Goals.then-lt, flat_sets.segment_hull.Goals.else-lt, flats.Bodies.segment_is_body}
 use Rattle.qh_block.proofs.flat_sets.segment_hull.Goals as goal
 

@@ -1,7 +1,5 @@
 -- The extreme ids of the ids that the filter keeps are those of the set.
-use Rattle.std.proofs.{Common.subst, lemmas.Result.IfOk-weaker}
-use Rattle.std.specs.Prelude.{IfOk}
-use Rattle.qh_model.specs.{contract.IdSets.IsIdSet, headline.Hull.AreExtremes, headline.Predicates.place, headline.Sets.Members, laws.HullLaws.HasExtremes}
+use Rattle.qh_model.proofs.Common.{subst, IfOk-weaker, IfOk, IsIdSet, AreExtremes, place, Members, HasExtremes}
 use Rattle.qh_model.proofs.hulls.ExtremeParts.{part_indices, part_set, part_extremes}
 use Rattle.qh_block.proofs.hulls.extremes.Goals as goal
 

@@ -1,7 +1,5 @@
 -- The hull of the ids that the filter keeps is that of the set.
-use Rattle.std.proofs.{Common.subst, lemmas.Result.IfOk-weaker}
-use Rattle.std.specs.Prelude.{IfOk}
-use Rattle.qh_model.specs.{contract.IdSets.IsIdSet, headline.Hull.IsBody, headline.Predicates.place, headline.Sets.Members, laws.HullLaws.HasExtremes}
+use Rattle.qh_model.proofs.Common.{subst, IfOk-weaker, IfOk, IsIdSet, IsBody, place, Members, HasExtremes}
 use Rattle.qh_model.proofs.hulls.ExtremeParts.{part_indices, part_body}
 use Rattle.qh_block.proofs.hulls.hull.Goals as goal
 

@@ -1,8 +1,5 @@
 -- The first of some ids and one more is the earlier of the two.
-use Rattle.std.proofs.Common.{◌≡◌, ◌∙◌, ◌<◌, ◌+◌, ℕ, List, length, get_or, arith, subst, sym, ◌⊎◌, ⊎_elim}
-use Rattle.std.proofs.lemmas.{Grind.get_or_default_zero, Int.ints}
-use Rattle.std.specs.Prelude.{ℤ, ◌≤ℤ◌}
-use Rattle.qh_model.specs.headline.Sets.{In}
+use Rattle.qh_model.proofs.Common.{◌≡◌, ◌∙◌, ◌<◌, ◌+◌, ℕ, List, length, get_or, arith, subst, sym, ◌⊎◌, ⊎_elim, get_or_default_zero, ints, ℤ, ◌≤ℤ◌, In}
 use Rattle.qh_model.proofs.Members.{In-get_or, All-In, in_at}
 use Rattle.qh_block.specs.steps.Segments.{position}
 use Rattle.qh_block.proofs.segment.first_along.Goals as goal

@@ -1,7 +1,5 @@
 -- The first of the ids so far.
-use Rattle.std.proofs.Common.{◌<◌, ℕ, length, get_or}
-use Rattle.std.specs.Prelude.{◌≤ℤ◌}
-use Rattle.qh_model.specs.headline.Sets.{In}
+use Rattle.qh_model.proofs.Common.{◌<◌, ℕ, length, get_or, ◌≤ℤ◌, In}
 use Rattle.qh_block.specs.steps.Segments.{position}
 use Rattle.qh_block.proofs.segment.first_along.Given as goal
 

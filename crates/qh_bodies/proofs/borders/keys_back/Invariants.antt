@@ -1,6 +1,5 @@
 -- The keys so far, reversed.
-use Rattle.std.proofs.Common.{◌≡◌, map, take}
-use Rattle.qh_model.specs.contract.Halves.{halves}
+use Rattle.qh_model.proofs.Common.{◌≡◌, map, take, halves}
 use Rattle.qh_bodies.specs.steps.StepKeys.{back}
 use Rattle.qh_bodies.proofs.borders.keys_back.Given as goal
 

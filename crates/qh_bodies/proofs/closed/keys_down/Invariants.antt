@@ -1,6 +1,5 @@
 -- The keys so far of steps down, reversed.
-use Rattle.std.proofs.Common.{◌≡◌, filter, map, take}
-use Rattle.qh_model.specs.contract.Halves.{halves}
+use Rattle.qh_model.proofs.Common.{◌≡◌, filter, map, take, halves}
 use Rattle.qh_bodies.specs.steps.StepKeys.{back, goes_down}
 use Rattle.qh_bodies.proofs.closed.keys_down.Given as goal
 

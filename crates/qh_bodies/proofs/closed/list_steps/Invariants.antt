@@ -1,6 +1,5 @@
 -- The steps so far, and the remaining sides.
-use Rattle.std.proofs.Common.{◌≡◌, ◌++◌, map}
-use Rattle.qh_model.specs.contract.{Halves.halves, ClosedPolygons.steps_round}
+use Rattle.qh_model.proofs.Common.{◌≡◌, ◌++◌, map, halves, steps_round}
 use Rattle.qh_bodies.proofs.closed.list_steps.Given as goal
 
 abbrev pub invariant-loop-from : goal.invariant-loop-from

@@ -1,6 +1,5 @@
 -- The lower key at the first difference, or the next key of the longer list.
-use Rattle.std.proofs.Common.{◌≡◌, ◌<◌, ◌≤◌, ◌∙◌, arith, eqb, length, subst, sym, take}
-use Rattle.std.proofs.lemmas.List.{get_or_default}
+use Rattle.qh_model.proofs.Common.{◌≡◌, ◌<◌, ◌≤◌, ◌∙◌, arith, eqb, length, subst, sym, take, get_or_default}
 use Rattle.qh_model.proofs.closed_surfaces.Sums.{count, count-is}
 use Rattle.qh_bodies.proofs.SortedNumbers.{lower_differs, count_longer, same_whole}
 use Rattle.qh_bodies.proofs.closed.other_key.Goals as goal

@@ -1,6 +1,5 @@
 -- Two neighbours are the same, or no two are.
-use Rattle.std.proofs.Common.{◌≤◌, ◌<◌, ◌∙◌, ◌-◌, arith, eqb, eqb-true, length, subst, sym}
-use Rattle.std.proofs.lemmas.List.{get_or_default}
+use Rattle.qh_model.proofs.Common.{◌≤◌, ◌<◌, ◌∙◌, ◌-◌, arith, eqb, eqb-true, length, subst, sym, get_or_default}
 use Rattle.qh_model.proofs.closed_surfaces.Sums.{count, count-is}
 use Rattle.qh_bodies.proofs.RepeatedNumbers.{counts_once, counts_twice}
 use Rattle.qh_bodies.proofs.closed.repeated_key.Goals as goal

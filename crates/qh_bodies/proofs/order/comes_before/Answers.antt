@@ -1,7 +1,5 @@
 -- The first difference decides, or the lengths.
-use Rattle.std.proofs.Common.{◌≡◌, ◌≢◌, ℕ, ◌<◌, ◌∙◌, arith, get_or, length, min, sym, Bool, true, false, eqb, eq-eqb}
-use Rattle.std.proofs.lemmas.{List.get_or_default, Bool.Decides.nat_tests}
-use Rattle.std.specs.Prelude.{not}
+use Rattle.qh_model.proofs.Common.{◌≡◌, ◌≢◌, ℕ, ◌<◌, ◌∙◌, arith, get_or, length, min, sym, Bool, true, false, eqb, eq-eqb, get_or_default, nat_tests, not}
 use Rattle.qh_bodies.proofs.OrderedPolygons.{before_at, before_end}
 use Rattle.qh_bodies.proofs.order.comes_before.Goals as goal
 

@@ -1,6 +1,5 @@
 -- Each polygon so far comes before the next.
-use Rattle.std.proofs.Common.{ℕ, ◌+◌, ◌<◌, [], get_or}
-use Rattle.qh_model.specs.headline.Polygons.{ComesBefore}
+use Rattle.qh_model.proofs.Common.{ℕ, ◌+◌, ◌<◌, [], get_or, ComesBefore}
 use Rattle.qh_bodies.proofs.order.out_of_order.Given as goal
 
 abbrev pub invariant-loop-next : goal.invariant-loop-next

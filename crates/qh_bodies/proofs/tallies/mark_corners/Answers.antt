@@ -1,6 +1,5 @@
 -- One more polygon is marked.
-use Rattle.std.proofs.Common.{◌<◌, ◌∙◌, ℕ, List, ap, length, subst, sym, take_all}
-use Rattle.std.specs.List.{All}
+use Rattle.qh_model.proofs.Common.{◌<◌, ◌∙◌, ℕ, List, ap, length, subst, sym, take_all, All}
 use Rattle.qh_polygon.proofs.MarkedLists.{lists_marked, lists_room}
 use Rattle.qh_polygon.specs.contract.Marks.{marked}
 use Rattle.qh_bodies.specs.contract.Tallies.{all_members}

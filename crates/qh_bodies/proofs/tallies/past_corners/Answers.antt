@@ -1,7 +1,5 @@
 -- The bound grows with one more polygon.
-use Rattle.std.proofs.Common.{◌<◌, ℕ, List, arith, subst, take_all}
-use Rattle.std.proofs.lemmas.Grind.{common_steps}
-use Rattle.std.specs.List.{All}
+use Rattle.qh_model.proofs.Common.{◌<◌, ℕ, List, arith, subst, take_all, common_steps, All}
 use Rattle.qh_polygon.proofs.MarkedLists.{lists_below}
 use Rattle.qh_bodies.specs.contract.Tallies.{all_members}
 use Rattle.qh_bodies.proofs.tallies.past_corners.Goals as goal

@@ -1,6 +1,5 @@
 -- The ids of the polygons so far are below the bound.
-use Rattle.std.proofs.Common.{◌<◌, take}
-use Rattle.std.specs.List.{All}
+use Rattle.qh_model.proofs.Common.{◌<◌, take, All}
 use Rattle.qh_bodies.specs.contract.Tallies.{all_members}
 use Rattle.qh_bodies.proofs.tallies.past_corners.Given as goal
 

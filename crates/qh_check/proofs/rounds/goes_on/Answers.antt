@@ -1,6 +1,5 @@
 -- One more member is met, before the member that was tested previously.
-use Rattle.std.proofs.Common.{ℕ, ◌≡◌, ◌∙◌, ◌+◌, ◌-◌, ◌<◌, ◌≤◌, arith, drop, get_or, length, subst, sym}
-use Rattle.std.proofs.lemmas.List.{get_or_default}
+use Rattle.qh_model.proofs.Common.{ℕ, ◌≡◌, ◌∙◌, ◌+◌, ◌-◌, ◌<◌, ◌≤◌, arith, drop, get_or, length, subst, sym, get_or_default}
 use Rattle.qh_check.specs.{contract.Pieces.IsMetAlong, steps.Rounds.way_behind}
 use Rattle.qh_check.proofs.MetBehind.{behind, length-way, met_before, met_earlier}
 use Rattle.qh_check.proofs.rounds.goes_on.Goals as goal

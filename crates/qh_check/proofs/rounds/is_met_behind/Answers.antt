@@ -1,6 +1,5 @@
 -- All members are met, before the end and after it.
-use Rattle.std.proofs.Common.{◌≡◌, ◌+◌, ◌-◌, arith, drop, eq-eqb, eqb-true, length, take}
-use Rattle.std.proofs.lemmas.List.{length-drop, take_all}
+use Rattle.qh_model.proofs.Common.{◌≡◌, ◌+◌, ◌-◌, arith, drop, eq-eqb, eqb-true, length, take, length-drop, take_all}
 use Rattle.qh_check.proofs.MetLists.{met_both}
 use Rattle.qh_check.proofs.rounds.is_met_behind.Goals as goal
 

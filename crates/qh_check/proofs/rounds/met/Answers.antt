@@ -1,10 +1,8 @@
 -- One more id is the next of the list, or is not.
-use Rattle.std.proofs.Common.{◌∙◌, ◌≡◌, arith, drop, get_or, sym, ◌++◌}
-use Rattle.std.proofs.lemmas.List.{get_or_default}
+use Rattle.qh_model.proofs.Common.{◌∙◌, ◌≡◌, arith, drop, get_or, sym, ◌++◌, get_or_default}
 use Rattle.qh_check.specs.contract.Pieces.{IsMetAlong}
-use Rattle.qh_check.proofs.MetLists.{met_step, met_skip}
+use Rattle.qh_check.proofs.{MetLists.met_step, MetLists.met_skip, rounds.met.Goals.then-is_at, rounds.met.Goals.else-is_at}
 use Rattle.qh_check.proofs.rounds.met.Goals as goal
-use Rattle.qh_check.proofs.rounds.met.Goals.{then-is_at, else-is_at}
 
 pub loop-id-preserved : goal.loop-id-preserved
 loop-id-preserved c =

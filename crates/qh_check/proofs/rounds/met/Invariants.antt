@@ -1,6 +1,5 @@
 -- The rest of the list is met along the rest of the ids exactly if the list is met along all.
-use Rattle.std.proofs.Common.{ℕ, ◌≤◌, ◌++◌, List, drop, length}
-use Rattle.std.specs.Prelude.{◌↔◌}
+use Rattle.qh_model.proofs.Common.{ℕ, ◌≤◌, ◌++◌, List, drop, length, ◌↔◌}
 use Rattle.qh_check.specs.contract.Pieces.{IsMetAlong}
 use Rattle.qh_check.proofs.rounds.met.Given as goal
 

@@ -1,7 +1,5 @@
 -- One more polygon is found to be a piece, or has a fault.
-use Rattle.std.proofs.Common.{ℕ, [], arith, below_more, get_or, subst, List}
-use Rattle.std.proofs.lemmas.List.{get_or_default}
-use Rattle.std.specs.Prelude.{Option, MatchOption}
+use Rattle.qh_model.proofs.Common.{ℕ, [], arith, below_more, get_or, subst, List, get_or_default, Option, MatchOption}
 use Rattle.qh_check.specs.{declared.fault.FaceFault.FaceFault, steps.Faces.IsFaultOf, steps.Findings.IsSeen}
 use Rattle.qh_check.proofs.search.fault_among.Goals as goal
 

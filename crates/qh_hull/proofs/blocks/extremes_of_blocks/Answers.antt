@@ -1,5 +1,4 @@
-use Rattle.std.proofs.Common.{sym, subst}
-use Rattle.qh_model.specs.laws.HullLaws.{HasExtremes}
+use Rattle.qh_model.proofs.Common.{sym, subst, HasExtremes}
 use Rattle.qh_hull.proofs.Parts.{cut_kept, left_indices, rest_kept}
 use Rattle.qh_hull.proofs.blocks.extremes_of_blocks.Goals as goal
 

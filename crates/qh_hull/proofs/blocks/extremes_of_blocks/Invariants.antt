@@ -1,5 +1,4 @@
-use Rattle.std.proofs.Common.{length}
-use Rattle.qh_model.specs.contract.IdSets.{AreIndices}
+use Rattle.qh_model.proofs.Common.{length, AreIndices}
 use Rattle.qh_hull.specs.steps.Parts.{HasExtremesBefore}
 use Rattle.qh_hull.proofs.blocks.extremes_of_blocks.Given as goal
 

@@ -1,6 +1,4 @@
-use Rattle.std.proofs.Common.{◌<◌, length, sym, subst}
-use Rattle.std.proofs.lemmas.Result.{IfOk-weaker}
-use Rattle.qh_model.specs.contract.IdSets.{AreIndices}
+use Rattle.qh_model.proofs.Common.{◌<◌, length, sym, subst, IfOk-weaker, AreIndices}
 use Rattle.qh_model.proofs.hulls.ExtremeParts.{part_indices, part_some, part_body}
 use Rattle.qh_hull.proofs.Parts.{part_as}
 use Rattle.qh_hull.proofs.blocks.hull_by_blocks.Goals as goal

@@ -1,5 +1,4 @@
-use Rattle.std.proofs.Common.{◌<◌, length, subst, sym}
-use Rattle.qh_model.specs.{contract.IdSets.AreIndices, contract.IdSets.IsIdSet, headline.Hull.IsBody, headline.Predicates.place, headline.Sets.Members}
+use Rattle.qh_model.proofs.Common.{◌<◌, length, subst, sym, AreIndices, IsIdSet, IsBody, place, Members}
 use Rattle.qh_model.proofs.DistinctIds.{ids_within, some_id}
 use Rattle.qh_plane.proofs.DistinctLists.{id_set}
 use Rattle.qh_hull.proofs.hulls.hull_alone.Goals as goal

@@ -1,5 +1,4 @@
-use Rattle.std.proofs.Common.{◌∙◌, lit<}
-use Rattle.std.specs.Prelude.{◌+ℤ◌}
+use Rattle.qh_model.proofs.Common.{◌∙◌, lit<, ◌+ℤ◌}
 use Rattle.qh_lattice.specs.declared.row.TheConstants.{PRODUCT_LIMIT}
 use Rattle.qh_lattice.proofs.{Rows.as_product, Sums.sum_fits}
 use Rattle.qh_lattice.proofs.row.reach.Goals as goal

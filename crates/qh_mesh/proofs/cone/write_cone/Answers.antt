@@ -1,7 +1,6 @@
 -- One more facet of the cone is written.
+use Rattle.qh_model.proofs.Common.{◌+◌, ◌++◌, ap, drop, slice_index, drop_more, get_or_read, StoredFacet, no_facet}
 use Rattle.qh_mesh.proofs.cone.write_cone.Goals as goal
-use Rattle.std.proofs.{Common.◌+◌, Common.◌++◌, Common.ap, Common.drop, Common.slice_index, lemmas.List.drop_more, lemmas.List.get_or_read}
-use Rattle.qh_model.specs.contract.StoredSurface.{StoredFacet, no_facet}
 use Rattle.qh_mesh.specs.steps.Cones.{IsOver}
 use Rattle.qh_mesh.proofs.{ListedFacets.once_apart, Pools.pool_less, WrittenFacets.scattered_more}
 

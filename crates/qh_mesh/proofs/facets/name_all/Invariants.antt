@@ -1,6 +1,5 @@
 -- The facets so far have their names, the others are unchanged.
-use Rattle.std.proofs.Common.{◌≡◌, ◌++◌, map, take, drop}
-use Rattle.qh_model.specs.contract.StoredSurface.{named_facet}
+use Rattle.qh_model.proofs.Common.{◌≡◌, ◌++◌, map, take, drop, named_facet}
 use Rattle.qh_mesh.specs.contract.Names.{name_in}
 use Rattle.qh_mesh.proofs.facets.name_all.Given as goal
 

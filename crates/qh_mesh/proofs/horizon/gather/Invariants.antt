@@ -1,6 +1,5 @@
 -- The open sides of the facets so far are collected.
-use Rattle.std.proofs.Common.{take, ◌≡◌, ◌≤◌, ◌*◌}
-use Rattle.std.specs.Prelude.{vec_len, vec_capacity}
+use Rattle.qh_model.proofs.Common.{take, ◌≡◌, ◌≤◌, ◌*◌, vec_len, vec_capacity}
 use Rattle.qh_mesh.specs.steps.Horizons.{open_sides}
 use Rattle.qh_mesh.proofs.horizon.gather.Given as goal
 

@@ -1,7 +1,5 @@
 -- The places chosen so far and the free ones are a pool.
-use Rattle.std.proofs.Common.{ℕ, ◌++◌, reverse, ◌≡◌, ◌+◌, ◌<◌, ◌≤◌}
-use Rattle.std.specs.Prelude.{vec_len, vec_capacity}
-use Rattle.qh_model.specs.contract.StoredSurface.{facet_at}
+use Rattle.qh_model.proofs.Common.{ℕ, ◌++◌, reverse, ◌≡◌, ◌+◌, ◌<◌, ◌≤◌, vec_len, vec_capacity, facet_at}
 use Rattle.qh_mesh.specs.steps.Places.{IsPool}
 use Rattle.qh_mesh.proofs.places.allocate_all.Given as goal
 

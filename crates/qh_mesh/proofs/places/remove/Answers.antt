@@ -1,7 +1,5 @@
 -- One more facet is removed, and its place is free.
-use Rattle.std.proofs.Common.{slice_index, ◌≡◌, ℕ, ◌<◌, ◌∙◌, ◌∷◌, [], reverse, arith, ap}
-use Rattle.std.proofs.lemmas.List.{get_or_read, reverse-append}
-use Rattle.qh_model.specs.contract.StoredSurface.{facet_at, no_facet}
+use Rattle.qh_model.proofs.Common.{slice_index, ◌≡◌, ℕ, ◌<◌, ◌∙◌, ◌∷◌, [], reverse, arith, ap, get_or_read, reverse-append, facet_at, no_facet}
 use Rattle.qh_mesh.specs.steps.Kept.{is_live, removed}
 use Rattle.qh_model.proofs.surfaces.Stored.{live_inside}
 use Rattle.qh_mesh.proofs.{Pools.pool_more, ListedFacets.once_apart, WrittenFacets.scattered_more}

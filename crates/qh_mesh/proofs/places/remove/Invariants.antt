@@ -1,6 +1,5 @@
 -- The facets so far are removed, and their places are free.
-use Rattle.std.proofs.Common.{◌≡◌, ◌+◌, reverse}
-use Rattle.std.specs.Prelude.{vec_len, vec_capacity}
+use Rattle.qh_model.proofs.Common.{◌≡◌, ◌+◌, reverse, vec_len, vec_capacity}
 use Rattle.qh_mesh.specs.steps.Places.{Removed, IsPool}
 use Rattle.qh_mesh.proofs.places.remove.Given as goal
 

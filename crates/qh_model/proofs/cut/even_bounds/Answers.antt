@@ -1,5 +1,4 @@
-use Rattle.std.proofs.Common.{◌++◌, [], ◌∷◌, subst, sym, arith}
-use Rattle.qh_model.specs.contract.Cut.{IsEvenCut}
+use Rattle.qh_model.proofs.Common.{◌++◌, [], ◌∷◌, subst, sym, arith, IsEvenCut}
 use Rattle.qh_model.proofs.Cuts.{even_cut}
 use Rattle.qh_model.proofs.cut.even_bounds.Goals as goal
 

@@ -1,5 +1,4 @@
-use Rattle.std.proofs.Common.{◌≡◌, ◌*◌, ◌<◌, length, ℕ}
-use Rattle.qh_model.specs.contract.Cut.{bound}
+use Rattle.qh_model.proofs.Common.{◌≡◌, ◌*◌, ◌<◌, length, ℕ, bound}
 use Rattle.qh_model.proofs.cut.even_bounds.Given as goal
 
 -- the first bounds are the multiples of the size

@@ -1,8 +1,5 @@
 -- The faces of one more part.
-use Rattle.std.proofs.Common.{inl, inr, refl, subst}
-use Rattle.std.proofs.lemmas.List.Sorted.{IsPermutation-sym}
-use Rattle.std.specs.Prelude.{IfOk, IfSome}
-use Rattle.qh_model.specs.headline.Sets.{In}
+use Rattle.qh_model.proofs.Common.{inl, inr, refl, subst, IsPermutation-sym, IfOk, IfSome, In}
 use Rattle.qh_model.proofs.{Members.in_permutation, lists.Joined.of_append}
 use Rattle.qh_bodies.proofs.StepCounts.{closed_of_both}
 use Rattle.qh_parts.specs.steps.Given.{IsContribution}

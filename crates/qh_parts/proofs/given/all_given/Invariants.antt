@@ -1,6 +1,5 @@
 -- The faces so far are contributed, and so are those in the remaining answers.
-use Rattle.std.proofs.Common.{All, length}
-use Rattle.std.specs.Prelude.{IfOk, IfSome}
+use Rattle.qh_model.proofs.Common.{All, length, IfOk, IfSome}
 use Rattle.qh_parts.specs.steps.Given.{AreGivenOf, IsContribution}
 use Rattle.qh_parts.proofs.given.all_given.Given as goal
 

@@ -1,6 +1,5 @@
 -- The parts so far are parts, and so are those in the remaining answers.
-use Rattle.std.proofs.Common.{All, length}
-use Rattle.std.specs.Prelude.{IfOk, IfSome}
+use Rattle.qh_model.proofs.Common.{All, length, IfOk, IfSome}
 use Rattle.qh_parts_join.specs.contract.Parts.{IsPartOf}
 use Rattle.qh_parts.proofs.pieces.all_parts.Given as goal
 

@@ -1,6 +1,5 @@
 -- One more id is an index.
-use Rattle.std.proofs.Common.{◌<◌, below_more, length, subst, arith, ◌∙◌}
-use Rattle.std.proofs.lemmas.Grind.{get_or_default_zero}
+use Rattle.qh_model.proofs.Common.{◌<◌, below_more, length, subst, arith, ◌∙◌, get_or_default_zero}
 use Rattle.qh_model.proofs.Members.{All-of}
 use Rattle.qh_places.proofs.Listed.{each_listed}
 use Rattle.qh_parts.proofs.pieces.are_indices.Goals as goal

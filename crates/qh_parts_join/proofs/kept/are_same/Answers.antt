@@ -1,6 +1,5 @@
 -- The test of lists decides equality.
-use Rattle.std.proofs.Common.{◌∙◌, sym}
-use Rattle.std.specs.Cmp.Lexicographic.{same_text}
+use Rattle.qh_model.proofs.Common.{◌∙◌, sym, same_text}
 use Rattle.qh_parts_join.proofs.kept.are_same.Goals as goal
 
 pub returns : goal.returns

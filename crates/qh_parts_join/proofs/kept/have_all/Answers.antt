@@ -1,6 +1,5 @@
 -- The sorted ids of the parts are the list.
-use Rattle.std.proofs.Common.{◌∙◌, sym, subst}
-use Rattle.qh_model.specs.headline.Sets.{In}
+use Rattle.qh_model.proofs.Common.{◌∙◌, sym, subst, In}
 use Rattle.qh_parts_join.proofs.kept.have_all.Goals as goal
 
 pub returns : goal.returns

@@ -1,6 +1,5 @@
 -- The ids of the parts so far.
-use Rattle.std.proofs.Common.{◌≡◌, take}
-use Rattle.std.specs.List.{flat_map}
+use Rattle.qh_model.proofs.Common.{◌≡◌, take, flat_map}
 use Rattle.qh_parts_join.specs.contract.Parts.{ids_in}
 use Rattle.qh_parts_join.proofs.kept.ids_of_parts.Given as goal
 

@@ -1,7 +1,5 @@
 -- One more id is in the list.
-use Rattle.std.proofs.Common.{◌<◌, below_more, length, subst, arith, ◌∙◌}
-use Rattle.std.proofs.lemmas.Grind.{get_or_default_zero}
-use Rattle.qh_model.specs.headline.Sets.{In}
+use Rattle.qh_model.proofs.Common.{◌<◌, below_more, length, subst, arith, ◌∙◌, get_or_default_zero, In}
 use Rattle.qh_places.proofs.Listed.{each_listed}
 use Rattle.qh_parts_join.proofs.parts.are_in.Goals as goal
 

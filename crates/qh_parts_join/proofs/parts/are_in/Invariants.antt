@@ -1,6 +1,5 @@
 -- The ids so far are in the list.
-use Rattle.std.proofs.Common.{ℕ, ◌<◌, slice_index}
-use Rattle.qh_model.specs.headline.Sets.{In}
+use Rattle.qh_model.proofs.Common.{ℕ, ◌<◌, slice_index, In}
 use Rattle.qh_parts_join.proofs.parts.are_in.Given as goal
 
 abbrev pub invariant-loop-id : goal.invariant-loop-id

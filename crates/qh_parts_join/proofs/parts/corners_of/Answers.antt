@@ -1,6 +1,5 @@
 -- Three more corners are listed.
-use Rattle.std.proofs.Common.{◌∙◌, sym}
-use Rattle.qh_model.specs.contract.StoredSurface.{surface_of}
+use Rattle.qh_model.proofs.Common.{◌∙◌, sym, surface_of}
 use Rattle.qh_model.proofs.surfaces.Stored.{live_is_marked}
 use Rattle.qh_surface.specs.contract.NamedMeshes.{named}
 use Rattle.qh_surface.proofs.NamedFacets.{names, live_before}

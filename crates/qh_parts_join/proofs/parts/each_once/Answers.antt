@@ -1,7 +1,5 @@
 -- A list without repeats has each of its ids once.
-use Rattle.std.proofs.Common.{◌≤◌, inl, inr, length, arith, sym, subst}
-use Rattle.std.proofs.lemmas.Result.{IfOk-weaker}
-use Rattle.qh_model.specs.headline.Sets.{In, Once}
+use Rattle.qh_model.proofs.Common.{◌≤◌, inl, inr, length, arith, sym, subst, IfOk-weaker, In, Once}
 use Rattle.qh_model.proofs.{Members.rising_once, lists.Joined.in_append, lists.Joined.of_append}
 use Rattle.qh_parts_join.proofs.OnceListed.{once_by_length}
 use Rattle.qh_parts_join.proofs.parts.each_once.Goals as goal

@@ -1,7 +1,5 @@
 -- One more id is kept, or is one of the others.
-use Rattle.std.proofs.Common.{◌<◌, inl, inr, length, arith, ◌∙◌, ap, ◌⊎◌}
-use Rattle.std.proofs.lemmas.Grind.{get_or_default_zero}
-use Rattle.qh_model.specs.headline.Sets.{In}
+use Rattle.qh_model.proofs.Common.{◌<◌, inl, inr, length, arith, ◌∙◌, ap, ◌⊎◌, get_or_default_zero, In}
 use Rattle.qh_places.proofs.Listed.{each_listed}
 use Rattle.qh_parts_join.proofs.{LeftIds.one_more, LeftIds.none_left, parts.without.Goals.then-not-has+in_ok-push, parts.without.Goals.else-not-has}
 use Rattle.qh_parts_join.proofs.parts.without.Goals as goal

@@ -1,11 +1,9 @@
 -- The size of a product is that of its factors, multiplied.
-use Rattle.std.proofs.Common.{◌*◌, refl, lit<}
-use Rattle.std.specs.Prelude.{pos}
+use Rattle.qh_model.proofs.Common.{◌*◌, refl, lit<, pos, w128}
 use Rattle.qh_pred.specs.contract.Bounds.{normal_limit}
 use Rattle.qh_places.specs.declared.bundles.TheConstants.{SCALE}
 use Rattle.qh_places.proofs.Products.{IsProduct, product}
 use Rattle.qh_places.proofs.bundles.scaled.Goals as goal
-use mir.Syntax.{w128}
 
 made : (c : goal.After-from)
     → IsProduct w128 c.args.component c.from.result c.args.component (pos c.args.times) (normal_limit * SCALE)

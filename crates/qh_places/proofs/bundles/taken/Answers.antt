@@ -1,9 +1,7 @@
 -- The size of a product is that of its factors, multiplied.
-use Rattle.std.proofs.Common.{◌^◌, refl, lit<}
-use Rattle.std.specs.Prelude.{pos}
+use Rattle.qh_model.proofs.Common.{◌^◌, refl, lit<, pos, w128}
 use Rattle.qh_places.proofs.Products.{IsProduct, product}
 use Rattle.qh_places.proofs.bundles.taken.Goals as goal
-use mir.Syntax.{w128}
 
 made : (c : goal.After-from) → IsProduct w128 c.from.result c.args.number (pos c.args.times) c.args.number (2 ^ 112)
 made c =

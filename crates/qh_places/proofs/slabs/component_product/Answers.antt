@@ -1,8 +1,7 @@
 -- The size of a product is that of its factors, multiplied.
-use Rattle.std.proofs.{Common.◌∙◌, Common.◌^◌, Common.lit<, lemmas.Int.to_z-of_z}
+use Rattle.qh_model.proofs.Common.{◌∙◌, ◌^◌, lit<, to_z-of_z, w16, w32, w64}
 use Rattle.qh_places.proofs.Products.{IsProduct, product, size_of}
 use Rattle.qh_places.proofs.slabs.component_product.Goals as goal
-use mir.Syntax.{w16, w32, w64}
 
 made : (c : goal.After-from-2) → IsProduct w64 c.from.result c.from-2.result c.args.component c.args.coordinate (2 ^ 46)
 made c =

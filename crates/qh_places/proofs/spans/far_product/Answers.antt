@@ -1,11 +1,7 @@
 -- The product at the far end is the greatest.
-use Rattle.std.proofs.Common.{subst, sym}
-use Rattle.std.specs.Prelude.{◌*ℤ◌, ◌≤ℤ◌}
+use Rattle.qh_model.proofs.Common.{subst, sym, ◌*ℤ◌, ◌≤ℤ◌, to_z-of_z, w64, w128, SFits}
 use Rattle.qh_pred.proofs.Ranges.{greatest}
 use Rattle.qh_places.proofs.spans.far_product.Goals as goal
-use Rattle.std.proofs.lemmas.Int.{to_z-of_z}
-use mir.Syntax.{w64, w128}
-use mir.Val.{SFits}
 
 pub returns-clause-value : goal.returns-clause-value
 returns-clause-value c = λ r within.

@@ -1,11 +1,7 @@
 -- The size of a product is that of its factors, multiplied.
-use Rattle.std.proofs.Common.{rules, ◌∙◌, ◌^◌, lit<}
-use Rattle.std.proofs.lemmas.Int.{to_z-of_z}
-use Rattle.std.specs.Prelude.{pos}
+use Rattle.qh_model.proofs.Common.{rules, ◌∙◌, ◌^◌, lit<, to_z-of_z, pos, w16, w128, SFits}
 use Rattle.qh_places.proofs.Products.{IsProduct, product, size_of}
 use Rattle.qh_places.proofs.spans.share.Goals as goal
-use mir.Syntax.{w16, w128}
-use mir.Val.{SFits}
 
 made : (c : goal.After-from-2) → IsProduct w128 c.from.result c.from-2.result (pos c.args.times) c.args.component (2 ^ 63)
 made c =

@@ -1,9 +1,7 @@
 -- The size of a product is that of its factors, multiplied.
-use Rattle.std.proofs.Common.{◌∙◌, ◌^◌, refl, lit<}
-use Rattle.std.proofs.lemmas.Int.{to_z-of_z}
+use Rattle.qh_model.proofs.Common.{◌∙◌, ◌^◌, refl, lit<, to_z-of_z, w64, w128}
 use Rattle.qh_places.proofs.Products.{IsProduct, product}
 use Rattle.qh_places.proofs.spans.way_product.Goals as goal
-use mir.Syntax.{w64, w128}
 
 made : (c : goal.After-from) → IsProduct w128 c.from.result c.args.number c.args.way c.args.number (2 ^ 96)
 made c =

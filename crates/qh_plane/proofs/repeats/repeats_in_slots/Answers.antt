@@ -1,6 +1,5 @@
+use Rattle.qh_model.proofs.Common.{arith, sym, subst, length, IsNonDecreasingBy-from_sort, IfSome_then, IfOk-weaker}
 use Rattle.qh_plane.proofs.repeats.repeats_in_slots.Goals as goal
-use Rattle.std.proofs.Common.{arith, sym, subst, length}
-use Rattle.std.proofs.lemmas.{List.Sorted.IsNonDecreasingBy-from_sort, Option.IfSome_then, Result.IfOk-weaker}
 use Rattle.qh_plane.proofs.{PlaceLists.sorted_within, PlaceLists.sorted_repeats, SharedSlots.all_in_slots}
 use Rattle.qh_plane.specs.steps.SharedSlots.{MarkedHashes, AreShared}
 

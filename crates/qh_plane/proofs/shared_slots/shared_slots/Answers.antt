@@ -1,6 +1,5 @@
+use Rattle.qh_model.proofs.Common.{◌≡◌, ◌∙◌, ◌<◌, ◌+◌, ◌*◌, ◌||◌, false, true, length, set, ap, sym, subst, get_or, get_or_read, length-set}
 use Rattle.qh_plane.proofs.shared_slots.shared_slots.Goals as goal
-use Rattle.std.proofs.Common.{◌≡◌, ◌∙◌, ◌<◌, ◌+◌, ◌*◌, ◌||◌, false, true, length, set, ap, sym, subst, get_or}
-use Rattle.std.proofs.lemmas.List.{get_or_read, length-set}
 use Rattle.qh_plane.proofs.{SeenPlaces.point_read, SharedSlots.taken_more, SharedSlots.shared_more}
 use Rattle.qh_plane.specs.steps.{HashedKeys.place_hash, HashedKeys.hash_at, SharedSlots.slot_in, SharedSlots.AreShared}
 

@@ -1,5 +1,4 @@
-use Rattle.std.proofs.Common.{◌+◌, ◌≤◌, ◌<◌, length, ℕ}
-use Rattle.qh_model.specs.headline.Predicates.{place}
+use Rattle.qh_model.proofs.Common.{◌+◌, ◌≤◌, ◌<◌, length, ℕ, place}
 use Rattle.qh_plane.specs.steps.HashedKeys.{place_number}
 use Rattle.qh_plane.proofs.sorted_points.numbers_rise.Given as goal
 

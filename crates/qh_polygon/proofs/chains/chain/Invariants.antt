@@ -1,6 +1,5 @@
-use Rattle.std.proofs.Common.{◌≡◌, reverse, drop, []}
+use Rattle.qh_model.proofs.Common.{◌≡◌, reverse, drop, [], AreIndices}
 use Rattle.qh_polygon.specs.steps.Chains.{turn_of, chain}
-use Rattle.qh_model.specs.contract.IdSets.{AreIndices}
 use Rattle.qh_polygon.proofs.chains.chain.Given as goal
 
 abbrev pub invariant-loop-next : goal.invariant-loop-next

@@ -1,6 +1,5 @@
-use Rattle.std.proofs.Common.{◌≡◌, reverse, vec_len}
+use Rattle.qh_model.proofs.Common.{◌≡◌, reverse, vec_len, AreIndices}
 use Rattle.qh_polygon.specs.steps.Chains.{turn_of, kept}
-use Rattle.qh_model.specs.contract.IdSets.{AreIndices}
 use Rattle.qh_polygon.proofs.chains.drop_tops.Given as goal
 
 abbrev pub invariant-loop-next : goal.invariant-loop-next

@@ -1,6 +1,5 @@
 -- The cycle so far consists of ids of the set.
-use Rattle.std.proofs.Common.{ℕ}
-use Rattle.qh_model.specs.headline.Sets.{In}
+use Rattle.qh_model.proofs.Common.{ℕ, In}
 use Rattle.qh_polygon.proofs.inner_places.far_cycle.Given as goal
 
 -- each is one of the ids

@@ -1,7 +1,6 @@
 -- The point is to the left of the sides so far; the remaining ones decide.
+use Rattle.qh_model.proofs.Common.{◌≡◌, ◌<◌, length, drop, get_or, AreIndices}
 use Rattle.qh_polygon.proofs.inner_places.is_inside.Given as goal
-use Rattle.std.proofs.Common.{◌≡◌, ◌<◌, length, drop, get_or}
-use Rattle.qh_model.specs.contract.IdSets.{AreIndices}
 use Rattle.qh_polygon.specs.steps.{Chains.turn_of, InnerPlaces.is_left_along, InnerPlaces.is_inside}
 
 -- the remaining sides decide the result

@@ -1,6 +1,5 @@
+use Rattle.qh_model.proofs.Common.{ap, ◌∙◌, subst, arith, All-more, IsPlace}
 use Rattle.qh_polygon.proofs.place_keys.point_keys.Goals as goal
-use Rattle.std.proofs.{Common.ap, Common.◌∙◌, Common.subst, Common.arith, lemmas.List.Elements.All-more}
-use Rattle.qh_model.specs.contract.Places.{IsPlace}
 use Rattle.qh_model.proofs.lists.Images.{map-more}
 use Rattle.qh_polygon.specs.contract.{PlaceNumbers.place_key, PlaceKeys.HasKey, PlaceKeys.key_at}
 

@@ -1,5 +1,4 @@
-use Rattle.std.proofs.Common.{◌≡◌, map, take}
-use Rattle.std.specs.List.{All}
+use Rattle.qh_model.proofs.Common.{◌≡◌, map, take, All}
 use Rattle.qh_polygon.specs.contract.PlaceKeys.{key_at, HasKey}
 use Rattle.qh_polygon.proofs.place_keys.point_keys.Given as goal
 

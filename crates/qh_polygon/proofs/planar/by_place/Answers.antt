@@ -1,6 +1,5 @@
+use Rattle.qh_model.proofs.Common.{ap, ◌∙◌, subst, sym, arith, take_all, IsNonDecreasingBy-from_sort, IsNonDecreasing, IsPermutation}
 use Rattle.qh_polygon.proofs.planar.by_place.Goals as goal
-use Rattle.std.proofs.{Common.ap, Common.◌∙◌, Common.subst, Common.sym, Common.arith, lemmas.List.take_all, lemmas.List.Sorted.IsNonDecreasingBy-from_sort}
-use Rattle.std.specs.{List.Sorted.IsNonDecreasing, Prelude.IsPermutation}
 use Rattle.qh_polygon.proofs.polygons.SortedPlaces.{sorted_indices}
 use Rattle.qh_polygon.specs.steps.PlaceKeys.{ids_in}
 

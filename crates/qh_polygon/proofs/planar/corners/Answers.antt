@@ -1,7 +1,6 @@
 -- The cycle of the two chains goes round the extremes, and is rotated to its least id.
+use Rattle.qh_model.proofs.Common.{◌<◌, ◌≤◌, ℕ, length, get_or, sym, subst, place, Members}
 use Rattle.qh_polygon.proofs.planar.corners.Goals as goal
-use Rattle.std.proofs.Common.{◌<◌, ◌≤◌, ℕ, length, get_or, sym, subst}
-use Rattle.qh_model.specs.headline.{Predicates.place, Sets.Members}
 use Rattle.qh_polygon.proofs.polygons.{GoesRound.GoesRound, LeastFirst.polygon_of, SortedPlaces.round_sorted}
 
 pub returns : goal.returns

@@ -1,5 +1,4 @@
-use Rattle.std.proofs.Common.{ap, sym, ◌∙◌, take, length, ◌-◌, ◌++◌, [], reverse}
-use Rattle.std.proofs.lemmas.Result.{IfOk-weaker}
+use Rattle.qh_model.proofs.Common.{ap, sym, ◌∙◌, take, length, ◌-◌, ◌++◌, [], reverse, IfOk-weaker}
 use Rattle.qh_polygon.proofs.polygons.Stacks.{fronts}
 use Rattle.qh_polygon.specs.steps.Chains.{turn_of, joined, chain}
 use Rattle.qh_polygon.proofs.planar.cycle.Goals as goal

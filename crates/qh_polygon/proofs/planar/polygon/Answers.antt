@@ -1,11 +1,9 @@
 -- The polygon of three or four ids by their turns, of more ids by their corners, of many ids without those inside.
+use Rattle.qh_model.proofs.Common.{ℕ, IsStrictlyIncreasing, Extreme, place, In, Members}
 use Rattle.qh_polygon.proofs.planar.polygon.Goals as goal
-use Rattle.std.proofs.Common.{ℕ}
-use Rattle.std.specs.List.Sorted.{IsStrictlyIncreasing}
-use Rattle.qh_model.specs.headline.{Extreme.Extreme, Predicates.place, Sets.In, Sets.Members}
 use Rattle.qh_polygon.specs.contract.PlanarSets.{IsPlanarSet}
-use Rattle.qh_polygon.proofs.InnerPlaces.{planar_flat, outer_flat, outer_polygon}
-use Rattle.qh_polygon.proofs.polygons.{Quadrilateral.polygon_of_four, Triangle.polygon_of_three}
+use Rattle.qh_polygon.proofs.{InnerPlaces.planar_flat, InnerPlaces.outer_flat, InnerPlaces.outer_polygon, polygons.Quadrilateral.polygon_of_four}
+use Rattle.qh_polygon.proofs.polygons.Triangle.{polygon_of_three}
 
 pub returns-then-ids-eq3 : goal.returns-then-ids-eq3
 returns-then-ids-eq3 c = λ h.

@@ -1,8 +1,5 @@
 -- The result is an order of the four that turns left at each.
-use Rattle.std.proofs.Common.{◌≡◌, ◌⊎◌, inl, inr, ℕ, [], ◌∷◌, refl, sym, ◌∙◌, arith}
-use Rattle.std.proofs.lemmas.Grind.{common_steps}
-use Rattle.std.specs.Prelude.{◌↔◌}
-use Rattle.qh_model.specs.headline.Sets.{In}
+use Rattle.qh_model.proofs.Common.{◌≡◌, ◌⊎◌, inl, inr, ℕ, [], ◌∷◌, refl, sym, ◌∙◌, arith, common_steps, ◌↔◌, In}
 use Rattle.qh_polygon.proofs.planar.quadrilateral.Goals.{then-turns_left, else-turns_left}
 use Rattle.qh_polygon.proofs.planar.quadrilateral.Goals as goal
 

@@ -1,8 +1,7 @@
+use Rattle.qh_model.proofs.Common.{◌*ℤ◌, ◌-ℤ◌, FitsSigned, lit<, to_z-of_z, w64}
 use Rattle.qh_pred.proofs.components.minor.Goals as goal
-use Rattle.std.proofs.{Common.◌*ℤ◌, Common.◌-ℤ◌, Common.FitsSigned, Common.lit<, lemmas.Int.to_z-of_z}
 use Rattle.qh_pred.specs.contract.Bounds.{difference_limit}
 use Rattle.qh_pred.proofs.Bounds.{minor_fits}
-use mir.Syntax.{w64}
 
 pub overflow_sub-result : goal.overflow_sub-result
 overflow_sub-result c =

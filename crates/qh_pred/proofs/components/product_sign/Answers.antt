@@ -1,9 +1,8 @@
+use Rattle.qh_model.proofs.Common.{◌∙◌, ap, FitsSigned, to_z-of_z, pos, ◌<ℤ◌, w64}
 use Rattle.qh_pred.proofs.components.product_sign.Goals as goal
-use Rattle.std.proofs.{Common.◌∙◌, Common.ap, Common.FitsSigned, lemmas.Cmp.int_ranked, lemmas.Int.to_z-of_z}
-use Rattle.std.specs.Prelude.{pos, ◌<ℤ◌}
+use Rattle.std.proofs.lemmas.Cmp.{int_ranked}
 use Rattle.qh_pred.specs.contract.Turns.{sign}
 use Rattle.qh_pred.proofs.Turns.{sign-mul}
-use mir.Syntax.{w64}
 
 pub returns-in-Greater : goal.returns-in-Greater
 returns-in-Greater c =

@@ -1,6 +1,5 @@
 -- One of two coordinates along each axis.
-use Rattle.std.proofs.Common.{ap}
-use Rattle.qh_model.specs.headline.Vector.{Vector}
+use Rattle.qh_model.proofs.Common.{ap, Vector}
 use Rattle.qh_pred.proofs.Coordinates.{made_above, made_one, one_of_two, read_is}
 use Rattle.qh_pred.proofs.corners.greatest_of.Goals as goal
 

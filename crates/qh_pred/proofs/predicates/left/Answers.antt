@@ -1,5 +1,4 @@
-use Rattle.std.proofs.Common.{◌∙◌, ap}
-use Rattle.qh_model.specs.headline.Vector.{Vector}
+use Rattle.qh_model.proofs.Common.{◌∙◌, ap, Vector}
 use Rattle.qh_pred.specs.contract.Turns.{sign, first_product}
 use Rattle.qh_pred.proofs.Turns.{turn_sign}
 use Rattle.qh_pred.proofs.predicates.left.Goals as goal

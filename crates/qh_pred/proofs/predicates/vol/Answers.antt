@@ -1,7 +1,5 @@
+use Rattle.qh_model.proofs.Common.{◌≡◌, rules, FitsSigned, ◌∙◌, refl, to_z-of_z, cross, vol, Vector, dot, minus, w128}
 use Rattle.qh_pred.proofs.predicates.vol.Goals as goal
-use Rattle.std.proofs.{Common.◌≡◌, Common.rules, Common.FitsSigned, Common.◌∙◌, Common.refl, lemmas.Int.to_z-of_z}
-use Rattle.qh_model.specs.headline.{Predicates.cross, Predicates.vol, Vector.Vector, Vector.dot, Vector.minus}
-use mir.Syntax.{w128}
 
 -- the volume is the scalar product of the normal and the vector to the fourth point
 vol_from : (a b c d n e : Vector) → n ≡ cross a b c → e ≡ minus d a → dot n e ≡ vol a b c d

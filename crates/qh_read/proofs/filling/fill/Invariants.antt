@@ -1,5 +1,4 @@
-use Rattle.std.proofs.Common.{◌≡◌, ◌≤◌, ◌+◌, ◌-◌, length, take}
-use Rattle.std.specs.Io.KnownBytes.{Consumes}
+use Rattle.qh_model.proofs.Common.{◌≡◌, ◌≤◌, ◌+◌, ◌-◌, length, take, Consumes}
 use Rattle.qh_model.specs.declared.limits.TheConstants.{BYTE_LIMIT}
 use Rattle.qh_read.proofs.filling.fill.Given as goal
 

@@ -1,6 +1,5 @@
+use Rattle.qh_model.proofs.Common.{arith, ◌≡◌, ◌∙◌, ◌+◌, ◌*◌, ◌++◌, ℕ, List, take, length, length-append, ap, sym, subst, append_assoc, take-add}
 use Rattle.qh_read.proofs.segments.feed_all.Goals as goal
-use Rattle.std.proofs.Common.{arith, ◌≡◌, ◌∙◌, ◌+◌, ◌*◌, ◌++◌, ℕ, List, take, length, length-append, ap, sym, subst, append_assoc}
-use Rattle.std.proofs.Math.Seq.{take-add}
 use Rattle.qh_read.specs.{contract.Holding.Fed, steps.Segments.segment_size, steps.Segments.segment_text}
 
 -- the segments so far, and then one more

@@ -1,6 +1,5 @@
+use Rattle.qh_model.proofs.Common.{◌≡◌, arith, refl, ap, Bool, true, false, Ok, IsAtEnd}
 use Rattle.qh_read.proofs.whole.read_form_from.Goals as goal
-use Rattle.std.proofs.Common.{◌≡◌, arith, refl, ap, Bool, true, false, Ok}
-use Rattle.std.specs.Io.KnownBytes.{IsAtEnd}
 use Rattle.qh_read.proofs.SourceLemmas.{AnswersSource-fed, Gives-all}
 
 -- one of two cases, the other of which is impossible

@@ -1,6 +1,5 @@
 -- If all passes left, all blocks are claimed.
-use Rattle.std.proofs.Common.{sym, subst}
-use Rattle.std.specs.Prelude.{IsSome}
+use Rattle.qh_model.proofs.Common.{sym, subst, IsSome}
 use Rattle.qh_run.proofs.WorkedBoards.{all_claimed}
 use Rattle.qh_run.proofs.root.root_of.Goals as goal
 

@@ -1,6 +1,5 @@
 -- The hull of the ids that the tree or the filter returns is that of all ids.
-use Rattle.std.proofs.{Common.sym, Common.subst, lemmas.Result.IfOk-weaker}
-use Rattle.qh_model.specs.contract.IdSets.{AreIndices}
+use Rattle.qh_model.proofs.Common.{sym, subst, IfOk-weaker, AreIndices}
 use Rattle.qh_model.proofs.hulls.ExtremeParts.{part_indices, part_set}
 use Rattle.qh_run.proofs.run.finished.Goals as goal
 

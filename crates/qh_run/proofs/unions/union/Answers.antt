@@ -1,7 +1,4 @@
-use Rattle.std.proofs.Common.{◌≡◌, ◌++◌, ◌∙◌, eqb, sym, subst, ap, List}
-use Rattle.std.proofs.lemmas.{List.Filters.dedup_is, Map.Keys.IsStrictlyIncreasing-dedup}
-use Rattle.std.specs.{Prelude.◌↔◌, Prelude.ℕ, List.Sorted.IsStrictlyIncreasing}
-use Rattle.qh_model.specs.headline.Sets.{In}
+use Rattle.qh_model.proofs.Common.{◌≡◌, ◌++◌, ◌∙◌, eqb, sym, subst, ap, List, dedup_is, IsStrictlyIncreasing-dedup, ◌↔◌, ℕ, IsStrictlyIncreasing, In}
 use Rattle.qh_model.proofs.lists.Joined.{in_append, of_append}
 use Rattle.qh_polygon.proofs.KeptIds.{kept_members}
 use Rattle.qh_run.proofs.unions.union.Goals as goal

@@ -1,8 +1,7 @@
 -- The ids that the filter keeps have the hull of all ids, and are no more.
-use Rattle.std.proofs.Common.{◌≤◌, length, arith, subst, sym}
-use Rattle.qh_model.specs.{contract.IdSets.AreIndices, contract.IdSets.IsIdSet, headline.Hull.IsBody, headline.Predicates.place, headline.Sets.Members}
-use Rattle.qh_model.proofs.{DistinctIds.few_ids, DistinctIds.ids_within, Members.rising_once, hulls.SameSets.body_of_part, lists.OnceEach.once_within}
-use Rattle.qh_model.proofs.hulls.ExtremeParts.{part_indices, part_set}
+use Rattle.qh_model.proofs.Common.{◌≤◌, length, arith, subst, sym, AreIndices, IsIdSet, IsBody, place, Members}
+use Rattle.qh_model.proofs.{DistinctIds.few_ids, DistinctIds.ids_within, Members.rising_once, hulls.ExtremeParts.part_indices, hulls.ExtremeParts.part_set}
+use Rattle.qh_model.proofs.{hulls.SameSets.body_of_part, lists.OnceEach.once_within}
 use Rattle.qh_plane.proofs.DistinctLists.{id_set}
 use Rattle.qh_serve.proofs.hulls.hull_as_given.Goals as goal
 

@@ -1,7 +1,5 @@
 -- The numbers are those of the hull of the points.
-use Rattle.std.proofs.Common.{◌≤◌, length, refl, arith, subst, sym}
-use Rattle.std.proofs.lemmas.Result.{IfOk-weaker}
-use Rattle.qh_model.specs.headline.{Dimension.IsDimension, Predicates.place, Sets.Members, Text.IsText}
+use Rattle.qh_model.proofs.Common.{◌≤◌, length, refl, arith, subst, sym, IfOk-weaker, IsDimension, place, Members, IsText}
 use Rattle.qh_model.proofs.DistinctIds.{few_ids, ids_within, some_id}
 use Rattle.qh_plane.proofs.DistinctLists.{id_set}
 use Rattle.qh_laws.proofs.RankTexts.{ranks_are_text}

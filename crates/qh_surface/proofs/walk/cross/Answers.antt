@@ -1,12 +1,11 @@
 -- The neighbour joins the walk if it passes and has no mark.
-use Rattle.std.proofs.Common.{◌≡◌, ◌∙◌, ◌<◌, ℕ, ap, sym, subst, arith, set, length, false, ◌||◌, ◌↔◌, IsTrue}
-use Rattle.qh_model.specs.contract.StoredSurface.{surface_of}
+use Rattle.qh_model.proofs.Common.{◌≡◌, ◌∙◌, ◌<◌, ℕ, ap, sym, subst, arith, set, length, false, ◌||◌, ◌↔◌, IsTrue, surface_of}
 use Rattle.qh_mesh.specs.contract.Edges.{facet_of, nth_side}
 use Rattle.qh_mesh.proofs.Rewiring.{over-twin}
 use Rattle.qh_surface.specs.contract.Walks.{mark_at, IsMet}
-use Rattle.qh_surface.proofs.{LiveFacets.live_below, WalkSteps.joined, WalkSteps.joined_further, WalkSteps.met, walk.cross.Given.Over}
+use Rattle.qh_surface.proofs.{LiveFacets.live_below, WalkSteps.joined, WalkSteps.joined_further, WalkSteps.met, walk.cross.Goals.After-push_reserved}
+use Rattle.qh_surface.proofs.walk.cross.Given.{Over}
 use Rattle.qh_surface.proofs.walk.cross.Goals as goal
-use Rattle.qh_surface.proofs.walk.cross.Goals.{After-push_reserved}
 
 -- the neighbour is marked if it passes, whether it is entered or not
 module _ (g : Over) (c : After-push_reserved g) where

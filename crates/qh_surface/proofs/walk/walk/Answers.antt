@@ -1,8 +1,7 @@
 -- A walk goes over one facet after the other.
-use Rattle.std.proofs.Common.{rules, ◌∙◌, ◌<◌, [], length, arith, subst}
+use Rattle.qh_model.proofs.Common.{rules, ◌∙◌, ◌<◌, [], length, arith, subst, get_or_read}
 use Rattle.qh_surface.specs.contract.Walks.{IsCrossed}
 use Rattle.qh_surface.proofs.WalkSteps.{facets_fit, further_trans, crossed_more}
-use Rattle.std.proofs.lemmas.List.{get_or_read}
 use Rattle.qh_surface.proofs.walk.walk.Goals as goal
 
 pub loop-next-smaller : goal.loop-next-smaller

@@ -1,5 +1,4 @@
-use Rattle.std.proofs.Common.{◌*◌, sym, subst, ap, ◌∙◌, take}
-use Rattle.std.proofs.lemmas.List.{take_min}
+use Rattle.std.proofs.{Common.◌*◌, Common.sym, Common.subst, Common.ap, Common.◌∙◌, Common.take, lemmas.List.take_min}
 use Rattle.std.specs.Fork.{IsChunk}
 use Rattle.qh_threads.proofs.Cutting.{is_chunk}
 use Rattle.qh_threads.proofs.chunks.chunk_at.Goals as goal

@@ -1,6 +1,5 @@
 -- The answers of one more thread.
-use Rattle.std.proofs.Common.{◌∙◌, subst, All, IfOk}
-use Rattle.std.proofs.lemmas.List.Elements.{All-tail}
+use Rattle.std.proofs.{Common.◌∙◌, Common.subst, Common.All, Common.IfOk, lemmas.List.Elements.All-tail}
 use Rattle.std.specs.{Fork.GivesEach, Vec.Iter.into_iter_items}
 use Rattle.qh_threads.specs.steps.Answers.{AreAnswers}
 use Rattle.qh_threads.proofs.claimed.in_order.Goals as goal

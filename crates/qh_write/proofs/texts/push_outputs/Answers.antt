@@ -1,5 +1,4 @@
-use Rattle.std.{proofs.Common.ap, proofs.Common.◌∙◌, proofs.Common.take_all, proofs.Common.◌++◌, specs.List.flat_map}
-use Rattle.qh_model.specs.headline.Text.{output_text}
+use Rattle.qh_model.proofs.Common.{ap, ◌∙◌, take_all, ◌++◌, flat_map, output_text}
 use Rattle.qh_write.specs.contract.Pieces.{bytes_in}
 use Rattle.qh_write.proofs.texts.push_outputs.Goals as goal
 

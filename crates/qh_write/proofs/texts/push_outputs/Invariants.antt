@@ -1,5 +1,4 @@
-use Rattle.std.{proofs.Common.◌≡◌, proofs.Common.◌++◌, proofs.Common.take, specs.List.flat_map}
-use Rattle.qh_model.specs.headline.Text.{output_text}
+use Rattle.qh_model.proofs.Common.{◌≡◌, ◌++◌, take, flat_map, output_text}
 use Rattle.qh_write.specs.contract.Pieces.{bytes_in}
 use Rattle.qh_write.proofs.texts.push_outputs.Given as goal
 

@@ -1,6 +1,5 @@
 -- A word is processed before those after it.
-use Rattle.std.proofs.Common.{◌∙◌, ap, sym}
-use Rattle.std.specs.Option.{option_and_then}
+use Rattle.qh_model.proofs.Common.{◌∙◌, ap, sym, option_and_then}
 use Rattle.hullcheck.specs.contract.CommandLine.{Asked, asked_in, with_words}
 use Rattle.hullcheck.proofs.WordLaws.{number_behind, word_before}
 use Rattle.hullcheck.proofs.command_line.Settings.take.Goals as goal

@@ -1,7 +1,5 @@
-use Rattle.std.proofs.Common.{◌<◌, arith}
-use Rattle.std.proofs.lemmas.List.Sorted.{IsNonDecreasingBy-from_sort}
-use Rattle.qconvex_c.specs.contract.Neighbors.{side_from, side_to}
-use Rattle.qconvex_c.specs.declared.side_keys.TheConstants.{SIDE_ROOM}
+use Rattle.qh_model.proofs.Common.{◌<◌, arith, IsNonDecreasingBy-from_sort}
+use Rattle.qconvex_c.specs.{contract.Neighbors.side_from, contract.Neighbors.side_to, declared.side_keys.TheConstants.SIDE_ROOM}
 use Rattle.qconvex_c.proofs.SideKeys.{one_more, moved}
 use Rattle.qconvex_c.proofs.side_keys.SideKeys.sorted.Goals as goal
 

@@ -1,5 +1,4 @@
-use Rattle.qconvex_c.specs.contract.Neighbors.{side_from, side_to}
-use Rattle.qconvex_c.specs.steps.SideKeys.{AreKeys}
+use Rattle.qconvex_c.specs.{contract.Neighbors.side_from, contract.Neighbors.side_to, steps.SideKeys.AreKeys}
 use Rattle.qconvex_c.proofs.side_keys.SideKeys.sorted.Given as goal
 
 abbrev pub invariant-loop-side : goal.invariant-loop-side

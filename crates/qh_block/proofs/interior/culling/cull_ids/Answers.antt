@@ -1,6 +1,5 @@
 -- The first round keeps a part of the set, and the second keeps a part of that part.
-use Rattle.std.proofs.Common.{sym, subst}
-use Rattle.qh_model.specs.contract.IdSets.{AreIndices}
+use Rattle.qh_model.proofs.Common.{sym, subst, AreIndices}
 use Rattle.qh_model.proofs.hulls.ExtremeParts.{part_indices}
 use Rattle.qh_block.specs.steps.InnerPoints.{IsOuterPart}
 use Rattle.qh_block.proofs.InnerPoints.{part_of_part}

@@ -1,6 +1,5 @@
 -- A sample is a part of the set.
-use Rattle.std.proofs.Common.{◌≡◌, ◌∙◌, ◌<◌, ◌*◌, ℕ, List, length, slice_index, sym, subst}
-use Rattle.qh_model.specs.{contract.IdSets.AreIndices, headline.Sets.In}
+use Rattle.qh_model.proofs.Common.{◌≡◌, ◌∙◌, ◌<◌, ◌*◌, ℕ, List, length, slice_index, sym, subst, AreIndices, In}
 use Rattle.qh_model.proofs.{Members.In-get_or, Members.in_at, hulls.ExtremeParts.part_indices}
 use Rattle.qh_block.specs.{contract.Cells.HoldsPoint, steps.InnerPoints.AreInner}
 use Rattle.qh_block.proofs.InnerPoints.{kept_part}

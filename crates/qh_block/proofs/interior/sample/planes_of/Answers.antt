@@ -1,6 +1,5 @@
 -- The planes of the facets so far.
-use Rattle.std.proofs.Common.{ℕ, List, ◌∙◌, sym, subst}
-use Rattle.std.specs.Prelude.{pos, ◌<ℤ◌}
+use Rattle.qh_model.proofs.Common.{ℕ, List, ◌∙◌, sym, subst, pos, ◌<ℤ◌}
 use Rattle.qh_pred.specs.contract.Planes.{PlaneValue}
 use Rattle.qh_block.proofs.InnerPoints.{AreListed, none_listed, next_listed, all_listed}
 use Rattle.qh_surface.proofs.LiveFacets.{next_live}

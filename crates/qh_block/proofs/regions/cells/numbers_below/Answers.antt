@@ -1,7 +1,6 @@
 -- One more number.
-use Rattle.std.proofs.Common.{◌≡◌, ◌∙◌, ◌+◌, ℕ, List, [], ◌∷◌, ◌++◌, rules, sym, ap, zero-add}
+use Rattle.qh_model.proofs.Common.{◌≡◌, ◌∙◌, ◌+◌, ℕ, List, [], ◌∷◌, ◌++◌, rules, sym, ap, zero-add, range_with_len}
 use Rattle.std.proofs.lemmas.List.{map-id, FromFn.map-range_with_len_more}
-use Rattle.std.specs.List.{range_with_len}
 use Rattle.qh_block.proofs.regions.cells.numbers_below.Goals as goal
 
 -- the range with the next number

@@ -1,6 +1,5 @@
 -- The numbers so far, one for each step of the loop.
-use Rattle.std.proofs.Common.{◌≡◌, ◌≤◌, vec_len, vec_capacity}
-use Rattle.std.specs.List.{range_with_len}
+use Rattle.qh_model.proofs.Common.{◌≡◌, ◌≤◌, vec_len, vec_capacity, range_with_len}
 use Rattle.qh_block.proofs.regions.cells.numbers_below.Given as goal
 
 abbrev pub invariant-loop-number : goal.invariant-loop-number

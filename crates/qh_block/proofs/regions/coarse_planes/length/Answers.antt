@@ -1,10 +1,7 @@
 -- A product of two numbers of 64 bits fits 128 bits.
-use Rattle.std.proofs.Common.{◌^◌, ◌≤◌, arith, lit<, FitsSigned}
-use Rattle.std.proofs.lemmas.Int.{ints}
-use Rattle.std.specs.Prelude.{ℤ, unsigned_abs}
+use Rattle.qh_model.proofs.Common.{◌^◌, ◌≤◌, arith, lit<, FitsSigned, ints, ℤ, unsigned_abs, w64, w128}
 use Rattle.qh_block.proofs.Numbers.{product_fits, product_is, product_size}
 use Rattle.qh_block.proofs.regions.coarse_planes.length.Goals as goal
-use mir.Syntax.{w64, w128}
 
 -- a number of 64 bits has an absolute value of at most 2^63
 size : (x : ℤ) → FitsSigned w64 x → unsigned_abs x ≤ 2 ^ 63

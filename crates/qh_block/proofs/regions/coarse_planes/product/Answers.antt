@@ -1,9 +1,8 @@
 -- A product of two coordinates fits 64 bits.
-use Rattle.std.proofs.Common.{lit<}
+use Rattle.qh_model.proofs.Common.{lit<, w32, w64}
 use Rattle.qh_model.specs.declared.limits.TheConstants.{COORDINATE_LIMIT}
 use Rattle.qh_block.proofs.Numbers.{product_fits, product_is, product_size}
 use Rattle.qh_block.proofs.regions.coarse_planes.product.Goals as goal
-use mir.Syntax.{w32, w64}
 
 pub overflow_mul-result : goal.overflow_mul-result
 overflow_mul-result c =

@@ -1,10 +1,7 @@
 -- The rest of a component after the steps.
-use Rattle.std.proofs.{Common.◌≡◌, Common.arith, lemmas.Int.ints}
-use Rattle.std.specs.Prelude.{◌+ℤ◌}
+use Rattle.qh_model.proofs.Common.{◌≡◌, arith, ints, ◌+ℤ◌, w64, w128, to_z, of_z}
 use Rattle.qh_block.proofs.CoarsePlanes.{rest_is, same_product}
 use Rattle.qh_block.proofs.regions.coarse_planes.rest_of.Goals as goal
-use mir.Syntax.{w64, w128}
-use mir.Val.{to_z, of_z}
 
 pub returns-clause-rest : goal.returns-clause-rest
 returns-clause-rest c =

@@ -1,14 +1,10 @@
 -- The rests of the three components after the steps.
-use Rattle.std.proofs.Common.{◌≡◌, ◌^◌, lit<, refl}
-use Rattle.std.proofs.lemmas.Int.{to_z-of_z}
-use Rattle.std.specs.Prelude.{◌+ℤ◌, pos}
+use Rattle.qh_model.proofs.Common.{◌≡◌, ◌^◌, lit<, refl, to_z-of_z, ◌+ℤ◌, pos, w32, w64, w128, to_z, of_z}
 use Rattle.qh_model.specs.declared.limits.TheConstants.{COORDINATE_LIMIT}
 use Rattle.qh_block.proofs.CoarsePlanes.{room_of, same_product, same_rest}
-use Rattle.qh_pred.specs.contract.Bounds.{normal_limit}
 use Rattle.qh_block.proofs.Numbers.{held_is, held_as, held_size, held_within}
+use Rattle.qh_pred.specs.contract.Bounds.{normal_limit}
 use Rattle.qh_block.proofs.regions.coarse_planes.room_for.Goals as goal
-use mir.Syntax.{w32, w64, w128}
-use mir.Val.{to_z, of_z}
 
 pub returns-clause-room : goal.returns-clause-room
 returns-clause-room c =

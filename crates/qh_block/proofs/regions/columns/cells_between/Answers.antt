@@ -1,7 +1,5 @@
 -- The cells of the whole square.
-use Rattle.std.proofs.Common.{rules, List, sym, subst}
-use Rattle.std.proofs.lemmas.List.Elements.{All-nil}
-use Rattle.std.specs.List.{All}
+use Rattle.qh_model.proofs.Common.{rules, List, sym, subst, All-nil, All}
 use Rattle.qh_block.specs.{contract.Cells.IsCellOf, declared.regions.cells.Cell.Cell}
 use Rattle.qh_block.proofs.regions.columns.cells_between.Goals as goal
 

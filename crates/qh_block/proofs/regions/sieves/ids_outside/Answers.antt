@@ -1,7 +1,5 @@
 -- An id whose point is in the region is removed.
-use Rattle.std.proofs.Common.{◌≡◌, ◌∷◌, ◌++◌, ◌+◌, drop, ap, sym, subst, ◌∙◌}
-use Rattle.std.proofs.lemmas.List.{drop_more, append_assoc, append-nil, drop_all}
-use Rattle.qh_model.specs.headline.Sets.{Members}
+use Rattle.qh_model.proofs.Common.{◌≡◌, ◌∷◌, ◌++◌, ◌+◌, drop, ap, sym, subst, ◌∙◌, drop_more, append_assoc, append-nil, drop_all, Members}
 use Rattle.qh_model.proofs.Members.{In-get_or}
 use Rattle.qh_block.specs.contract.KeptIds.{KeepsExtremes}
 use Rattle.qh_block.proofs.KeptIds.{all_kept, held_goes}

@@ -1,6 +1,5 @@
 -- The kept ids of one more part are added.
-use Rattle.std.proofs.Common.{◌≡◌, ◌≤◌, ◌++◌, ◌*◌, ◌+◌, ◌∙◌, ℕ, List, [], arith, ap, sym, subst, take, drop, length}
-use Rattle.std.proofs.{Math.Nat.mul-le-mul_right, Math.Seq.take-add, lemmas.List.take_all}
+use Rattle.qh_model.proofs.Common.{◌≡◌, ◌≤◌, ◌++◌, ◌*◌, ◌+◌, ◌∙◌, ℕ, List, [], arith, ap, sym, subst, take, drop, length, mul-le-mul_right, take-add, take_all}
 use Rattle.qh_block.specs.contract.{Cells.HoldsPoint, KeptIds.KeepsExtremes}
 use Rattle.qh_block.proofs.KeptIds.{all_kept, both_kept}
 use Rattle.qh_block.proofs.regions.sieves.joined.Goals as goal

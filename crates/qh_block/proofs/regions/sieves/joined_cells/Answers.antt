@@ -1,7 +1,5 @@
 -- The cells of one more part.
-use Rattle.std.proofs.Common.{List, All, Vec, Global, sym, subst}
-use Rattle.std.proofs.lemmas.List.Elements.{All-nil, All-head, All-tail, All-append}
-use Rattle.std.specs.Prelude.{IfOk, Result}
+use Rattle.qh_model.proofs.Common.{List, All, Vec, Global, sym, subst, All-nil, All-head, All-tail, All-append, IfOk, Result}
 use Rattle.qh_model.specs.declared.memory.Memory.{Memory}
 use Rattle.qh_pred.specs.contract.Planes.{PlaneValue}
 use Rattle.qh_block.specs.{contract.Cells.IsCellOf, declared.regions.cells.Cell.Cell}

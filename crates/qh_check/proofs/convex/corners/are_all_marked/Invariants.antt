@@ -1,6 +1,5 @@
 -- The corners of the triangles so far are marked.
-use Rattle.std.proofs.Common.{ℕ, take}
-use Rattle.qh_model.specs.laws.ClosedSurfaceLaws.{IsCornerOf}
+use Rattle.qh_model.proofs.Common.{ℕ, take, IsCornerOf}
 use Rattle.qh_check.specs.steps.CornerMarks.{IsMarked}
 use Rattle.qh_check.proofs.convex.corners.are_all_marked.Given as goal
 

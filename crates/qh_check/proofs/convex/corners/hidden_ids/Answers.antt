@@ -1,6 +1,5 @@
 -- Marked corners are ids, and ids without a mark are hidden.
-use Rattle.std.proofs.Common.{Bool, List, ℕ, subst, sym, ◌⊎◌}
-use Rattle.qh_model.specs.{headline.Sets.In, laws.ClosedSurfaceLaws.IsCornerOf}
+use Rattle.qh_model.proofs.Common.{Bool, List, ℕ, subst, sym, ◌⊎◌, In, IsCornerOf}
 use Rattle.qh_model.proofs.lists.Filters.{of_filter}
 use Rattle.qh_check.specs.steps.CornerMarks.{IsMarked, is_unmarked}
 use Rattle.qh_check.proofs.Marks.{corner_or_unmarked}

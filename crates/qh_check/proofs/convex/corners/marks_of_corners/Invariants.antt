@@ -1,6 +1,5 @@
 -- Each mark is that of a corner of one of the triangles so far.
-use Rattle.std.proofs.Common.{ℕ, ◌≡◌, length, take}
-use Rattle.qh_model.specs.laws.ClosedSurfaceLaws.{IsCornerOf}
+use Rattle.qh_model.proofs.Common.{ℕ, ◌≡◌, length, take, IsCornerOf}
 use Rattle.qh_check.specs.steps.CornerMarks.{IsMarked}
 use Rattle.qh_check.proofs.convex.corners.marks_of_corners.Given as goal
 

@@ -1,7 +1,5 @@
 -- The current id is marked too.
-use Rattle.std.proofs.Common.{◌≡◌, ◌∙◌, ◌⊎◌, ℕ, ◌+◌, get_or, inl, inr, subst, sym, take}
-use Rattle.std.proofs.lemmas.List.{length-set}
-use Rattle.qh_model.specs.headline.Sets.{In}
+use Rattle.qh_model.proofs.Common.{◌≡◌, ◌∙◌, ◌⊎◌, ℕ, ◌+◌, get_or, inl, inr, subst, sym, take, length-set, In}
 use Rattle.qh_check.specs.steps.CornerMarks.{IsMarked}
 use Rattle.qh_check.proofs.{Marks.marked_more, Prefixes.in_more, Prefixes.last_more}
 use Rattle.qh_check.proofs.convex.corners.marks_of_ids.Goals as goal

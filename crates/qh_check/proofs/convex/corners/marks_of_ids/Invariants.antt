@@ -1,6 +1,5 @@
 -- Each mark is that of one of the ids so far.
-use Rattle.std.proofs.Common.{ℕ, ◌≡◌, length, take}
-use Rattle.qh_model.specs.headline.Sets.{In}
+use Rattle.qh_model.proofs.Common.{ℕ, ◌≡◌, length, take, In}
 use Rattle.qh_check.specs.steps.CornerMarks.{IsMarked}
 use Rattle.qh_check.proofs.convex.corners.marks_of_ids.Given as goal
 

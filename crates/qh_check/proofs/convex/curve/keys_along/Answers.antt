@@ -1,6 +1,5 @@
 -- Sorted keys have the same ids.
-use Rattle.std.proofs.Common.{IsPermutation, map, subst, List, ℕ}
-use Rattle.std.proofs.lemmas.List.Sorted.{IsPermutation-map}
+use Rattle.qh_model.proofs.Common.{IsPermutation, map, subst, List, ℕ, IsPermutation-map}
 use Rattle.qh_check.specs.steps.Hidden.{id_in}
 use Rattle.qh_check.proofs.convex.curve.keys_along.Goals as goal
 

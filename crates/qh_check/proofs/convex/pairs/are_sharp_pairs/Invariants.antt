@@ -1,6 +1,5 @@
 -- The pairs so far are sharp.
-use Rattle.std.proofs.Common.{ℕ, ◌<◌, slice_index}
-use Rattle.qh_model.specs.headline.Predicates.{place}
+use Rattle.qh_model.proofs.Common.{ℕ, ◌<◌, slice_index, place}
 use Rattle.qh_check.specs.steps.StepKeys.{step_in, IsSharpPair}
 use Rattle.qh_check.proofs.convex.pairs.are_sharp_pairs.Given as goal
 

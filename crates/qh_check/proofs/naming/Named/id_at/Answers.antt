@@ -1,7 +1,5 @@
 -- The point of the id at the position is at the place.
-use Rattle.std.proofs.Common.{◌≡◌, ◌∙◌, ap, get_or, sym}
-use Rattle.std.proofs.lemmas.List.{get_or_default}
-use Rattle.qh_model.specs.headline.Predicates.{place}
+use Rattle.qh_model.proofs.Common.{◌≡◌, ◌∙◌, ap, get_or, sym, get_or_default, place}
 use Rattle.qh_model.proofs.Members.{In-get_or}
 use Rattle.qh_check.proofs.naming.Named.id_at.Goals as goal
 

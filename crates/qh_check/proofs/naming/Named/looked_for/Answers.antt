@@ -1,7 +1,5 @@
 -- The point of the current id is at the place, or that of no id is.
-use Rattle.std.proofs.Common.{◌≡◌, ◌∙◌, arith, ap, get_or, subst, sym}
-use Rattle.std.proofs.lemmas.List.{get_or_default}
-use Rattle.qh_model.specs.headline.{Predicates.place, Sets.In}
+use Rattle.qh_model.proofs.Common.{◌≡◌, ◌∙◌, arith, ap, get_or, subst, sym, get_or_default, place, In}
 use Rattle.qh_model.proofs.Members.{In-get_or, in_at}
 use Rattle.qh_check.proofs.naming.Named.looked_for.Goals as goal
 

@@ -1,6 +1,5 @@
 -- The point of none of the ids so far is at the place.
-use Rattle.std.proofs.Common.{ℕ, ◌<◌, ◌≢◌, get_or}
-use Rattle.qh_model.specs.headline.Predicates.{place}
+use Rattle.qh_model.proofs.Common.{ℕ, ◌<◌, ◌≢◌, get_or, place}
 use Rattle.qh_check.proofs.naming.Named.looked_for.Given as goal
 
 abbrev pub invariant-loop-id : goal.invariant-loop-id

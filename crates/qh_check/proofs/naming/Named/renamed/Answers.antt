@@ -1,7 +1,5 @@
 -- The current number represents no id.
-use Rattle.std.proofs.Common.{◌≡◌, ◌∙◌, get_or, subst, sym}
-use Rattle.std.proofs.lemmas.List.{get_or_default}
-use Rattle.qh_model.specs.headline.Sets.{In}
+use Rattle.qh_model.proofs.Common.{◌≡◌, ◌∙◌, get_or, subst, sym, get_or_default, In}
 use Rattle.qh_model.proofs.Members.{In-get_or}
 use Rattle.qh_check.proofs.naming.Named.renamed.Goals as goal
 

@@ -1,6 +1,4 @@
-use Rattle.std.proofs.Common.{◌∙◌, ap, length, [], ◌∷◌, ◌+◌}
-use Rattle.std.proofs.lemmas.List.{length-append}
-use Rattle.qh_model.specs.headline.Predicates.{place}
+use Rattle.qh_model.proofs.Common.{◌∙◌, ap, length, [], ◌∷◌, ◌+◌, length-append, place}
 use Rattle.qh_lattice.specs.{contract.LatticeMaps.moved, steps.Rows.matrix_of, steps.Rows.shift_of}
 use Rattle.qh_lattice.proofs.Rows.{one_more, own_place}
 use Rattle.qh_lattice.proofs.lattice_map.LatticeMap.images.Goals as goal

@@ -1,6 +1,5 @@
 -- The images so far are those of the points so far.
-use Rattle.std.proofs.Common.{ℕ, ◌≡◌, ◌<◌, length}
-use Rattle.qh_model.specs.headline.Predicates.{place}
+use Rattle.qh_model.proofs.Common.{ℕ, ◌≡◌, ◌<◌, length, place}
 use Rattle.qh_lattice.specs.{contract.LatticeMaps.moved, steps.Rows.matrix_of, steps.Rows.shift_of}
 use Rattle.qh_lattice.proofs.lattice_map.LatticeMap.images.Given as goal
 

@@ -1,5 +1,4 @@
-use Rattle.std.proofs.Common.{◌∙◌, ap}
-use Rattle.qh_model.specs.headline.Predicates.{vol}
+use Rattle.qh_model.proofs.Common.{◌∙◌, ap, vol}
 use Rattle.qh_lattice.proofs.Rows.{is_above, rows_oriented}
 use Rattle.qh_lattice.proofs.lattice_map.LatticeMap.new.Goals as goal
 

@@ -1,7 +1,6 @@
 -- A tetrahedron is a mesh: each of its twelve sides has its twin.
+use Rattle.qh_model.proofs.Common.{ℕ, suc, rules, ◌∙◌, Side, first, second, third}
 use Rattle.qh_mesh.proofs.mesh.Mesh.of_corners.Goals as goal
-use Rattle.std.proofs.Common.{ℕ, suc, rules, ◌∙◌}
-use Rattle.qh_model.specs.contract.Surface.{Side, Side.first, Side.second, Side.third}
 use Rattle.qh_mesh.specs.{contract.Edges.edge_of, contract.Replacement.IsLive, contract.SoundMesh.simplex_facets, steps.Twins.HasTwin}
 use Rattle.qh_mesh.proofs.EdgeSides.{twins_by_side}
 

@@ -1,6 +1,5 @@
 -- A simplex that is not reversed is a sound mesh.
-use Rattle.std.proofs.{Common.rules, lemmas.Result.IfOk-weaker}
-use Rattle.qh_model.specs.headline.Predicates.{place}
+use Rattle.qh_model.proofs.Common.{rules, IfOk-weaker, place}
 use Rattle.qh_mesh.proofs.SoundMeshes.{simplex_is_sound}
 use Rattle.qh_mesh.proofs.mesh.Mesh.simplex.Goals as goal
 

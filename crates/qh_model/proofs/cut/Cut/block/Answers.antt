@@ -1,6 +1,5 @@
+use Rattle.qh_model.proofs.Common.{◌≡◌, ◌+◌, ◌<◌, arith, common_steps, block_count, bound}
 use Rattle.qh_model.proofs.cut.Cut.block.Goals as goal
-use Rattle.std.proofs.{Common.◌≡◌, Common.◌+◌, Common.◌<◌, Common.arith, lemmas.Grind.common_steps}
-use Rattle.qh_model.specs.contract.Cut.{block_count, bound}
 use Rattle.qh_model.proofs.Cuts.{block_ends}
 
 -- src/cut.rt:134:5

@@ -1,12 +1,10 @@
 -- The part is tested against each other part in order.
-use Rattle.std.proofs.Common.{◌≡◌, ◌<◌, ◌⊎◌, inl, inr, length, get_or, sym, subst, arith}
-use Rattle.std.proofs.lemmas.Bool.{cases_lt}
-use Rattle.qh_model.specs.{contract.StoredSurface.surface_of, headline.Predicates.place, headline.Sets.In}
+use Rattle.qh_model.proofs.Common.{◌≡◌, ◌<◌, ◌⊎◌, inl, inr, length, get_or, sym, subst, arith, cases_lt, surface_of, place, In}
 use Rattle.qh_surface.specs.contract.{NamedMeshes.named, Walks.mark_at}
 use Rattle.qh_parts_join.specs.{contract.Parts.own_in, declared.parts.Part.Part}
 use Rattle.qh_parts.specs.steps.{Apart.IsApart, Witnesses.IsRingOver}
-use Rattle.qh_parts.proofs.{Answers.apart_of, StayingParts.shared_indices, StayingParts.apart_at, StayingParts.staying_part}
-use Rattle.qh_parts.proofs.seam.staying.stays.Goals.{then-other-number+in_ok-apart+else-not-apart, else-other-number}
+use Rattle.qh_parts.proofs.{Answers.apart_of, seam.staying.stays.Goals.then-other-number+in_ok-apart+else-not-apart, seam.staying.stays.Goals.else-other-number}
+use Rattle.qh_parts.proofs.StayingParts.{shared_indices, apart_at, staying_part}
 use Rattle.qh_parts.proofs.seam.staying.stays.Goals as goal
 
 pub four_of-requires : goal.four_of-requires

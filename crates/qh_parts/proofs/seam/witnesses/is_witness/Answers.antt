@@ -1,7 +1,5 @@
 -- One more point is settled.
-use Rattle.std.proofs.Common.{◌≡◌, ◌<◌, ◌∙◌, inl, inr, length, get_or, arith, ap, sym, subst}
-use Rattle.std.proofs.lemmas.{Bool.cases_lt, List.get_or_default}
-use Rattle.qh_model.specs.{contract.StoredSurface.surface_of, headline.Predicates.place}
+use Rattle.qh_model.proofs.Common.{◌≡◌, ◌<◌, ◌∙◌, inl, inr, length, get_or, arith, ap, sym, subst, cases_lt, get_or_default, surface_of, place}
 use Rattle.qh_model.proofs.Members.{to_contains}
 use Rattle.qh_surface.specs.contract.{NamedMeshes.named, Walks.mark_at}
 use Rattle.qh_parts.specs.steps.Witnesses.{IsAnswered}

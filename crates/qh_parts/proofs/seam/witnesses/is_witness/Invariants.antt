@@ -1,6 +1,5 @@
 -- The facet is a witness for the points so far.
-use Rattle.std.proofs.Common.{ℕ, ◌<◌, get_or}
-use Rattle.qh_model.specs.{contract.StoredSurface.surface_of, headline.Vector.Vector, headline.Predicates.place}
+use Rattle.qh_model.proofs.Common.{ℕ, ◌<◌, get_or, surface_of, Vector, place}
 use Rattle.qh_surface.specs.contract.{NamedMeshes.named, Walks.mark_at}
 use Rattle.qh_parts.specs.steps.Witnesses.{IsAnswered}
 use Rattle.qh_parts.proofs.seam.witnesses.is_witness.Given as goal

@@ -1,6 +1,5 @@
 -- The answers so far are true.
-use Rattle.std.proofs.Common.{◌≡◌, true, take}
-use Rattle.std.specs.{Prelude.Ok, List.All}
+use Rattle.qh_model.proofs.Common.{◌≡◌, true, take, Ok, All}
 use Rattle.qh_parts_join.proofs.join.bridges.are_all.Given as goal
 
 abbrev pub invariant-loop-answer : goal.invariant-loop-answer

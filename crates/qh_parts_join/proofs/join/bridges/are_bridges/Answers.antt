@@ -1,7 +1,5 @@
 -- If the polygons of each piece are faces, all polygons are.
-use Rattle.std.proofs.Common.{◌<◌, length, refl, subst, arith, true}
-use Rattle.std.proofs.lemmas.Result.{IfOk-weaker}
-use Rattle.std.specs.{Prelude.Ok, Prelude.IfOk, Prelude.IsTrue, List.All}
+use Rattle.qh_model.proofs.Common.{◌<◌, length, refl, subst, arith, true, IfOk-weaker, Ok, IfOk, IsTrue, All}
 use Rattle.qh_places.proofs.Chunks.{chunk_all}
 use Rattle.qh_parts_join.specs.steps.Bridges.{IsBridge}
 use Rattle.qh_parts_join.proofs.join.bridges.are_bridges.Goals as goal

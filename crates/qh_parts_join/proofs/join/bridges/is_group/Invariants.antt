@@ -1,6 +1,5 @@
 -- The polygons so far are faces.
-use Rattle.std.proofs.Common.{take}
-use Rattle.std.specs.List.{All}
+use Rattle.qh_model.proofs.Common.{take, All}
 use Rattle.qh_parts_join.specs.steps.Bridges.{IsBridge}
 use Rattle.qh_parts_join.proofs.join.bridges.is_group.Given as goal
 

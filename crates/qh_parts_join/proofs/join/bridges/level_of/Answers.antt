@@ -1,6 +1,5 @@
 -- The ids in the plane are ids that the places hold, or shared ids.
-use Rattle.std.proofs.Common.{[]}
-use Rattle.std.specs.List.{flat_map}
+use Rattle.qh_model.proofs.Common.{[], flat_map}
 use Rattle.qh_parts_join.specs.contract.Kept.{held_in}
 use Rattle.qh_parts_join.proofs.{LevelPlanes.none_level, LevelPlanes.level_for, BridgeLevels.held_kept}
 use Rattle.qh_parts_join.proofs.join.bridges.level_of.Goals as goal

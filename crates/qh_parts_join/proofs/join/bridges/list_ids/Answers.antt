@@ -1,7 +1,5 @@
 -- One more id is in the plane or below it.
-use Rattle.std.proofs.Common.{◌≡◌, ◌<◌, ◌++◌, length, subst, arith}
-use Rattle.std.proofs.lemmas.List.{take_all}
-use Rattle.std.specs.Prelude.{pos, ◌<ℤ◌}
+use Rattle.qh_model.proofs.Common.{◌≡◌, ◌<◌, ◌++◌, length, subst, arith, take_all, pos, ◌<ℤ◌}
 use Rattle.qh_pred.specs.contract.Planes.{height}
 use Rattle.qh_places.specs.contract.Places.{AreLevel}
 use Rattle.qh_parts_join.proofs.LevelPlanes.{below_rest, level_on, level_under, one_next}

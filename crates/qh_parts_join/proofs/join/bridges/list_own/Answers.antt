@@ -1,9 +1,6 @@
 -- The ids of one more part in the plane are listed.
-use Rattle.std.proofs.Common.{◌<◌, ◌++◌, length, map, sym, subst, arith}
-use Rattle.std.proofs.lemmas.List.{append-nil, take_all}
-use Rattle.std.specs.List.{flat_map}
+use Rattle.qh_model.proofs.Common.{◌<◌, ◌++◌, length, map, sym, subst, arith, append-nil, take_all, flat_map, In}
 use Rattle.qh_model.proofs.{Members.All-In, Members.In-get_or, lists.Images.in_map}
-use Rattle.qh_model.specs.headline.Sets.{In}
 use Rattle.qh_places.specs.contract.Places.{AreLevel}
 use Rattle.qh_parts_join.specs.{contract.Kept.held_in, contract.Kept.ArePlaced, steps.Bridges.places_in}
 use Rattle.qh_parts_join.proofs.LevelPlanes.{level_both, flat_next}

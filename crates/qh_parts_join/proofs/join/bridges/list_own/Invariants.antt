@@ -1,7 +1,5 @@
 -- The ids of the parts so far in the plane are listed.
-use Rattle.std.proofs.Common.{ℕ, List, ◌++◌, map, take}
-use Rattle.std.specs.List.{All, flat_map}
-use Rattle.qh_model.specs.headline.Vector.{Vector}
+use Rattle.qh_model.proofs.Common.{ℕ, List, ◌++◌, map, take, All, flat_map, Vector}
 use Rattle.qh_places.specs.contract.Places.{AreLevel}
 use Rattle.qh_parts_join.specs.{contract.Kept.held_in, contract.Kept.ArePlaced, steps.Bridges.places_in}
 use Rattle.qh_parts_join.proofs.join.bridges.list_own.Given as goal

@@ -1,6 +1,5 @@
 -- Each polygon is contributed by a part or is a face of the kept ids, and they close up as the faces of the parts do.
-use Rattle.std.proofs.{Common.inl, Common.inr, lemmas.Option.IfSome_then, lemmas.Result.IfOk-weaker, lemmas.List.Sorted.IsPermutation-sym}
-use Rattle.qh_model.specs.{contract.IdSets.HasDistinctPoints, headline.Predicates.place, headline.Sets.Members}
+use Rattle.qh_model.proofs.Common.{inl, inr, IfSome_then, IfOk-weaker, IsPermutation-sym, HasDistinctPoints, place, Members}
 use Rattle.qh_model.proofs.{Members.All-In, Members.in_permutation, lists.Joined.of_append}
 use Rattle.qh_bodies.proofs.{StepCounts.closed_permuted, StepBorders.closed_by_border}
 use Rattle.qh_parts_join.specs.steps.Bridges.{IsBridge}

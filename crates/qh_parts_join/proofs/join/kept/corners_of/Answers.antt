@@ -1,6 +1,5 @@
 -- The places of one more part.
-use Rattle.std.proofs.Common.{arith, sym, ◌∙◌, ap, map, [], ◌∷◌, ◌++◌, reverse}
-use Rattle.std.proofs.lemmas.List.{append_assoc, append-nil, map-append, nil_from_length, reverse-append}
+use Rattle.qh_model.proofs.Common.{arith, sym, ◌∙◌, ap, map, [], ◌∷◌, ◌++◌, reverse, append_assoc, append-nil, map-append, nil_from_length, reverse-append}
 use Rattle.qh_parts_join.specs.contract.Kept.{places_of}
 use Rattle.qh_parts_join.proofs.join.kept.corners_of.Goals as goal
 

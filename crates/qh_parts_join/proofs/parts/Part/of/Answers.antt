@@ -1,7 +1,6 @@
 -- A finished mesh of the sorted ids, and its corners.
-use Rattle.std.proofs.Common.{ℕ, ◌<◌, ◌⊎◌, inl, inr, List, All, length, sym, subst}
-use Rattle.qh_model.specs.contract.{IdSets.AreIndices, FinishedSurface.IsFinished, StoredSurface.surface_of, Surface.Surface, Surface.IsCorner}
-use Rattle.qh_model.specs.{headline.Vector.Vector, headline.Predicates.place, headline.Sets.In, laws.CompletenessLaws.IsLiveCorner}
+use Rattle.qh_model.proofs.Common.{ℕ, ◌<◌, ◌⊎◌, inl, inr, List, All, length, sym, subst, AreIndices, IsFinished, surface_of, Surface, IsCorner, Vector, place}
+use Rattle.qh_model.proofs.Common.{In, IsLiveCorner}
 use Rattle.qh_model.proofs.Members.{All-In, All-of}
 use Rattle.qh_surface.specs.contract.NamedMeshes.{named}
 use Rattle.qh_parts_join.proofs.{OnceListed.finished_for, Runs.all_of_part}

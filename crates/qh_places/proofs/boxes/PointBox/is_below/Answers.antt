@@ -1,6 +1,5 @@
 -- A box whose furthest corner is below a plane is below it.
-use Rattle.std.proofs.{Common.arith, lemmas.Int.ints}
-use Rattle.std.specs.Prelude.{pos, ◌<ℤ◌}
+use Rattle.qh_model.proofs.Common.{arith, ints, pos, ◌<ℤ◌}
 use Rattle.qh_pred.proofs.Ranges.{below_by_corner}
 use Rattle.qh_places.proofs.boxes.PointBox.is_below.Goals as goal
 

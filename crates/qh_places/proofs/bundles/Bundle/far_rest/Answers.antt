@@ -1,11 +1,7 @@
 -- The sum of the bounds along the three axes.
-use Rattle.std.proofs.Common.{rules}
-use Rattle.std.specs.Prelude.{◌-ℤ◌}
+use Rattle.qh_model.proofs.Common.{rules, ◌-ℤ◌, to_z-of_z, w16, w32, w64, w128, SFits}
 use Rattle.qh_places.proofs.BundleSlabs.{way_between, three_below}
 use Rattle.qh_places.proofs.bundles.Bundle.far_rest.Goals as goal
-use Rattle.std.proofs.lemmas.Int.{to_z-of_z}
-use mir.Syntax.{w16, w32, w64, w128}
-use mir.Val.{SFits}
 
 pub returns-clause-value : goal.returns-clause-value
 returns-clause-value c = λ n p spans within.

@@ -1,11 +1,8 @@
 -- A multiple of the plane is within the spans and deep enough.
-use Rattle.std.proofs.Common.{rules, sym, ◌∙◌}
+use Rattle.qh_model.proofs.Common.{rules, sym, ◌∙◌, to_z-of_z, w128, SFits}
 use Rattle.qh_places.proofs.BundleSlabs.{of_bundle}
 use Rattle.qh_places.proofs.bundles.Bundle.has.Goals.{then-has, else-has, then-has-2, else-has-2}
 use Rattle.qh_places.proofs.bundles.Bundle.has.Goals as goal
-use Rattle.std.proofs.lemmas.Int.{to_z-of_z}
-use mir.Syntax.{w128}
-use mir.Val.{SFits}
 
 pub returns-then-has-3 : goal.returns-then-has-3
 returns-then-has-3 c t = elim c.if-has-2.branch [

@@ -1,9 +1,7 @@
 -- The share and the rest bound the heights.
+use Rattle.qh_model.proofs.Common.{to_z-of_z, w128, SFits}
 use Rattle.qh_places.proofs.BundleSlabs.{block_is_below}
 use Rattle.qh_places.proofs.bundles.Bundle.is_above.Goals as goal
-use Rattle.std.proofs.lemmas.Int.{to_z-of_z}
-use mir.Syntax.{w128}
-use mir.Val.{SFits}
 
 pub returns : goal.returns
 returns c t =

@@ -1,8 +1,5 @@
 -- One more plane has no point above it and none in it.
-use Rattle.std.proofs.Common.{◌≡◌, ◌<◌, ◌∙◌, inl, inr, length, get_or, arith, subst}
-use Rattle.std.proofs.lemmas.{Bool.cases_lt, List.get_or_default}
-use Rattle.std.specs.Prelude.{pos, ◌<ℤ◌}
-use Rattle.qh_model.specs.headline.Predicates.{place}
+use Rattle.qh_model.proofs.Common.{◌≡◌, ◌<◌, ◌∙◌, inl, inr, length, get_or, arith, subst, cases_lt, get_or_default, pos, ◌<ℤ◌, place}
 use Rattle.qh_model.proofs.Members.{to_contains}
 use Rattle.qh_pred.specs.contract.Planes.{height}
 use Rattle.qh_places.proofs.FoundIds.{none_found}

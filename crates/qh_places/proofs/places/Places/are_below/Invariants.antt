@@ -1,7 +1,5 @@
 -- The points are below the planes so far.
-use Rattle.std.proofs.Common.{ℕ, ◌<◌, List, get_or}
-use Rattle.std.specs.Prelude.{pos, ◌<ℤ◌}
-use Rattle.qh_model.specs.headline.{Vector.Vector, Predicates.place, Sets.In}
+use Rattle.qh_model.proofs.Common.{ℕ, ◌<◌, List, get_or, pos, ◌<ℤ◌, Vector, place, In}
 use Rattle.qh_pred.specs.contract.Planes.{PlaneValue, height}
 use Rattle.qh_places.specs.contract.Places.{ArePlaces}
 use Rattle.qh_places.proofs.places.Places.are_below.Given as goal

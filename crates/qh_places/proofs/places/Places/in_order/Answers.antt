@@ -1,7 +1,5 @@
 -- The ids are those of the argument.
-use Rattle.std.proofs.Common.{◌∙◌, ap, length, map, sym, subst}
-use Rattle.std.proofs.lemmas.List.{length-map}
-use Rattle.qh_model.specs.headline.{Predicates.place, Sets.In}
+use Rattle.qh_model.proofs.Common.{◌∙◌, ap, length, map, sym, subst, length-map, place, In}
 use Rattle.qh_places.proofs.places.Places.in_order.Goals as goal
 
 pub points_of-requires : goal.points_of-requires

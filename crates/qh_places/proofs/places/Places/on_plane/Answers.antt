@@ -1,6 +1,5 @@
 -- The ids found at all starts are all ids in the plane, if the plane is in the bundle.
-use Rattle.std.proofs.Common.{arith, length, ◌≡◌, ◌<◌, ◌≤◌}
-use Rattle.std.proofs.lemmas.Result.{IfOk-weaker}
+use Rattle.qh_model.proofs.Common.{arith, length, ◌≡◌, ◌<◌, ◌≤◌, IfOk-weaker}
 use Rattle.qh_places.proofs.NearPositions.{seen_start, seen_goes, seen_all}
 use Rattle.qh_places.proofs.FoundIds.{above_of, all_looked, level_of_near}
 use Rattle.qh_places.proofs.places.Places.on_plane.Goals as goal

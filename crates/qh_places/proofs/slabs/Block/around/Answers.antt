@@ -1,8 +1,6 @@
 -- The points are in the box, and reach no further than the one that reaches furthest.
+use Rattle.qh_model.proofs.Common.{to_z-of_z, w64, SFits}
 use Rattle.qh_places.proofs.slabs.Block.around.Goals as goal
-use Rattle.std.proofs.lemmas.Int.{to_z-of_z}
-use mir.Syntax.{w64}
-use mir.Val.{SFits}
 
 pub returns : goal.returns
 returns c = λ k from to l.

@@ -1,14 +1,8 @@
 -- One more point reaches no further.
-use Rattle.std.proofs.Common.{arith, subst, ◌∙◌, inl, inr, ◌≡◌, get_or}
-use Rattle.std.proofs.lemmas.{List.get_or_default, Bool.cases_lt}
-use Rattle.std.specs.Prelude.{◌≤ℤ◌}
-use Rattle.qh_model.specs.headline.Vector.{Vector, origin, dot}
+use Rattle.qh_model.proofs.Common.{arith, subst, ◌∙◌, inl, inr, ◌≡◌, get_or, get_or_default, cases_lt, ◌≤ℤ◌, Vector, origin, dot, to_z-of_z, w64, SFits}
 use Rattle.qh_places.specs.steps.Slabs.{vector_of}
 use Rattle.qh_places.proofs.PointBoxes.{le_trans}
 use Rattle.qh_places.proofs.slabs.Direction.furthest.Goals as goal
-use Rattle.std.proofs.lemmas.Int.{to_z-of_z}
-use mir.Syntax.{w64}
-use mir.Val.{SFits}
 
 pub loop-point-preserved : goal.loop-point-preserved
 loop-point-preserved c = λ k l m.

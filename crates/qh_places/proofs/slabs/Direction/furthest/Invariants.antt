@@ -1,7 +1,5 @@
 -- No point so far reaches further.
-use Rattle.std.proofs.Common.{ℕ, ◌<◌, length, get_or}
-use Rattle.std.specs.Prelude.{◌≤ℤ◌}
-use Rattle.qh_model.specs.headline.Vector.{origin, dot}
+use Rattle.qh_model.proofs.Common.{ℕ, ◌<◌, length, get_or, ◌≤ℤ◌, origin, dot}
 use Rattle.qh_places.specs.steps.Slabs.{vector_of}
 use Rattle.qh_places.proofs.slabs.Direction.furthest.Given as goal
 

@@ -1,11 +1,7 @@
 -- The greater of the products at the two ends.
-use Rattle.std.proofs.Common.{rules}
-use Rattle.std.specs.Prelude.{pos, ◌*ℤ◌}
+use Rattle.qh_model.proofs.Common.{rules, pos, ◌*ℤ◌, to_z-of_z, w16, w64, w128, SFits}
 use Rattle.qh_places.proofs.BundleSlabs.{rest_top}
 use Rattle.qh_places.proofs.spans.Span.far_rest.Goals as goal
-use Rattle.std.proofs.lemmas.Int.{to_z-of_z}
-use mir.Syntax.{w16, w64, w128}
-use mir.Val.{SFits}
 
 pub returns-clause-value : goal.returns-clause-value
 returns-clause-value c = λ n w hn hw.

@@ -1,7 +1,5 @@
 -- A point with an equal point in its slot, and a point whose slot was empty.
-use Rattle.std.proofs.Common.{rules, ◌≡◌, ◌∙◌, ◌<◌, ◌+◌, ◌++◌, [], ◌∷◌, length, set, arith, ap, sym, subst}
-use Rattle.std.proofs.lemmas.List.{get_or_read}
-use Rattle.qh_model.specs.headline.Predicates.{place}
+use Rattle.qh_model.proofs.Common.{rules, ◌≡◌, ◌∙◌, ◌<◌, ◌+◌, ◌++◌, [], ◌∷◌, length, set, arith, ap, sym, subst, get_or_read, place}
 use Rattle.qh_plane.specs.{declared.first_ids.TheConstants.NO_ID, steps.CloseBoxes.slot_of, steps.FirstIds.slot_at, steps.FirstIds.HaveFirsts}
 use Rattle.qh_plane.proofs.SeenPlaces.{point_read, seen_id, new_seen, repeat_seen}
 use Rattle.qh_plane.proofs.first_ids.FirstIds.look.Goals as goal

@@ -1,5 +1,4 @@
-use Rattle.std.proofs.Common.{◌≡◌, ◌∙◌, refl}
-use Rattle.qh_model.specs.headline.Vector.{Vector, dot}
+use Rattle.qh_model.proofs.Common.{◌≡◌, ◌∙◌, refl, Vector, dot}
 use Rattle.qh_pred.proofs.Bounds.{dot_fits, dot-within}
 use Rattle.qh_pred.proofs.components.Components.dot.Goals as goal
 

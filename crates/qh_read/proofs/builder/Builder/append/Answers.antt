@@ -1,7 +1,5 @@
+use Rattle.qh_model.proofs.Common.{arith, ◌≡◌, ◌++◌, ◌∙◌, ap, sym, List, common_steps, append-nil, ℤ, coordinates}
 use Rattle.qh_read.proofs.builder.Builder.append.Goals as goal
-use Rattle.std.proofs.{Common.arith, Common.◌≡◌, Common.◌++◌, Common.◌∙◌, Common.ap, Common.sym, Common.List, lemmas.Grind.common_steps, lemmas.List.append-nil}
-use Rattle.std.specs.Prelude.{ℤ}
-use Rattle.qh_model.specs.headline.PointFile.{coordinates}
 use Rattle.qh_read.specs.{declared.builder.Pending.Pending, steps.Stages.stage_shown, steps.Stages.pending_list}
 use Rattle.qh_read.proofs.NumberLaws.{coordinates-append}
 

@@ -1,9 +1,8 @@
+use Rattle.qh_model.proofs.Common.{arith, ◌≡◌, ◌≤◌, ◌∙◌, ◌++◌, ◌-◌, ◌*◌, ℕ, List, ap, sym, length, length-append, append-nil, ℤ, coordinates, Vector}
 use Rattle.qh_read.proofs.builder.Builder.take_points.Goals as goal
-use Rattle.std.proofs.Common.{arith, ◌≡◌, ◌≤◌, ◌∙◌, ◌++◌, ◌-◌, ◌*◌, ℕ, List, ap, sym, length, length-append}
-use Rattle.std.{proofs.lemmas.List.append-nil, specs.Prelude.ℤ}
-use Rattle.qh_model.specs.headline.{PointFile.coordinates, Vector.Vector}
-use Rattle.qh_read.{proofs.CursorLaws.shown-pushed, specs.contract.Progress.wants, specs.declared.builder.Pending.Pending, specs.declared.builder.Stage.Stage}
-use Rattle.qh_read.specs.{declared.cursor.Cursor.Cursor, steps.Building.taken, steps.Cursors.held_from, steps.Stages.stage_shown, steps.Stages.pending_list}
+use Rattle.qh_read.proofs.CursorLaws.{shown-pushed}
+use Rattle.qh_read.specs.{contract.Progress.wants, declared.builder.Stage.Stage, steps.Building.taken, steps.Cursors.held_from}
+use Rattle.qh_read.specs.{declared.builder.Pending.Pending, declared.cursor.Cursor.Cursor, steps.Stages.stage_shown, steps.Stages.pending_list}
 
 -- no coordinate of another point came in between, before or after
 pub returns-clause-held : goal.returns-clause-held

@@ -1,8 +1,7 @@
+use Rattle.qh_model.proofs.Common.{arith, ◌≡◌, ◌++◌, ◌∙◌, [], ◌∷◌, ap, append_assoc, List, length-append, common_steps, Vector}
 use Rattle.qh_read.proofs.cursor.Cursor.push_points.Goals as goal
-use Rattle.std.proofs.Common.{arith, ◌≡◌, ◌++◌, ◌∙◌, [], ◌∷◌, ap, append_assoc, List, length-append}
-use Rattle.std.proofs.lemmas.Grind.{common_steps}
-use Rattle.qh_model.specs.headline.Vector.{Vector}
-use Rattle.qh_read.{proofs.CursorLaws.points-parted, proofs.CursorLaws.points-more, proofs.CursorLaws.none-pushed, specs.steps.Cursors.ahead}
+use Rattle.qh_read.proofs.CursorLaws.{points-parted, points-more, none-pushed}
+use Rattle.qh_read.specs.steps.Cursors.{ahead}
 
 pub loop-cursor-init : goal.loop-cursor-init
 loop-cursor-init c = record {

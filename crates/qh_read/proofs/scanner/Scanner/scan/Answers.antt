@@ -1,6 +1,5 @@
+use Rattle.qh_model.proofs.Common.{arith, length, ◌+◌, ◌≡◌, ◌∷◌, ◌∙◌, ap, subst, sym, ℕ, common_steps}
 use Rattle.qh_read.proofs.scanner.Scanner.scan.Goals as goal
-use Rattle.std.proofs.Common.{arith, length, ◌+◌, ◌≡◌, ◌∷◌, ◌∙◌, ap, subst, sym, ℕ}
-use Rattle.std.proofs.lemmas.Grind.{common_steps}
 use Rattle.qh_read.specs.{contract.Holding.Held, contract.Holding.held_by, steps.Scanning.held, steps.Scanning.HasRoom}
 
 -- the first byte uses room for one byte, and its digits use none

@@ -1,5 +1,4 @@
-use Rattle.std.proofs.{Common.arith, Common.subst, Common.sym, lemmas.Grind.common_steps}
-use Rattle.qh_model.specs.contract.IdSets.{AreIndices}
+use Rattle.qh_model.proofs.Common.{arith, subst, sym, common_steps, AreIndices}
 use Rattle.qh_run.proofs.blocks.Blocks.ask_sample.Goals as goal
 
 pub extremes_unculled-requires-clause-indices : goal.extremes_unculled-requires-clause-indices

@@ -1,6 +1,4 @@
-use Rattle.std.proofs.Common.{subst, sym, ◌<◌, length, inl}
-use Rattle.std.proofs.lemmas.Result.{IfOk-weaker}
-use Rattle.qh_model.specs.contract.IdSets.{IsIdSet, AreIndices}
+use Rattle.qh_model.proofs.Common.{subst, sym, ◌<◌, length, inl, IfOk-weaker, IsIdSet, AreIndices}
 use Rattle.qh_model.proofs.hulls.{RightValues.right_of_node, ExtremeParts.part_indices, ExtremeParts.part_set}
 use Rattle.qh_run.proofs.RightUnions.{union_within, some_within}
 use Rattle.qh_run.proofs.blocks.BlocksReduction.combine.Goals as goal

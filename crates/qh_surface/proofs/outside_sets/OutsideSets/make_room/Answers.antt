@@ -1,6 +1,5 @@
 -- Room for more sets.
-use Rattle.std.proofs.Common.{◌≡◌, ◌-◌, ◌++◌, [], length, arith, rules, ap, sym, refl, ◌∙◌, replicate, append-nil}
-use Rattle.std.proofs.lemmas.Grind.{common_steps}
+use Rattle.qh_model.proofs.Common.{◌≡◌, ◌-◌, ◌++◌, [], length, arith, rules, ap, sym, refl, ◌∙◌, replicate, append-nil, common_steps}
 use Rattle.qh_surface.specs.contract.OutsideSets.{listed}
 use Rattle.qh_surface.proofs.{Steps.kept, Steps.places_are, Steps.value_after, NewSets.room_kept, NewSets.room_sum}
 use Rattle.qh_surface.proofs.outside_sets.OutsideSets.make_room.Goals as goal

@@ -1,6 +1,5 @@
 -- The first position of a set is removed.
-use Rattle.std.proofs.Common.{length, drop, arith, rules, ap, refl, []}
-use Rattle.std.proofs.lemmas.List.Sums.{sum_by-set}
+use Rattle.qh_model.proofs.Common.{length, drop, arith, rules, ap, refl, [], sum_by-set}
 use Rattle.qh_surface.specs.contract.OutsideSets.{set_of, listed}
 use Rattle.qh_surface.proofs.Steps.{kept, value_after, taken}
 use Rattle.qh_surface.proofs.outside_sets.OutsideSets.take_first.Goals as goal

@@ -1,6 +1,5 @@
 -- One more wedge of the ring.
-use Rattle.std.proofs.Common.{sym, subst, ◌<◌, length}
-use Rattle.std.proofs.lemmas.List.Elements.{All-weaker}
+use Rattle.qh_model.proofs.Common.{sym, subst, ◌<◌, length, All-weaker}
 use Rattle.qh_model.proofs.Members.{All-In}
 use Rattle.qh_mesh.specs.contract.Replacement.{IsLive}
 use Rattle.qh_surface.specs.steps.{Runs.IsPlaneOf, Cones.IsWedge, Cones.apex_of}

@@ -1,6 +1,5 @@
 -- One more plane is written.
-use Rattle.std.proofs.Common.{slice_index, ◌≡◌, arith, refl, ◌∙◌, length-set}
-use Rattle.std.proofs.lemmas.List.{get_or_read}
+use Rattle.qh_model.proofs.Common.{slice_index, ◌≡◌, arith, refl, ◌∙◌, length-set, get_or_read}
 use Rattle.qh_surface.proofs.{LiveFacets.live_below, runs.RenewedPlanes.none_renewed, runs.RenewedPlanes.more_renewed, runs.RenewedPlanes.all_renewed}
 use Rattle.qh_surface.proofs.quickhull.planes.renew.Goals as goal
 

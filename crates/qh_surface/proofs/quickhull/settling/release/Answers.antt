@@ -1,6 +1,5 @@
 -- The points of one more facet are orphans.
-use Rattle.std.proofs.Common.{◌∙◌, ap, List, [], ℕ, length, refl, take_all, length-set}
-use Rattle.std.proofs.lemmas.List.{get_or_read, take_more}
+use Rattle.qh_model.proofs.Common.{◌∙◌, ap, List, [], ℕ, length, refl, take_all, length-set, get_or_read, take_more}
 use Rattle.qh_surface.proofs.runs.SettledOrphans.{none_released, more_released}
 use Rattle.qh_surface.proofs.quickhull.settling.release.Goals as goal
 

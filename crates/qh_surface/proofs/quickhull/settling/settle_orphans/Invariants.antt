@@ -1,6 +1,5 @@
 -- Settled points stay settled, and each step leaves one orphan fewer.
-use Rattle.std.proofs.Common.{ℕ, All, ◌≡◌, ◌≤◌, List, length}
-use Rattle.qh_model.specs.{contract.StoredSurface.StoredFacet, headline.Predicates.place}
+use Rattle.qh_model.proofs.Common.{ℕ, All, ◌≡◌, ◌≤◌, List, length, StoredFacet, place}
 use Rattle.qh_surface.specs.{contract.OutsideSets.listed, steps.Planes.ArePlanes, steps.Runs.IsSettling}
 use Rattle.qh_mesh.specs.contract.Replacement.{IsLive}
 use Rattle.qh_surface.proofs.quickhull.settling.settle_orphans.Given as goal

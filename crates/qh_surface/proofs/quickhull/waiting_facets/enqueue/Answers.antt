@@ -1,6 +1,5 @@
 -- A new facet is queued if it has an outside set.
-use Rattle.std.proofs.Common.{arith, inl, inr, take_all}
-use Rattle.std.proofs.lemmas.List.{get_or_read, take_more}
+use Rattle.qh_model.proofs.Common.{arith, inl, inr, take_all, get_or_read, take_more}
 use Rattle.qh_surface.proofs.runs.WaitingFacets.{more_queued, more_idle}
 use Rattle.qh_surface.proofs.quickhull.waiting_facets.enqueue.Goals as goal
 

@@ -1,6 +1,5 @@
 -- The facets so far wait if they have an outside set, and there is room for the others.
-use Rattle.std.proofs.Common.{◌+◌, ◌≤◌, take, length}
-use Rattle.std.specs.Prelude.{vec_len, vec_capacity}
+use Rattle.qh_model.proofs.Common.{◌+◌, ◌≤◌, take, length, vec_len, vec_capacity}
 use Rattle.qh_surface.proofs.runs.WaitingFacets.{AreQueued}
 use Rattle.qh_surface.proofs.quickhull.waiting_facets.enqueue.Given as goal
 

@@ -1,6 +1,5 @@
 -- The ids so far are those of their keys.
-use Rattle.std.proofs.Common.{◌≡◌, map, take}
-use Rattle.qh_model.specs.contract.Halves.{low_of}
+use Rattle.qh_model.proofs.Common.{◌≡◌, map, take, low_of}
 use Rattle.qh_surface.proofs.starts.morton.keys_of.Given as goal
 
 abbrev pub invariant-loop-id : goal.invariant-loop-id

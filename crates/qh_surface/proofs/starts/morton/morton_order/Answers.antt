@@ -1,7 +1,5 @@
 -- The ids of sorted keys are the same ids.
-use Rattle.std.proofs.Common.{ℕ, List, map, sym, subst, IsPermutation}
-use Rattle.std.proofs.lemmas.List.Sorted.{IsPermutation-map}
-use Rattle.qh_model.specs.contract.Halves.{low_of}
+use Rattle.qh_model.proofs.Common.{ℕ, List, map, sym, subst, IsPermutation, IsPermutation-map, low_of}
 use Rattle.qh_surface.proofs.starts.morton.morton_order.Goals as goal
 
 pub returns : goal.returns

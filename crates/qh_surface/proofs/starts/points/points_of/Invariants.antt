@@ -1,6 +1,5 @@
 -- The points of the ids so far.
-use Rattle.std.proofs.Common.{◌≡◌, ◌≤◌, length, map, take, vec_len, vec_capacity}
-use Rattle.qh_model.specs.headline.Predicates.{place}
+use Rattle.qh_model.proofs.Common.{◌≡◌, ◌≤◌, length, map, take, vec_len, vec_capacity, place}
 use Rattle.qh_surface.proofs.starts.points.points_of.Given as goal
 
 abbrev pub invariant-loop-id : goal.invariant-loop-id

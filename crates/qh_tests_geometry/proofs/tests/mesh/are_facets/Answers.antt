@@ -1,6 +1,5 @@
 -- One more facet is live, and differs from those before it.
-use Rattle.std.proofs.Common.{◌≡◌, ◌+◌, ◌<◌, arith, rules, slice_index, take}
-use Rattle.std.proofs.lemmas.List.{get_or_read, take_more, Elements.All-push, Elements.All-weaker}
+use Rattle.qh_model.proofs.Common.{◌≡◌, ◌+◌, ◌<◌, arith, rules, slice_index, take, get_or_read, take_more, All-push, All-weaker}
 use Rattle.qh_model.proofs.Members.{All-In}
 use Rattle.qh_mesh.specs.contract.Replacement.{IsLive}
 use Rattle.qh_mesh.proofs.ListedFacets.{once_push}

@@ -1,6 +1,5 @@
+use Rattle.qh_model.proofs.Common.{subst, drop_all, fans}
 use Rattle.qh_write.proofs.texts.edges.push_fans.Goals as goal
-use Rattle.std.proofs.{Common.subst, lemmas.List.drop_all}
-use Rattle.qh_model.specs.headline.Fan.{fans}
 use Rattle.qh_write.specs.steps.EdgeKeys.{Completes, pairs_of}
 use Rattle.qh_write.proofs.EdgeKeyLemmas.{adds_none, completes_more, fans_left}
 

@@ -1,5 +1,4 @@
-use Rattle.std.proofs.Common.{drop}
-use Rattle.qh_model.specs.headline.Fan.{fans}
+use Rattle.qh_model.proofs.Common.{drop, fans}
 use Rattle.qh_write.specs.steps.EdgeKeys.{Completes, pairs_of}
 use Rattle.qh_write.proofs.texts.edges.push_fans.Given as goal
 

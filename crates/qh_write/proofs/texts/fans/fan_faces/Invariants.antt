@@ -1,5 +1,4 @@
-use Rattle.std.proofs.Common.{◌≡◌, length, take}
-use Rattle.qh_model.specs.headline.Fan.{fans}
+use Rattle.qh_model.proofs.Common.{◌≡◌, length, take, fans}
 use Rattle.qh_write.proofs.texts.fans.fan_faces.Given as goal
 
 abbrev pub invariant-loop-face : goal.invariant-loop-face

@@ -1,6 +1,5 @@
 -- One triangle after the other; a short face is its own fan.
-use Rattle.std.proofs.{Common.◌∙◌, Common.◌++◌, Common.All, Common.ap, Common.subst, Common.sym, lemmas.List.Elements.All-head, lemmas.List.Elements.All-tail}
-use Rattle.std.specs.List.{flat_map}
+use Rattle.qh_model.proofs.Common.{◌∙◌, ◌++◌, All, ap, subst, sym, All-head, All-tail, flat_map}
 use Rattle.qh_model.proofs.{lists.Joined.join_next, polygons.Fans.triangles_all}
 use Rattle.qh_write.specs.steps.Numberings.{AreNumbered, HasNumber, face_by_numbers}
 use Rattle.qh_write.proofs.texts.fans.push_fan.Goals as goal

@@ -1,6 +1,5 @@
 -- The text so far, and the remaining triangles.
-use Rattle.std.{proofs.Common.◌≡◌, proofs.Common.◌++◌, proofs.Common.All, specs.List.flat_map}
-use Rattle.qh_model.specs.contract.FaceTriangles.{face_triangles}
+use Rattle.qh_model.proofs.Common.{◌≡◌, ◌++◌, All, flat_map, face_triangles}
 use Rattle.qh_write.specs.steps.Numberings.{AreNumbered, face_by_numbers}
 use Rattle.qh_write.proofs.texts.fans.push_fan.Given as goal
 

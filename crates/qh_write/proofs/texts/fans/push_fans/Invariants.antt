@@ -1,5 +1,4 @@
-use Rattle.std.{proofs.Common.◌≡◌, proofs.Common.◌++◌, proofs.Common.take, specs.List.flat_map}
-use Rattle.qh_model.specs.headline.Fan.{fans}
+use Rattle.qh_model.proofs.Common.{◌≡◌, ◌++◌, take, flat_map, fans}
 use Rattle.qh_write.specs.steps.Numberings.{face_by_numbers}
 use Rattle.qh_write.proofs.texts.fans.push_fans.Given as goal
 

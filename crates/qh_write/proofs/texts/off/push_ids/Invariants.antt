@@ -1,5 +1,4 @@
-use Rattle.std.{proofs.Common.◌≡◌, proofs.Common.◌++◌, proofs.Common.take, proofs.Common.decimal, specs.List.flat_map}
-use Rattle.qh_model.specs.headline.Text.{line}
+use Rattle.qh_model.proofs.Common.{◌≡◌, ◌++◌, take, decimal, flat_map, line}
 use Rattle.qh_write.proofs.texts.off.push_ids.Given as goal
 
 abbrev pub invariant-loop-id : goal.invariant-loop-id

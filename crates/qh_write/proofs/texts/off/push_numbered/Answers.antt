@@ -1,6 +1,5 @@
+use Rattle.qh_model.proofs.Common.{◌≡◌, ◌∙◌, List, ℕ, ap, subst, BodyValue}
 use Rattle.qh_write.proofs.texts.off.push_numbered.Goals as goal
-use Rattle.std.proofs.Common.{◌≡◌, ◌∙◌, List, ℕ, ap, subst}
-use Rattle.qh_model.specs.headline.Hull.{BodyValue}
 use Rattle.qh_write.specs.steps.{Forms.shown, Numberings.NumberExtremes}
 use Rattle.qh_write.proofs.{FormLemmas.shown_in_order, TextLemmas.grown_by_faces, TextLemmas.faces_numbered}
 

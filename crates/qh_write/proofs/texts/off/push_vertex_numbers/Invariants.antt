@@ -1,5 +1,4 @@
-use Rattle.std.{proofs.Common.◌≡◌, proofs.Common.◌++◌, proofs.Common.take, specs.List.flat_map}
-use Rattle.qh_model.specs.headline.Text.{spaced}
+use Rattle.qh_model.proofs.Common.{◌≡◌, ◌++◌, take, flat_map, spaced}
 use Rattle.qh_write.specs.steps.Numberings.{number_in}
 use Rattle.qh_write.proofs.texts.off.push_vertex_numbers.Given as goal
 

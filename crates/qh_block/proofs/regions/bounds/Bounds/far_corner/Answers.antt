@@ -1,12 +1,9 @@
 -- The ends of the three ranges that lie furthest.
-use Rattle.std.proofs.Common.{◌≡◌, ◌∙◌, ap, refl}
-use Rattle.std.specs.Prelude.{ℤ}
-use Rattle.qh_model.specs.headline.Vector.{Vector}
+use Rattle.qh_model.proofs.Common.{◌≡◌, ◌∙◌, ap, refl, ℤ, Vector, w32}
 use Rattle.qh_pred.specs.contract.Ranges.{IsFarEnd}
 use Rattle.qh_pred.proofs.Coordinates.{one_of_two, read_is}
 use Rattle.qh_block.proofs.Numbers.{held}
 use Rattle.qh_block.proofs.regions.bounds.Bounds.far_corner.Goals as goal
-use mir.Syntax.{w32}
 
 -- the end of the range that is read
 same : (n l h r n' l' h' e : ℤ) → held w32 n' ≡ n → held w32 l' ≡ l → held w32 h' ≡ h → r ≡ held w32 e → held w32 e ≡ e

@@ -1,6 +1,5 @@
 -- The conjunction of the three tests.
-use Rattle.std.proofs.Common.{◌≡◌, Bool, IsTrue}
-use Rattle.std.specs.Prelude.{ℤ, ◌↔◌}
+use Rattle.qh_model.proofs.Common.{◌≡◌, Bool, IsTrue, ℤ, ◌↔◌}
 use Rattle.qh_block.specs.contract.CornerBoxes.{IsEnd}
 use Rattle.qh_block.proofs.Tests.{both}
 use Rattle.qh_pred.proofs.Coordinates.{read_is}

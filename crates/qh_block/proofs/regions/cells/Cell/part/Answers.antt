@@ -1,6 +1,5 @@
 -- A plane that is not listed again is above all of the part.
-use Rattle.std.proofs.Common.{◌≡◌, ◌∷◌, ◌+◌, ℕ, drop, ap, slice_index, sym, ◌∙◌, List, subst}
-use Rattle.std.proofs.lemmas.List.{drop_more, drop_all}
+use Rattle.qh_model.proofs.Common.{◌≡◌, ◌∷◌, ◌+◌, ℕ, drop, ap, slice_index, sym, ◌∙◌, List, subst, drop_more, drop_all}
 use Rattle.qh_block.proofs.CellParts.{AreSifted, none_sifted, next_above, next_kept, part_is_cell}
 use Rattle.qh_block.proofs.regions.cells.Cell.part.Goals.{then-not-is_far+in_ok-push, else-not-is_far}
 use Rattle.qh_block.proofs.regions.cells.Cell.part.Goals as goal

@@ -1,6 +1,5 @@
 -- A plane of whole steps, or a plane with no point below it.
-use Rattle.std.proofs.{Common.◌≡◌, Common.arith, lemmas.Int.ints}
-use Rattle.std.specs.Prelude.{ℤ, pos, ◌<ℤ◌}
+use Rattle.qh_model.proofs.Common.{◌≡◌, arith, ints, ℤ, pos, ◌<ℤ◌}
 use Rattle.qh_block.proofs.regions.coarse_planes.CoarsePlane.under.Goals as goal
 
 pub returns-in-Some : goal.returns-in-Some

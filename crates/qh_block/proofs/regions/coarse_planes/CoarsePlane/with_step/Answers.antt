@@ -1,12 +1,9 @@
 -- The plane of the whole steps, with room for the rests.
-use Rattle.std.proofs.Common.{◌≡◌, ◌^◌, arith, lit<, subst, sym}
-use Rattle.std.proofs.lemmas.Int.{ints, to_z-of_z}
+use Rattle.qh_model.proofs.Common.{◌≡◌, ◌^◌, arith, lit<, subst, sym, ints, to_z-of_z, w64, w128, to_z, of_z}
 use Rattle.qh_pred.proofs.Bounds.{fits_wide}
 use Rattle.qh_block.specs.contract.CoarsePlanes.{IsUnder}
 use Rattle.qh_block.proofs.CoarsePlanes.{same_lowered, same_room, steps_are_under}
 use Rattle.qh_block.proofs.regions.coarse_planes.CoarsePlane.with_step.Goals as goal
-use mir.Syntax.{w64, w128}
-use mir.Val.{to_z, of_z}
 
 pub returns : goal.returns
 returns c =

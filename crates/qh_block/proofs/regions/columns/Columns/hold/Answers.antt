@@ -1,6 +1,5 @@
 -- The tested cell is one of the cells.
-use Rattle.std.proofs.Common.{arith, subst, sym}
-use Rattle.qh_model.specs.headline.Sets.{In}
+use Rattle.qh_model.proofs.Common.{arith, subst, sym, In}
 use Rattle.qh_model.proofs.Members.{In-get_or}
 use Rattle.qh_block.specs.declared.regions.cells.Cell.{Cell}
 use Rattle.qh_block.proofs.regions.columns.Columns.hold.Goals as goal

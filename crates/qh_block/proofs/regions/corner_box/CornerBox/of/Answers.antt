@@ -1,6 +1,5 @@
 -- Each end of a diagonal is the point of an id of the set, and lies in the octant of its corner.
-use Rattle.std.proofs.Common.{get_or, sym, subst}
-use Rattle.qh_model.specs.headline.Sets.{In}
+use Rattle.qh_model.proofs.Common.{get_or, sym, subst, In}
 use Rattle.qh_model.proofs.Members.{In-get_or}
 use Rattle.qh_block.proofs.CornerBoxes.{ends_are_outward}
 use Rattle.qh_block.proofs.regions.corner_box.CornerBox.of.Goals as goal

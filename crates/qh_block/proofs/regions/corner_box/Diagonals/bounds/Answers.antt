@@ -1,6 +1,5 @@
 -- Each side of the box is no further out than the four ends in its direction.
-use Rattle.std.proofs.Common.{◌∙◌, ap}
-use Rattle.qh_model.specs.headline.Vector.{Vector}
+use Rattle.qh_model.proofs.Common.{◌∙◌, ap, Vector}
 use Rattle.qh_block.proofs.CornerBoxes.{box_is_outward, four_under, under_four}
 use Rattle.qh_pred.proofs.Coordinates.{read_is}
 use Rattle.qh_block.proofs.regions.corner_box.Diagonals.bounds.Goals as goal

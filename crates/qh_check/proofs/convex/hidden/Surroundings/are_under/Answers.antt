@@ -1,6 +1,5 @@
 -- The point of the current key lies under a triangle.
-use Rattle.std.proofs.Common.{◌∙◌, ap, get_or, refl, subst}
-use Rattle.qh_model.specs.headline.{Vector.Vector, Predicates.place}
+use Rattle.qh_model.proofs.Common.{◌∙◌, ap, get_or, refl, subst, Vector, place}
 use Rattle.qh_check.specs.steps.Hidden.{id_in, IsUnderOne}
 use Rattle.qh_check.proofs.Prefixes.{each_more}
 use Rattle.qh_check.proofs.convex.hidden.Surroundings.are_under.Goals as goal

@@ -1,6 +1,5 @@
 -- The points of the ids so far lie under triangles.
-use Rattle.std.proofs.Common.{ℕ, length, take}
-use Rattle.qh_model.specs.headline.{Predicates.place, Sets.In}
+use Rattle.qh_model.proofs.Common.{ℕ, length, take, place, In}
 use Rattle.qh_check.specs.steps.Hidden.{id_in, IsStepBelow, IsUnderOne}
 use Rattle.qh_check.proofs.convex.hidden.Surroundings.are_under.Given as goal
 

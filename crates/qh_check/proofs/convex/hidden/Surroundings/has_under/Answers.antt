@@ -1,7 +1,5 @@
 -- The keys have the ids.
-use Rattle.std.proofs.Common.{ℕ, ◌<◌, List, subst, sym, length}
-use Rattle.std.proofs.lemmas.List.Sorted.{IsPermutation-sym}
-use Rattle.qh_model.specs.headline.{Sets.In, Predicates.place}
+use Rattle.qh_model.proofs.Common.{ℕ, ◌<◌, List, subst, sym, length, IsPermutation-sym, In, place}
 use Rattle.qh_model.proofs.{Members.All-In, Members.All-of, Members.in_permutation, lists.Images.in_map, lists.Images.of_map}
 use Rattle.qh_check.specs.steps.Hidden.{id_in, IsUnderOne}
 use Rattle.qh_check.proofs.convex.hidden.Surroundings.has_under.Goals as goal

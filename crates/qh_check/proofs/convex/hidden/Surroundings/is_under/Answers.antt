@@ -1,7 +1,5 @@
 -- No test finds the point past a side, or above.
-use Rattle.std.proofs.Common.{◌∙◌, ap, subst, sym}
-use Rattle.std.specs.Prelude.{ℤ, pos, ◌<ℤ◌}
-use Rattle.qh_model.specs.headline.Predicates.{place}
+use Rattle.qh_model.proofs.Common.{◌∙◌, ap, subst, sym, ℤ, pos, ◌<ℤ◌, place}
 use Rattle.qh_check.specs.steps.StepKeys.{step_in}
 use Rattle.qh_check.proofs.UnderSteps.{not_both, under_from}
 use Rattle.qh_check.proofs.convex.hidden.Surroundings.is_under.Goals as goal

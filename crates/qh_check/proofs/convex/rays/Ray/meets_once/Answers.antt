@@ -1,7 +1,6 @@
 -- The current triangle is met, or missed.
-use Rattle.std.proofs.Common.{◌≡◌, ◌∙◌, ◌+◌, ap, inl, inr, subst, sym, true, false, ◌⊎◌}
+use Rattle.qh_model.proofs.Common.{◌≡◌, ◌∙◌, ◌+◌, ap, inl, inr, subst, sym, true, false, ◌⊎◌, place}
 use Rattle.std.proofs.lemmas.List.Sums.{count_by_more_yes, count_by_more_no}
-use Rattle.qh_model.specs.headline.Predicates.{place}
 use Rattle.qh_laws.specs.contract.LocallyConvex.{is_met, IsMissed}
 use Rattle.qh_check.specs.steps.Rays.{IsInside, IsPassage}
 use Rattle.qh_check.proofs.{Prefixes.each_more, convex.rays.Ray.meets_once.Goals.in-Met, convex.rays.Ray.meets_once.Goals.in-Missed}

@@ -1,7 +1,5 @@
 -- The triangles so far, and the number of those that the ray meets.
-use Rattle.std.proofs.Common.{◌≡◌, ◌⊎◌, take, true}
-use Rattle.std.specs.Prelude.{count_by}
-use Rattle.qh_model.specs.{headline.Predicates.place, headline.Sets.In, contract.ClosedSurface.Triple}
+use Rattle.qh_model.proofs.Common.{◌≡◌, ◌⊎◌, take, true, count_by, place, In, Triple}
 use Rattle.qh_laws.specs.contract.LocallyConvex.{is_met, IsMissed}
 use Rattle.qh_check.specs.steps.Rays.{IsInside}
 use Rattle.qh_check.proofs.convex.rays.Ray.meets_once.Given as goal

@@ -1,6 +1,5 @@
 -- The steps round the triangles so far.
-use Rattle.std.proofs.Common.{◌≡◌, filter, map, take}
-use Rattle.std.specs.List.{flat_map}
+use Rattle.qh_model.proofs.Common.{◌≡◌, filter, map, take, flat_map}
 use Rattle.qh_check.specs.steps.StepKeys.{step_in, turns, goes_up, goes_down, back}
 use Rattle.qh_check.proofs.convex.steps.Steps.listed.Given as goal
 

@@ -1,7 +1,5 @@
 -- The sorted keys are those of the same steps.
-use Rattle.std.proofs.Common.{IsPermutation, List, map, subst}
-use Rattle.std.proofs.lemmas.List.Sorted.{IsPermutation-map}
-use Rattle.qh_model.specs.contract.ClosedSurface.{Triple}
+use Rattle.qh_model.proofs.Common.{IsPermutation, List, map, subst, IsPermutation-map, Triple}
 use Rattle.qh_check.specs.steps.StepKeys.{step_in}
 use Rattle.qh_check.proofs.StepLists.{ups_below, downs_below}
 use Rattle.qh_check.proofs.convex.steps.Steps.sorted.Goals as goal

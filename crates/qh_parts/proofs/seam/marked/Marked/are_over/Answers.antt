@@ -1,9 +1,7 @@
 -- A group of facets is above the ids, since their planes are.
-use Rattle.std.proofs.Common.{subst, arith}
-use Rattle.std.specs.Prelude.{pos, ◌<ℤ◌}
-use Rattle.qh_model.specs.headline.Predicates.{place}
-use Rattle.qh_parts_join.proofs.{Runs.left_at_start, Runs.front_inside, Runs.left_behind, Runs.all_done}
-use Rattle.qh_parts.proofs.{StayingParts.named_there}
+use Rattle.qh_model.proofs.Common.{subst, arith, pos, ◌<ℤ◌, place}
+use Rattle.qh_parts_join.proofs.Runs.{left_at_start, front_inside, left_behind, all_done}
+use Rattle.qh_parts.proofs.StayingParts.{named_there}
 use Rattle.qh_parts.proofs.seam.marked.Marked.are_over.Goals as goal
 
 pub loop-rest-init : goal.loop-rest-init

@@ -1,6 +1,5 @@
 -- The facets that do not remain are above the ids.
-use Rattle.std.proofs.Common.{ℕ, List, length}
-use Rattle.qh_model.specs.{contract.StoredSurface.surface_of, headline.Predicates.place}
+use Rattle.qh_model.proofs.Common.{ℕ, List, length, surface_of, place}
 use Rattle.qh_surface.specs.contract.NamedMeshes.{named}
 use Rattle.qh_places.specs.contract.Places.{ArePlaces}
 use Rattle.qh_parts.specs.steps.Witnesses.{AreUnder}

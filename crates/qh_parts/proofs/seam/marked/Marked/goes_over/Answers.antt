@@ -1,8 +1,5 @@
 -- The neighbour is the one across the side.
-use Rattle.std.proofs.Common.{◌≡◌, ◌∙◌, ap, sym, false, Bool, refl}
-use Rattle.std.proofs.lemmas.Bool.{not-true}
-use Rattle.std.specs.Prelude.{IsTrue, not}
-use Rattle.qh_model.specs.contract.StoredSurface.{surface_of}
+use Rattle.qh_model.proofs.Common.{◌≡◌, ◌∙◌, ap, sym, false, Bool, refl, not-true, IsTrue, not, surface_of}
 use Rattle.qh_mesh.specs.contract.Edges.{facet_of, nth_side}
 use Rattle.qh_mesh.proofs.Rewiring.{over-twin}
 use Rattle.qh_surface.specs.contract.Walks.{mark_at}

@@ -1,6 +1,5 @@
 -- The key of the facet is listed, or the facet is not in the ring.
-use Rattle.std.proofs.Common.{◌∙◌, ◌++◌, inl, inr, ap, map, refl, [], ◌∷◌, true}
-use Rattle.std.proofs.lemmas.{Bool.both_ways, List.map-append}
+use Rattle.qh_model.proofs.Common.{◌∙◌, ◌++◌, inl, inr, ap, map, refl, [], ◌∷◌, true, both_ways, map-append}
 use Rattle.qh_parts.specs.steps.RingKeys.{facet_in}
 use Rattle.qh_parts.proofs.seam.marked.Marked.list_ring.Goals as goal
 

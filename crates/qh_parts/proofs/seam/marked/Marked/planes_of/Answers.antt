@@ -1,7 +1,5 @@
 -- One more facet has its plane.
-use Rattle.std.proofs.Common.{◌<◌, below_more, length, subst, arith, ◌∙◌}
-use Rattle.std.proofs.lemmas.Grind.{get_or_default_zero}
-use Rattle.qh_model.specs.{contract.StoredSurface.surface_of, headline.Predicates.place}
+use Rattle.qh_model.proofs.Common.{◌<◌, below_more, length, subst, arith, ◌∙◌, get_or_default_zero, surface_of, place}
 use Rattle.qh_surface.specs.contract.NamedMeshes.{named}
 use Rattle.qh_parts.specs.steps.Witnesses.{HasPlane}
 use Rattle.qh_places.proofs.Listed.{each_listed}

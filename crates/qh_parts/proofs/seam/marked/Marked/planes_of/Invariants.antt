@@ -1,6 +1,5 @@
 -- The facets so far have their planes.
-use Rattle.std.proofs.Common.{ℕ, ◌<◌, slice_index}
-use Rattle.qh_model.specs.{contract.StoredSurface.surface_of, headline.Predicates.place}
+use Rattle.qh_model.proofs.Common.{ℕ, ◌<◌, slice_index, surface_of, place}
 use Rattle.qh_surface.specs.contract.NamedMeshes.{named}
 use Rattle.qh_parts.specs.steps.Witnesses.{HasPlane}
 use Rattle.qh_parts.proofs.seam.marked.Marked.planes_of.Given as goal

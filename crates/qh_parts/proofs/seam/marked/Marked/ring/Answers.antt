@@ -1,7 +1,5 @@
 -- The sorted keys have the same facets.
-use Rattle.std.proofs.{Common.map, Common.subst, Common.sym, lemmas.Result.IfOk-weaker}
-use Rattle.std.proofs.lemmas.List.Sorted.{IsPermutation-map, IsPermutation-sym}
-use Rattle.qh_model.specs.headline.Sets.{In}
+use Rattle.qh_model.proofs.Common.{map, subst, sym, IfOk-weaker, IsPermutation-map, IsPermutation-sym, In}
 use Rattle.qh_model.proofs.Members.{in_permutation}
 use Rattle.qh_parts.specs.steps.RingKeys.{facet_in}
 use Rattle.qh_parts.proofs.seam.marked.Marked.ring.Goals as goal

@@ -1,6 +1,5 @@
 -- The keys of the facets of the ring so far.
-use Rattle.std.proofs.Common.{map}
-use Rattle.qh_model.specs.contract.StoredSurface.{surface_of}
+use Rattle.qh_model.proofs.Common.{map, surface_of}
 use Rattle.qh_surface.specs.contract.Walks.{mark_at}
 use Rattle.qh_laws.specs.contract.Seam.{IsRing}
 use Rattle.qh_parts.specs.steps.RingKeys.{facet_in}

@@ -1,9 +1,6 @@
 -- Four times the height of the middle is the sum of four volumes.
-use Rattle.std.proofs.{Common.rules, Common.◌≡◌, Common.◌∙◌, lemmas.Int.to_z-of_z}
-use Rattle.std.specs.Prelude.{ℤ, pos, ◌+ℤ◌, ◌≤ℤ◌}
+use Rattle.qh_model.proofs.Common.{rules, ◌≡◌, ◌∙◌, to_z-of_z, ℤ, pos, ◌+ℤ◌, ◌≤ℤ◌, w128, SFits}
 use Rattle.qh_parts.proofs.seam.triangles.Four.is_behind.Goals as goal
-use mir.Syntax.{w128}
-use mir.Val.{SFits}
 
 same_sum : (a b c d x y z w : ℤ) → a ≡ x → b ≡ y → c ≡ z → d ≡ w → (a +ℤ b +ℤ c +ℤ d) ≤ℤ pos 0 → (x +ℤ y +ℤ z +ℤ w) ≤ℤ pos 0
 same_sum a b c d x y z w p q r s low = rw (p, q, r, s) at low

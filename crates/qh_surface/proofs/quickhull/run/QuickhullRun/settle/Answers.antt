@@ -1,7 +1,5 @@
 -- The settled run is ready for the next round.
-use Rattle.std.proofs.Common.{◌<◌, ◌∙◌, ◌-◌, ap, sym, subst, List, [], length, replicate, get_or, arith, ℕ, length-append}
-use Rattle.std.proofs.lemmas.List.Elements.{All-weaker}
-use Rattle.qh_model.specs.headline.{Predicates.place, Vector.Vector}
+use Rattle.qh_model.proofs.Common.{◌<◌, ◌∙◌, ◌-◌, ap, sym, subst, List, [], length, replicate, get_or, arith, ℕ, length-append, All-weaker, place, Vector}
 use Rattle.qh_surface.specs.steps.{Cones.HasNoCornerAbove, Planes.ArePlanes}
 use Rattle.qh_surface.proofs.runs.{ConeRings.grown_corners, SetWrites.grown-set, SettledOrphans.same_settling, RenewedPlanes.roomy, FinishedRuns.next_round}
 use Rattle.qh_surface.proofs.quickhull.run.QuickhullRun.settle.Goals as goal

@@ -1,6 +1,5 @@
 -- The initial simplex, with all points orphans.
-use Rattle.std.proofs.Common.{◌∙◌, ap}
-use Rattle.std.specs.List.{range_with_len}
+use Rattle.qh_model.proofs.Common.{◌∙◌, ap, range_with_len}
 use Rattle.qh_surface.proofs.runs.FirstSimplexes.{IsFirst, first_remade}
 use Rattle.qh_surface.proofs.quickhull.run.QuickhullRun.start.Goals as goal
 

@@ -1,6 +1,5 @@
 -- The plane that is read is the facet's.
-use Rattle.std.proofs.Common.{◌∙◌, ◌↔◌, IsTrue, arith, sym, subst, pos, ◌<ℤ◌}
-use Rattle.std.proofs.lemmas.List.{get_or_read}
+use Rattle.qh_model.proofs.Common.{◌∙◌, ◌↔◌, IsTrue, arith, sym, subst, pos, ◌<ℤ◌, get_or_read}
 use Rattle.qh_mesh.specs.contract.Edges.{facet_of}
 use Rattle.qh_pred.specs.contract.Planes.{PlaneValue, height}
 use Rattle.qh_surface.specs.steps.Planes.{no_plane}

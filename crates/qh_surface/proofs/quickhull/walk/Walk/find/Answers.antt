@@ -1,6 +1,5 @@
 -- All facets that the apex sees are found.
-use Rattle.std.proofs.Common.{◌≡◌, ◌∙◌, ℕ, List, Bool, false, sym, subst, pos, ◌<ℤ◌}
-use Rattle.qh_model.specs.headline.Vector.{Vector}
+use Rattle.qh_model.proofs.Common.{◌≡◌, ◌∙◌, ℕ, List, Bool, false, sym, subst, pos, ◌<ℤ◌, Vector}
 use Rattle.qh_pred.specs.contract.Planes.{height}
 use Rattle.qh_surface.specs.{contract.Walks.mark_at, contract.Walks.IsWalkFrom, steps.Planes.plane_at}
 use Rattle.qh_surface.proofs.FoundFacets.{finds_all}

@@ -1,7 +1,5 @@
 -- The ids of both lists are below the greater of two bounds.
-use Rattle.std.proofs.Common.{◌<◌, ◌∙◌, ap, arith, length, subst, sym}
-use Rattle.std.proofs.lemmas.Grind.{common_steps}
-use Rattle.std.specs.List.{All}
+use Rattle.qh_model.proofs.Common.{◌<◌, ◌∙◌, ap, arith, length, subst, sym, common_steps, All}
 use Rattle.qh_polygon.proofs.{KeptIds.below_greater, KeptIds.has_room, MarkedIds.length-marked}
 use Rattle.qh_tests_geometry.proofs.tests.plane.id_marks.marked_in_turn.Goals as goal
 

@@ -1,6 +1,4 @@
-use Rattle.std.proofs.Common.{◌+◌, sym, subst}
-use Rattle.std.specs.Prelude.{ℕ}
-use Rattle.qh_model.specs.contract.BoardMachine.{InSpan}
+use Rattle.qh_model.proofs.Common.{◌+◌, sym, subst, ℕ, InSpan}
 use Rattle.qh_tests_run.specs.Rising.{IsRisingListOf}
 use Rattle.qh_tests_run.proofs.RisingLists.{alone_rises}
 use Rattle.qh_tests_run.proofs.tests.board.passes.take_turn.Goals as goal

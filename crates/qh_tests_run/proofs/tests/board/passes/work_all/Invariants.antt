@@ -1,5 +1,4 @@
-use Rattle.std.proofs.Common.{◌≡◌, ◌+◌, false, length}
-use Rattle.std.specs.Prelude.{All}
+use Rattle.qh_model.proofs.Common.{◌≡◌, ◌+◌, false, length, All}
 use Rattle.qh_board.specs.contract.Tokens.{IsOf}
 use Rattle.qh_tests_run.proofs.tests.board.passes.work_all.Given as goal
 
