@@ -1,5 +1,5 @@
 -- Texts that grow by pieces, and the numbers of vertices, found in a table or by a search.
-use Rattle.qh_model.proofs.Common.{◌≡◌, ◌≢◌, ◌∙◌, ℕ, zero, suc, ◌+◌, ◌-◌, ◌<◌, ◌≤◌, List, [], ◌∷◌, ◌++◌, length, arith, ap, sym, refl, subst, inl, inr, ◌⊎◌}
+use Rattle.qh_model.proofs.Common.{◌≡◌, ◌≢◌, ◌∙◌, ℕ, suc, ◌+◌, ◌-◌, ◌<◌, ◌≤◌, List, [], ◌∷◌, ◌++◌, length, arith, ap, sym, refl, subst, inl, inr, ◌⊎◌}
 use Rattle.qh_model.proofs.Common.{get_or-set_same, get_or-set_other, set, length-set, get_or, eqb-true, Bool, zero-add, ap₂, true, false, cond, All, replicate}
 use Rattle.qh_model.proofs.Common.{decimal, slice_index, Vec, Global, Result, Ok, Err, eqb-false, length-replicate, All-from_get_or, flat_map, nat_cmp, ◌==◌}
 use Rattle.qh_model.proofs.Common.{MatchResult, IsStrictlyIncreasing, IsBodyInOrder, In, Once, line, spaced, vertex_number, face_text}

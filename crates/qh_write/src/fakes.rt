@@ -1,5 +1,5 @@
 //! Devices for tests.
-ghost use Rattle.std.specs.Prelude.{◌≡◌, ◌+◌, ◌-◌, ◌^◌, ◌<◌, ◌≤◌, [], Some, vec_len, IsTrue};
+ghost use Rattle.std.specs.Prelude.{◌≡◌, ◌+◌, ◌-◌, ◌^◌, ◌<◌, [], Some};
 
 use crate::sink::{Sink, SinkFault};
 use std::alloc::Global;
@@ -52,20 +52,6 @@ impl FailSink {
         self.bytes.as_slice()
     }
 
-    fn is_due(&self) -> bool
-        ensures { ¬ (IsTrue result) → vec_len self.now.bytes < self.now.plan.room }
-    {
-        self.plan.failing_write == Some(self.writes) || self.plan.room <= self.bytes.len()
-    }
-
-    fn piece_of(&self, count: usize) -> usize
-        ensures within { result ≤ count }
-        ensures some { 0 < count → vec_len self.now.bytes < self.now.plan.room → 0 < result }
-    {
-        let room = self.plan.room.saturating_sub(self.bytes.len());
-        count.min(self.plan.greatest_piece.max(1)).min(room)
-    }
-
     fn fail(&mut self) -> SinkFault
         requires { self.old.failures < 2 ^ 64 - 1 }
         ensures { self.new ≡ record self.old { failures = self.old.failures + 1 } }
@@ -85,10 +71,12 @@ impl Sink for FailSink {
     fn write(&mut self, bytes: &[u8]) -> Result<usize, SinkFault> {
         self.writes = self.writes.saturating_add(1);
         self.flushed = false;
-        if self.is_due() {
+        let room = self.plan.room.saturating_sub(self.bytes.len());
+        if self.plan.failing_write == Some(self.writes) || room == 0 {
             return Err(self.fail());
         }
-        let count = self.piece_of(bytes.len());
+        let greatest = self.plan.greatest_piece.max(1);
+        let count = bytes.len().min(greatest).min(room);
         if self.bytes.extend_from_slice(&bytes[..count]).is_err() {
             return Err(self.fail());
         }

@@ -34,7 +34,7 @@ fn all_pieces(
 
 impl Pieces {
     ghost use Rattle.std.specs.Prelude.{ℕ, []};
-    ghost use Rattle.qh_write.specs.contract.Pieces.{bytes_in, bytes_of};
+    ghost use Rattle.qh_write.specs.contract.Pieces.{bytes_in};
 
     /// Creates an empty text, with room for `room` bytes in one piece.
     ///
@@ -60,15 +60,6 @@ impl Pieces {
         }
     }
 
-    /// Appends pieces unchanged.
-    fn append(&mut self, alloc: Global, mut more: Vec<Vec<u8>>) -> Result<(), AllocError>
-        ensures { OnOk result (bytes_in self.new ≡ bytes_in self.old ++ bytes_of more.items) }
-    {
-        let last = mem::replace(&mut self.last, Vec::new(alloc));
-        self.done.push(last)?;
-        self.done.append(&mut more)
-    }
-
     /// Appends parts that threads created, if none failed.
     pub(crate) fn append_parts(
         &mut self,
@@ -77,8 +68,10 @@ impl Pieces {
     ) -> Result<(), AllocError>
         ensures { OnOk result ((bytes : List ℕ) → AreParts parts.items bytes → bytes_in self.new ≡ bytes_in self.old ++ bytes) }
     {
-        let pieces = all_pieces(alloc, parts)?;
-        self.append(alloc, pieces)
+        let mut pieces = all_pieces(alloc, parts)?;
+        let last = mem::replace(&mut self.last, Vec::new(alloc));
+        self.done.push(last)?;
+        self.done.append(&mut pieces)
     }
 
     /// Returns the bytes of all pieces in one list. A single piece is not copied.

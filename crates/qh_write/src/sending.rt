@@ -36,10 +36,7 @@ fn flush<K: Sink>(sink: &mut K) -> Result<(), SendFault>
     ensures no_failure { OnOk result (K.count sink.new ≡ K.count sink.old) }
     ensures one_failure { OnErr result (K.count sink.new ≡ K.count sink.old + 1) }
 {
-    match sink.flush() {
-        Ok(()) => Ok(()),
-        Err(_) => Err(SendFault),
-    }
+    sink.flush().map_err(|_| SendFault)
 }
 
 /// Sends all bytes in their order and flushes the sink.

@@ -42,24 +42,6 @@ fn push_output<S: Scribe>(
     }
 }
 
-fn push_outputs<S: Scribe>(
-    scribe: &S,
-    text: &mut Pieces,
-    alloc: Global,
-    hull: &Hull,
-    pts: &[Point],
-    outs: &[Out],
-) -> Result<(), AllocError>
-    requires indices { AreIndices pts.now hull.now.body.extremes }
-    requires ready { S.ready scribe.now }
-    ensures { OnOk result (bytes_in text.new ≡ bytes_in text.old ++ hull_text hull.now pts.now outs.now) }
-{
-    for out in outs {
-        push_output(scribe, text, alloc, hull, pts, *out)?;
-    }
-    Ok(())
-}
-
 /// Returns the texts of the outputs in their order, with a scribe for vertices and faces.
 fn text_by<S: Scribe>(
     scribe: &S,
@@ -73,7 +55,9 @@ fn text_by<S: Scribe>(
     ensures { IfOk result (λ t. bytes_in t ≡ hull_text hull.now pts.now outs.now) }
 {
     let mut text = Pieces::with_room(alloc, scribe.room(&hull.body, outs))?;
-    push_outputs(scribe, &mut text, alloc, hull, pts, outs)?;
+    for out in outs {
+        push_output(scribe, &mut text, alloc, hull, pts, *out)?;
+    }
     Ok(text)
 }
 

@@ -42,23 +42,15 @@ fn push_fan(keys: &mut Vec<Packed>, face: &Polygon) -> Result<(), AllocError>
     Ok(())
 }
 
-/// Appends the numbers of the pairs of neighbours in the fans of faces.
-fn push_fans(keys: &mut Vec<Packed>, faces: &[Polygon]) -> Result<(), AllocError>
-    ensures { OnOk result (AddsPairs (pairs_of (fans faces.now)) keys.old.items keys.new.items) }
-{
-    for face in faces {
-        push_fan(keys, face)?;
-    }
-    Ok(())
-}
-
 /// Returns the number of edges of the fans of faces; `count` is the number of faces of the fans, which determines the
 /// memory.
 pub fn fan_edges(alloc: Global, faces: &[Polygon], count: usize) -> Result<usize, AllocError>
     ensures { IfOk result (λ n. n ≡ edge_count (fans faces.now)) }
 {
     let mut keys = Vec::with_capacity(alloc, count.saturating_mul(3))?;
-    push_fans(&mut keys, faces)?;
+    for face in faces {
+        push_fan(&mut keys, face)?;
+    }
     keys.sort_unstable();
     keys.dedup();
     Ok(keys.len())

@@ -54,10 +54,7 @@ fn fan_faces(faces: &[Polygon]) -> Result<usize, AllocError>
     let mut count: usize = 0;
     for face in faces {
         // A sum out of range would need more ids than fit into memory.
-        let Some(sum) = count.checked_add(fan_size(face.ids())) else {
-            return Err(AllocError);
-        };
-        count = sum;
+        count = count.checked_add(fan_size(face.ids())).ok_or(AllocError)?;
     }
     Ok(count)
 }

@@ -1,8 +1,8 @@
 //! The texts of `Fx` and of OFF files.
-ghost use Rattle.std.specs.{List.flat_map, Prelude.◌≡◌, Prelude.◌++◌, Prelude.◌<◌, Prelude.OnOk, Prelude.All, Prelude.length, Prelude.decimal, Prelude.codes};
+ghost use Rattle.std.specs.{List.flat_map, Prelude.◌≡◌, Prelude.◌++◌, Prelude.◌<◌, Prelude.OnOk, Prelude.All, Prelude.length, Prelude.decimal};
 ghost use Rattle.qh_model.specs.{contract.Bodies.IsBodyInOrder, contract.IdSets.AreIndices, headline.Predicates.place};
 ghost use Rattle.qh_model.specs.headline.Text.{line, spaced, extremes_text, vertex_text, face_text, off_text};
-ghost use Rattle.qh_write.specs.{contract.Pieces.bytes_in, steps.Forms.shown, steps.Forms.edges_shown, steps.Forms.body_shown};
+ghost use Rattle.qh_write.specs.{contract.Pieces.bytes_in, steps.Forms.shown, steps.Forms.body_shown};
 ghost use Rattle.qh_write.specs.steps.Numberings.{AreNumbered, face_by_numbers, number_in};
 
 use super::forms::FaceForm;
@@ -13,18 +13,12 @@ use crate::pieces::Pieces;
 use qh_model::{Body, Id, Point, Polygon};
 use std::alloc::{AllocError, Global};
 
-fn push_id(text: &mut Vec<u8>, id: Id) -> Result<(), AllocError>
-    ensures { OnOk result (text.new.items ≡ text.old.items ++ line (decimal id)) }
-{
-    push_number(text, u64::from(id.number()))?;
-    push_line_end(text)
-}
-
 fn push_ids(text: &mut Vec<u8>, ids: &[Id]) -> Result<(), AllocError>
     ensures { OnOk result (text.new.items ≡ text.old.items ++ flat_map (λ i. line (decimal i)) ids.now) }
 {
     for id in ids {
-        push_id(text, *id)?;
+        push_number(text, u64::from(id.number()))?;
+        push_line_end(text)?;
     }
     Ok(())
 }
@@ -137,20 +131,6 @@ pub fn push_counts(text: &mut Vec<u8>, body: &Body) -> Result<(), AllocError>
     push_line_end(text)
 }
 
-/// Appends the lines before the vertices.
-fn push_head(
-    text: &mut Vec<u8>,
-    alloc: Global,
-    form: FaceForm,
-    body: &Body,
-) -> Result<(), AllocError>
-    ensures { OnOk result (text.new.items ≡ text.old.items ++ codes "OFF\n" ++ line (decimal (length body.now.extremes)
-        ++ spaced (length (shown form body.now.polygons)) ++ spaced (edges_shown form body.now))) }
-{
-    text.extend_from_slice(b"OFF\n")?;
-    form.push_counts(text, alloc, body)
-}
-
 /// Appends the OFF text of a hull, with its faces in a form.
 pub fn push_off<S: Scribe>(
     scribe: &S,
@@ -164,7 +144,8 @@ pub fn push_off<S: Scribe>(
     requires ready { S.ready scribe.now }
     ensures { OnOk result (bytes_in text.new ≡ bytes_in text.old ++ off_text (body_shown form body.now) pts.now) }
 {
-    push_head(&mut text.last, alloc, form, body)?;
+    text.last.extend_from_slice(b"OFF\n")?;
+    form.push_counts(&mut text.last, alloc, body)?;
     let ids = &body.extremes;
     scribe.push_vertices(text, alloc, Vertices { pts, ids })?;
     push_numbered(scribe, text, alloc, form, body, pts.len())

@@ -152,65 +152,6 @@ impl<R> InThreads<'_, R> {
     }
 }
 
-/// Appends the points of vertices with a number of threads, which claim parts of them.
-fn push_vertices_in_threads<R: Threads + Sync>(
-    scribe: &InThreads<'_, R>,
-    text: &mut Pieces,
-    alloc: Global,
-    vertices: Vertices,
-) -> Result<(), AllocError>
-    requires { All (λ i. i < length vertices.pts.now) vertices.ids.now }
-    ensures { OnOk result (bytes_in text.new ≡ bytes_in text.old
-        ++ flat_map (λ i. vertex_text (place vertices.entry.pts.now i)) vertices.entry.ids.now) }
-{
-    let Vertices { pts, ids } = vertices;
-    let count = scribe.threads.max(1).saturating_mul(PARTS_FOR_EACH);
-    let size = ids.len() / count + 1;
-    let parts = map_claimed(
-        scribe.rt,
-        alloc,
-        scribe.threads,
-        count,
-        &move |number: usize| -> Result<Vec<u8>, AllocError>
-            requires { All (λ i. i < length pts.now) ids.now }
-            ensures { IfOk result (λ t. t.items ≡ flat_map (λ i. vertex_text (place pts.entry.now i)) (take size (drop (number * size) ids.entry.now))) }
-        { vertices_text(alloc, pts, part_of(ids, size, number)) },
-    )?;
-    text.append_parts(alloc, parts)
-}
-
-/// Appends faces with a number of threads, which claim parts of them.
-fn push_faces_in_threads<R: Threads + Sync>(
-    scribe: &InThreads<'_, R>,
-    text: &mut Pieces,
-    alloc: Global,
-    faces: NumberedFaces,
-) -> Result<(), AllocError>
-    requires { All (AreNumbered faces.numbers.now) faces.polygons.now }
-    ensures { OnOk result (bytes_in text.new ≡ bytes_in text.old
-        ++ flat_map (face_by_numbers faces.entry.numbers.now) (shown faces.entry.form faces.entry.polygons.now)) }
-{
-    let NumberedFaces {
-        form,
-        numbers,
-        polygons,
-    } = faces;
-    let count = scribe.threads.max(1).saturating_mul(PARTS_FOR_EACH);
-    let size = polygons.len() / count + 1;
-    let parts = map_claimed(
-        scribe.rt,
-        alloc,
-        scribe.threads,
-        count,
-        &move |number: usize| -> Result<Vec<u8>, AllocError>
-            requires { All (AreNumbered numbers.now) polygons.now }
-            ensures { IfOk result (λ t. t.items ≡ flat_map (face_by_numbers numbers.entry.now)
-                (shown form (take size (drop (number * size) polygons.entry.now)))) }
-        { faces_text(alloc, form, numbers, part_of(polygons, size, number)) },
-    )?;
-    text.append_parts(alloc, parts)
-}
-
 impl<R: Threads + Sync> Scribe for InThreads<'_, R> {
     ghost ready = { λ _. IsSync R.row };
 
@@ -229,11 +170,23 @@ impl<R: Threads + Sync> Scribe for InThreads<'_, R> {
         alloc: Global,
         vertices: Vertices,
     ) -> Result<(), AllocError> {
-        if self.share(vertices.ids.len()) {
-            push_vertices_in_threads(self, text, alloc, vertices)
-        } else {
-            Alone.push_vertices(text, alloc, vertices)
+        if !self.share(vertices.ids.len()) {
+            return Alone.push_vertices(text, alloc, vertices);
         }
+        let Vertices { pts, ids } = vertices;
+        let count = self.threads.max(1).saturating_mul(PARTS_FOR_EACH);
+        let size = ids.len() / count + 1;
+        let parts = map_claimed(
+            self.rt,
+            alloc,
+            self.threads,
+            count,
+            &move |number: usize| -> Result<Vec<u8>, AllocError>
+                requires { All (λ i. i < length pts.now) ids.now }
+                ensures { IfOk result (λ t. t.items ≡ flat_map (λ i. vertex_text (place pts.entry.now i)) (take size (drop (number * size) ids.entry.now))) }
+            { vertices_text(alloc, pts, part_of(ids, size, number)) },
+        )?;
+        text.append_parts(alloc, parts)
     }
 
     fn push_faces(
@@ -242,10 +195,27 @@ impl<R: Threads + Sync> Scribe for InThreads<'_, R> {
         alloc: Global,
         faces: NumberedFaces,
     ) -> Result<(), AllocError> {
-        if self.share(faces.polygons.len()) {
-            push_faces_in_threads(self, text, alloc, faces)
-        } else {
-            Alone.push_faces(text, alloc, faces)
+        if !self.share(faces.polygons.len()) {
+            return Alone.push_faces(text, alloc, faces);
         }
+        let NumberedFaces {
+            form,
+            numbers,
+            polygons,
+        } = faces;
+        let count = self.threads.max(1).saturating_mul(PARTS_FOR_EACH);
+        let size = polygons.len() / count + 1;
+        let parts = map_claimed(
+            self.rt,
+            alloc,
+            self.threads,
+            count,
+            &move |number: usize| -> Result<Vec<u8>, AllocError>
+                requires { All (AreNumbered numbers.now) polygons.now }
+                ensures { IfOk result (λ t. t.items ≡ flat_map (face_by_numbers numbers.entry.now)
+                    (shown form (take size (drop (number * size) polygons.entry.now)))) }
+            { faces_text(alloc, form, numbers, part_of(polygons, size, number)) },
+        )?;
+        text.append_parts(alloc, parts)
     }
 }

@@ -1,5 +1,5 @@
 -- The concatenated parts of the faces are all faces.
-use Rattle.qh_write.proofs.texts.scribes.push_faces_in_threads.Goals as goal
+use Rattle.qh_write.proofs.texts.scribes.InThreadsScribe.push_faces.Goals as goal
 use Rattle.std.proofs.Common.{rules, ◌≡◌, ◌<◌, ◌≤◌, ◌*◌, ◌/◌, ◌+◌, ◌∙◌, ℕ, List, length, take, drop, get_or, Result, Vec, Global, arith, ap}
 use Rattle.std.proofs.lemmas.{Grind.flat_map-append, Result.on_ok_weaker}
 use Rattle.std.specs.{List.flat_map, Prelude.IfOk, declared.alloc.AllocError.AllocError}
