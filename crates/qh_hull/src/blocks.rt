@@ -10,13 +10,6 @@ use qh_model::{Body, Id, Memory, Point};
 use qh_polygon::rising_ids;
 use std::alloc::Global;
 
-/// Returns true if blocks pay: the set is large, and few of its first ids are extreme.
-fn blocks_pay(alloc: Global, pts: &[Point], ids: &[Id]) -> Result<bool, Memory>
-    requires { AreIndices pts.now ids.now }
-{
-    Ok(ids.len() > WHOLE_ALONE && few_are_extreme(alloc, pts, ids)?)
-}
-
 /// Returns the ids that are extreme in their block, and all ids after the first block in which most ids are extreme.
 fn extremes_of_blocks(alloc: Global, pts: &[Point], ids: &[Id]) -> Result<Vec<Id>, Memory>
     requires indices { AreIndices pts.now ids.now }
@@ -50,14 +43,14 @@ fn hull_by_blocks(alloc: Global, pts: &[Point], ids: &[Id]) -> Result<Body, Memo
     hull(alloc, pts, &part)
 }
 
-/// Returns the hull of a set of ids, without a map.
+/// Returns the hull of a set of ids, without a map: by blocks if the set is large, and few of its first ids are extreme.
 fn body_as_given(alloc: Global, pts: &[Point], ids: &[Id]) -> Result<Body, Memory>
     requires some { 0 < length ids.now }
     requires indices { AreIndices pts.now ids.now }
     requires set { IsIdSet pts.now ids.now }
     ensures { IfOk result (IsBody (place pts.now) (Members ids.now)) }
 {
-    if blocks_pay(alloc, pts, ids)? {
+    if ids.len() > WHOLE_ALONE && few_are_extreme(alloc, pts, ids)? {
         hull_by_blocks(alloc, pts, ids)
     } else {
         hull(alloc, pts, ids)

@@ -61,7 +61,6 @@ pub(crate) fn root_ids<R: Threads + Sync, G: Gate>(
     let passes = workers.min(set.cut.blocks());
     match reduced(rt, alloc, set, passes, gate) {
         Ok(Some(root)) => Some(root.ids),
-        Ok(None) => None,
-        Err(_) => None,
+        _ => None,
     }
 }

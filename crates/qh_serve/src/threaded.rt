@@ -14,10 +14,6 @@ pub struct Threaded<'a, R> {
 }
 
 impl<R: Threads + Sync> Gate for Threaded<'_, R> {
-    fn claimed(&self, _pass: u32, _block: u32) {}
-
-    fn delivered(&self, _pass: u32, _block: u32) {}
-
     fn finish(&self, alloc: Global, pts: &[Point], ids: &[Id]) -> Result<Body, Memory> {
         hull_in_parts(self.rt, alloc, pts, ids, self.threads)
     }

@@ -28,10 +28,6 @@ impl Finishes {
 }
 
 impl Gate for Finishes {
-    fn claimed(&self, _pass: u32, _block: u32) {}
-
-    fn delivered(&self, _pass: u32, _block: u32) {}
-
     fn finish(&self, alloc: Global, pts: &[Point], ids: &[Id]) -> Result<Body, Memory> {
         self.calls.fetch_add(1, Ordering::SeqCst);
         self.ids.store(ids.len() as u64, Ordering::SeqCst);

@@ -106,10 +106,6 @@ impl Gate for Hold {
 struct NoHull;
 
 impl Gate for NoHull {
-    fn claimed(&self, _pass: u32, _block: u32) {}
-
-    fn delivered(&self, _pass: u32, _block: u32) {}
-
     fn finish(&self, _alloc: Global, _pts: &[Point], _ids: &[Id]) -> Result<Body, Memory> {
         Err(Memory)
     }

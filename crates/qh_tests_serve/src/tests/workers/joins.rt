@@ -3,8 +3,7 @@ use super::paraboloid::{OUTPUTS, points};
 use super::stored_points::STORED;
 use crate::tests::outcomes::Asked;
 use qh_fixtures::Host;
-use qh_model::{Body, Id, Memory, Point};
-use qh_run::{Gate, NoGate};
+use qh_run::Gate;
 use std::alloc::{AllocError, Global};
 use std::sync::atomic::{AtomicU64, Ordering};
 use std::test::Fail;
@@ -30,8 +29,6 @@ impl Joins {
 }
 
 impl Gate for Joins {
-    fn claimed(&self, _pass: u32, _block: u32) {}
-
     fn delivered(&self, _pass: u32, block: u32) {
         let parent = self.blocks.saturating_add(block) / 2;
         if let Some(delivered) = self.delivered.get(parent as usize) {
@@ -39,10 +36,6 @@ impl Gate for Joins {
                 self.joins.fetch_add(1, Ordering::SeqCst);
             }
         }
-    }
-
-    fn finish(&self, alloc: Global, pts: &[Point], ids: &[Id]) -> Result<Body, Memory> {
-        NoGate.finish(alloc, pts, ids)
     }
 }
 

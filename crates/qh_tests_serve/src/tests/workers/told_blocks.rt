@@ -3,8 +3,7 @@ use super::gated::{WATCHED, Watched, outcome_by};
 use crate::tests::outcomes::OFF;
 use qh_fixtures::Host;
 use qh_fixtures::files::OCTAHEDRON_OFF;
-use qh_model::{Body, Id, Memory, Point};
-use qh_run::{Gate, NoGate};
+use qh_run::Gate;
 use std::alloc::{AllocError, Global};
 use std::sync::atomic::{AtomicU64, Ordering};
 use std::test::Fail;
@@ -71,10 +70,6 @@ impl Gate for Keeper {
 
     fn delivered(&self, pass: u32, block: u32) {
         self.keep(pass, block, claimed_by(pass), DELIVERED);
-    }
-
-    fn finish(&self, alloc: Global, pts: &[Point], ids: &[Id]) -> Result<Body, Memory> {
-        NoGate.finish(alloc, pts, ids)
     }
 }
 
