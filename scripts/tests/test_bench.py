@@ -158,7 +158,7 @@ class Phases(unittest.TestCase):
     def test_functions_of_one_crate_may_have_several_phases(self):
         for name, wanted in [
             ("qh_block::faces::new_face", "faces"), ("qh_bodies::unsorted_faces::UnsortedFaces::push", "faces"),
-            ("qh_block::solids::solid_mesh", "surface"), ("qh_bodies::tallies::tally_of", "faces"),
+            ("qh_block::solids::solid_mesh", "surface"), ("qh_bodies::tallies::corners", "faces"),
             ("qh_run::unions::union", "surface"),
             ("qh_serve::threaded::Threaded::finish", "parts"), ("qh_serve::serving::serve", "read"),
             ("qh_block::regions::sieves::x", "filter"), ("qh_parts::seam::rings::x", "parts"), ("memcpy", "else"),

@@ -147,21 +147,21 @@ fn new_face(
     facet_polygon(alloc, pts, surface, f, &room.corners)
 }
 
-/// Returns the faces of a finished mesh, one for each plane of its live facets, unsorted.
+/// Returns the faces of a finished mesh, one for each plane of its live facets.
 pub(crate) fn faces(
     alloc: Global,
     pts: &[Point],
     surface: &NamedMesh,
-) -> Result<Vec<Polygon>, Memory>
+) -> Result<UnsortedFaces, Memory>
     requires { IsNamedMesh pts.now surface.now }
     ensures { let fs = named surface.now in
         IfOk result (λ v. (ids : List ℕ) → IsIdSet pts.now ids → IsFinished (place pts.now) ids (surface_of fs)
-        → AreFacetFaces (place pts.now) (Members ids) fs v.items) }
+        → AreFacetFaces (place pts.now) (Members ids) fs v) }
 {
     let mut places = no_marks(alloc, surface.mesh.places())?;
     let marks = places.as_mut_slice();
     let mut room = Scratch::new(alloc);
-    let mut faces = Vec::with_capacity(alloc, surface.mesh.places())?;
+    let mut faces = UnsortedFaces::none(alloc);
     for f in surface.mesh.live() {
         if !marks[f.index()] {
             faces.push(new_face(alloc, pts, surface, f, marks, &mut room)?)?;

@@ -7,7 +7,7 @@ ghost use Rattle.qh_surface.specs.contract.NamedMeshes.{named, IsNamedMesh};
 
 use crate::faces::faces;
 use crate::regions::IdSet;
-use qh_bodies::{body_of_faces, corners, sort_faces, tally_of};
+use qh_bodies::body_of_faces;
 use qh_model::{Body, Id, Memory, Point};
 use qh_surface::starts::Simplex;
 use qh_surface::{NamedMesh, surface_from};
@@ -33,7 +33,7 @@ pub fn solid_extremes(alloc: Global, pts: &[Point], surface: &NamedMesh) -> Resu
         → AreExtremes (place pts.now) (Members ids) v.items) }
 {
     let faces = faces(alloc, pts, surface)?;
-    let extremes = corners(alloc, &faces)?;
+    let extremes = faces.corners(alloc)?;
     Ok(extremes)
 }
 
@@ -43,8 +43,8 @@ pub fn solid_body(alloc: Global, pts: &[Point], surface: &NamedMesh) -> Result<B
     ensures { IfOk result (λ b. (ids : List ℕ) → IsIdSet pts.now ids → IsFinished (place pts.now) ids (surface_of (named surface.now))
         → IsBody (place pts.now) (Members ids) b) }
 {
-    let polygons = faces(alloc, pts, surface)?;
-    let polygons = sort_faces(alloc, polygons)?;
-    let tally = tally_of(alloc, &polygons)?;
+    let faces = faces(alloc, pts, surface)?;
+    let tally = faces.tally(alloc)?;
+    let polygons = faces.sorted(alloc)?;
     Ok(body_of_faces(polygons, tally))
 }

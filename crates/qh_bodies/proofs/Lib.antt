@@ -10,3 +10,4 @@ pub mod SortedNumbers
 pub mod StepBorders
 pub mod StepCounts
 pub mod Steps
+pub mod TallyOrder

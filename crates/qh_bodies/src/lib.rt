@@ -1,7 +1,7 @@
 //! The hull of a solid set from its faces.
 //!
-//! [`UnsortedFaces`] stores faces in little memory until all are found. [`sort_faces`] sorts them (`face_order`), most
-//! of them by the numbers of `face_keys`. [`tally_of`] lists their corners and counts their edges (`solid_edges`), and
+//! [`UnsortedFaces`] stores faces in little memory until all are found, most of them by the numbers of `face_keys`. It
+//! lists their corners and counts their edges (`tallies`, `solid_edges`) and sorts them (`face_order`), and
 //! [`body_of_faces`] makes the hull.
 //!
 //! The steps round polygons, from a corner to the next, decide if polygons close up ([`open_step`]). Two lists of
@@ -20,7 +20,6 @@ mod unsorted_faces;
 
 pub use borders::have_one_border;
 pub use closed::{Step, open_step, repeated_step};
-pub use face_order::sort_faces;
 pub use order::out_of_order;
-pub use tallies::{Tally, body_of_faces, corners, tally_of};
+pub use tallies::{Tally, body_of_faces};
 pub use unsorted_faces::UnsortedFaces;

@@ -1,7 +1,8 @@
 //! The number of edges of polygons.
-ghost use Rattle.std.specs.Prelude.{◌≡◌, ◌≤◌, IfOk, length};
-ghost use Rattle.qh_bodies.specs.contract.SolidEdges.{ups, all_edges_up};
+ghost use Rattle.std.specs.Prelude.{◌≡◌, ◌≤◌, ◌++◌, IfOk, length, map};
+ghost use Rattle.qh_bodies.specs.{contract.SolidEdges.ups, contract.SolidEdges.all_edges_up, steps.FaceKeys.triangle_in};
 
+use crate::face_keys::triangle_in;
 use qh_model::{Id, Memory, Polygon};
 
 /// Returns the number of steps to a higher id round a polygon.
@@ -26,14 +27,28 @@ fn edges_up(ids: &[Id]) -> usize
     count
 }
 
-/// Returns the number of steps to a higher id round polygons. For the faces of a solid it is the number of their edges,
-/// since two faces run along each edge in opposite directions.
-pub fn edge_count(polygons: &[Polygon]) -> Result<u64, Memory>
-    ensures { IfOk result (λ n. n ≡ all_edges_up polygons.now) }
+/// Returns the number of steps to a higher id round the triangles of keys.
+fn edges_of_keys(keys: &[u64]) -> Result<u64, Memory>
+    ensures { IfOk result (λ n. n ≡ all_edges_up (map triangle_in keys.now)) }
 {
     let mut count: u64 = 0;
-    for polygon in polygons {
+    for key in keys {
         // An overflow would need more ids than fit into memory.
+        let Some(sum) = count.checked_add(edges_up(triangle_in(*key).ids()) as u64) else {
+            return Err(Memory);
+        };
+        count = sum;
+    }
+    Ok(count)
+}
+
+/// Returns the number of steps to a higher id round triangles, given by their keys, and other polygons. For the faces of
+/// a solid it is the number of their edges, since two faces run along each edge in opposite directions.
+pub fn edge_count(keys: &[u64], others: &[Polygon]) -> Result<u64, Memory>
+    ensures { IfOk result (λ n. n ≡ all_edges_up (map triangle_in keys.now ++ others.now)) }
+{
+    let mut count = edges_of_keys(keys)?;
+    for polygon in others {
         let Some(sum) = count.checked_add(edges_up(polygon.ids()) as u64) else {
             return Err(Memory);
         };

@@ -1,66 +1,48 @@
 //! The corners of polygons, the number of their edges, and the hull with these faces.
-ghost use Rattle.std.specs.Prelude.{◌≡◌, ◌<◌, ◌↔◌, ℕ, List, IfOk, length};
-ghost use Rattle.std.specs.List.{All, Sorted.IsStrictlyIncreasing};
+ghost use Rattle.std.specs.Prelude.{◌≡◌, ◌↔◌, ◌++◌, ℕ, List, IfOk, OnOk, map};
+ghost use Rattle.std.specs.List.{flat_map, Sorted.IsStrictlyIncreasing};
 ghost use Rattle.qh_model.specs.contract.{ClosedPolygons.AreClosedFaces, IdSets.HasDistinctPoints};
 ghost use Rattle.qh_model.specs.headline.{Dimension.IsDimension, Hull.IsBody, Polygons.RiseStrictly};
 ghost use Rattle.qh_model.specs.headline.{Sets.In, Sets.Members, Vector.Vector};
-ghost use Rattle.qh_polygon.specs.contract.Marks.{marked};
-ghost use Rattle.qh_bodies.specs.contract.Tallies.{all_members, IsTally};
+ghost use Rattle.qh_bodies.specs.{contract.Tallies.all_members, contract.Tallies.IsTally, steps.FaceKeys.triangle_in};
 
-use crate::solid_edges::edge_count;
+use crate::face_keys::triangle_in;
 use qh_model::{Body, Id, Memory, Polygon};
-use qh_polygon::{IdMarks, past_greatest, rising_ids};
+use qh_polygon::rising_ids;
 use std::alloc::{AllocError, Global};
 
-/// Returns the ids of all polygons, one after the other.
-fn listed_ids(alloc: Global, polygons: &[Polygon]) -> Result<Vec<Id>, AllocError>
-    ensures { IfOk result (λ v. v.items ≡ all_members polygons.now) }
+/// Returns the ids of the triangles of keys, one after the other.
+fn ids_of_keys(alloc: Global, keys: &[u64]) -> Result<Vec<Id>, AllocError>
+    ensures { IfOk result (λ v. v.items ≡ flat_map triangle_in keys.now) }
 {
-    let mut ids = Vec::with_capacity(alloc, polygons.len().saturating_mul(3))?;
-    for polygon in polygons {
-        ids.extend_from_slice(polygon.ids())?;
+    let mut ids = Vec::with_capacity(alloc, keys.len().saturating_mul(3))?;
+    for key in keys {
+        ids.extend_from_slice(triangle_in(*key).ids())?;
     }
     Ok(ids)
 }
 
-/// Returns one more than the greatest id of all polygons, or 0 if there are no ids.
-fn past_corners(polygons: &[Polygon]) -> usize
-    ensures { All (λ i. i < result) (all_members polygons.now) }
-{
-    let mut past = 0;
-    for polygon in polygons {
-        past = past.max(past_greatest(polygon.ids()));
-    }
-    past
-}
-
-/// Sets the marks of the ids of all polygons.
-fn mark_corners(marks: &mut IdMarks, polygons: &[Polygon])
-    requires { All (λ i. i < length marks.old) (all_members polygons.now) }
-    ensures { marks.new ≡ marked marks.old (all_members polygons.now) }
+/// Appends the ids of polygons, one after the other.
+fn list_ids(polygons: &[Polygon], ids: &mut Vec<Id>) -> Result<(), AllocError>
+    ensures { OnOk result (ids.new.items ≡ ids.old.items ++ all_members polygons.now) }
 {
     for polygon in polygons {
-        marks.mark(polygon.ids());
+        ids.extend_from_slice(polygon.ids())?;
     }
+    Ok(())
 }
 
-/// Returns the ids of all polygons, rising, each once. The ids are listed and sorted only if they are few and far
-/// apart.
+/// Returns the ids of triangles, given by their keys, and of other polygons, rising, each once.
 ///
 /// # Errors
 ///
 /// `Memory` if an allocation failed.
-pub fn corners(alloc: Global, polygons: &[Polygon]) -> Result<Vec<Id>, Memory>
+pub fn corners(alloc: Global, keys: &[u64], others: &[Polygon]) -> Result<Vec<Id>, Memory>
     ensures rising { IfOk result (λ v. IsStrictlyIncreasing v.items) }
-    ensures members { IfOk result (λ v. (i : ℕ) → In i v.items ↔ In i (all_members polygons.now)) }
+    ensures members { IfOk result (λ v. (i : ℕ) → In i v.items ↔ In i (all_members (map triangle_in keys.now ++ others.now))) }
 {
-    let past = past_corners(polygons);
-    if IdMarks::are_faster(past, polygons.len().saturating_mul(3)) {
-        let mut marks = IdMarks::new(alloc, past)?;
-        mark_corners(&mut marks, polygons);
-        return marks.into_ids(alloc);
-    }
-    let ids = listed_ids(alloc, polygons)?;
+    let mut ids = ids_of_keys(alloc, keys)?;
+    list_ids(others, &mut ids)?;
     rising_ids(alloc, &ids)
 }
 
@@ -71,19 +53,6 @@ pub struct Tally {
     pub extremes: Vec<Id>,
     /// The number of edges of the faces.
     pub edges: u64,
-}
-
-/// Returns the corners of polygons and the number of their edges.
-///
-/// # Errors
-///
-/// `Memory` if an allocation failed.
-pub fn tally_of(alloc: Global, polygons: &[Polygon]) -> Result<Tally, Memory>
-    ensures { IfOk result (IsTally polygons.now) }
-{
-    let extremes = corners(alloc, polygons)?;
-    let edges = edge_count(polygons)?;
-    Ok(Tally { extremes, edges })
 }
 
 /// Returns the hull of a solid set, from its faces in rising lexicographic order, and their tally.

@@ -3,6 +3,7 @@ use crate::blocks::BoundingVolume;
 use crate::sights::Sight;
 use crate::vector::Vector;
 use qh_model::Point;
+use qh_parts_join::FACING_TOGETHER;
 use qh_places::Budget;
 use std::alloc::{AllocError, Global};
 
@@ -11,9 +12,6 @@ const BRANCHES: usize = 8;
 
 /// The binary logarithm of `BRANCHES`.
 const BRANCH_BITS: u32 = 3;
-
-/// The number of consecutive points that share a direction in which the surface faces.
-pub(crate) const FACING_TOGETHER: usize = 32;
 
 /// The greatest number of levels. On the highest of them, one block has 2^24 points.
 const LEVELS: u32 = 8;

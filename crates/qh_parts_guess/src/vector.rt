@@ -1,5 +1,6 @@
 //! Vectors of floating-point numbers, for approximate computations.
 use qh_model::Point;
+use qh_places::Outward;
 use qh_pred::Normal;
 use std::num::nearest_i64_to_f64;
 
@@ -44,6 +45,16 @@ impl Vector {
             x: component(normal.x()),
             y: component(normal.y()),
             z: component(normal.z()),
+        }
+    }
+
+    /// Returns the vector nearest to an outward direction.
+    pub fn outward(way: Outward) -> Vector {
+        let [x, y, z] = way.components();
+        Vector {
+            x: nearest_i64_to_f64(x),
+            y: nearest_i64_to_f64(y),
+            z: nearest_i64_to_f64(z),
         }
     }
 

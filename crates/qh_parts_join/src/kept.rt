@@ -58,6 +58,24 @@ fn corners_and_shared(alloc: Global, parts: &[Part], shared: &[Id]) -> Result<Ve
     rising_ids(alloc, &listed)
 }
 
+/// Returns true if parts have exactly the ids of a set, and the shared ids are among them. Then the corners of the parts
+/// and the shared ids include all extreme ids of the set. The contract allows false in every case. `ids` rise.
+///
+/// # Errors
+///
+/// `Memory` if an allocation failed.
+pub fn have_ids(alloc: Global, ids: &[Id], parts: &[Part], shared: &[Id]) -> Result<bool, Memory>
+    ensures inside { IfOk result (λ yes. IsTrue yes → (l : ℕ) → In l (flat_map ids_in parts.now) → In l ids.now) }
+    ensures kept { IfOk result (λ yes. IsTrue yes → (kept : List ℕ) → KeepsCorners parts.now shared.now kept
+        → (pts : List Vector) → All (IsPartOf pts shared.now) parts.now → AreKept (place pts) ids.now kept) }
+{
+    if !are_in(shared, ids) {
+        return Ok(false);
+    }
+    let all = have_all(alloc, parts, ids)?;
+    Ok(all)
+}
+
 /// Returns the kept ids of a set, rising: the corners of its parts and the shared ids. Returns `None` if the ids of the
 /// parts are not exactly those of the set, or a shared id is not in it; the contract allows it in every case. `ids`
 /// rise.
@@ -78,10 +96,7 @@ pub fn kept_ids(
     ensures kept { IfOk result (λ found. IfSome found (λ v. (pts : List Vector) → All (IsPartOf pts shared.now) parts.now
         → AreKept (place pts) ids.now v.items)) }
 {
-    if !are_in(shared, ids) {
-        return Ok(None);
-    }
-    let all = have_all(alloc, parts, ids)?;
+    let all = have_ids(alloc, ids, parts, shared)?;
     if !all {
         return Ok(None);
     }

@@ -14,5 +14,5 @@ mod kept;
 mod parts;
 
 pub use guesses::{Divided, Guess, Run};
-pub use kept::kept_ids;
-pub use parts::Part;
+pub use kept::{have_ids, kept_ids};
+pub use parts::{FACING_TOGETHER, Part};

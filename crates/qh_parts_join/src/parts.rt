@@ -28,6 +28,8 @@ pub struct Part {
     pub own: Vec<Id>,
     /// The points of these corners, by blocks.
     pub places: Places,
+    /// For each [`FACING_TOGETHER`] of these corners, a guess of the outward direction.
+    pub facing: Vec<Outward>,
 }
 
 /// Returns the first four of the shared ids, if their points do not lie in one plane.
@@ -88,12 +90,18 @@ fn without(alloc: Global, ids: &[Id], others: &[Id]) -> Result<Vec<Id>, AllocErr
     Ok(left)
 }
 
-/// Returns the outward direction at each position of a mesh, computed from the facets that begin there. No answer
-/// depends on it.
+/// The number of consecutive own corners of a part that share a direction in which the surface faces.
+pub const FACING_TOGETHER: usize = 32;
+
+/// Of this many facets one contributes to the outward directions, which are needed for groups of corners alone.
+const FACING_SHARE: usize = 4;
+
+/// Returns the outward direction at each position of a mesh, computed from some of the facets that begin there. No
+/// answer depends on it.
 fn ways_out(alloc: Global, surface: &NamedMesh) -> Result<Vec<Outward>, AllocError> {
     let points = &surface.points;
     let mut ways = vec![in alloc; Outward::NONE; points.len()]?;
-    for place in 0..surface.mesh.places() {
+    for place in (0..surface.mesh.places()).step_by(FACING_SHARE) {
         let f = FacetNo::new(place);
         if surface.mesh.is_live(f) {
             let [i, j, k] = surface.mesh.facet(f);
@@ -226,11 +234,14 @@ impl Part {
         let own = marked(alloc, &unshared, &marks)?;
         let outward = outward_of(alloc, &surface, &own)?;
         let places = Places::in_order(alloc, pts, &own, &outward)?;
+        let together = outward.chunks(FACING_TOGETHER);
+        let facing = together.map(|ways| Outward::sum(ways)).collect(alloc)?;
         Ok(Some(Part {
             ids,
             surface,
             own,
             places,
+            facing,
         }))
     }
 }

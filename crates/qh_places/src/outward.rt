@@ -24,6 +24,16 @@ impl Outward {
         }
     }
 
+    /// Returns the sum of directions.
+    pub fn sum(ways: &[Outward]) -> Outward {
+        ways.iter().fold(Outward::NONE, |sum, way| sum.plus(*way))
+    }
+
+    /// Returns the components along the three axes.
+    pub fn components(self) -> [i64; 3] {
+        [self.x, self.y, self.z]
+    }
+
     /// Returns the normal of a triangle, counterclockwise seen from outside.
     pub fn of_triangle(a: Point, b: Point, c: Point) -> Outward {
         let normal = cross(a, b, c);
@@ -51,7 +61,7 @@ fn scaled(component: i64, greatest: u64) -> i16 {
 
 /// Returns the direction of the sum of outward directions.
 pub(crate) fn direction_of(ways: &[Outward]) -> Direction {
-    let sum = ways.iter().fold(Outward::NONE, |sum, way| sum.plus(*way));
+    let sum = Outward::sum(ways);
     let flat = sum.x.unsigned_abs().max(sum.y.unsigned_abs());
     let greatest = flat.max(sum.z.unsigned_abs());
     Direction {

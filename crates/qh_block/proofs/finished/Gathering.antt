@@ -1,7 +1,8 @@
 -- The loop over the live facets of a mesh that gathers its faces.
 use Rattle.qh_model.proofs.Common.{◌≡◌, ◌⊎◌, inl, inr, ⊎_elim, ℕ, ◌<◌, ◌≤◌, List, [], ◌∷◌, ◌++◌, length, sym, subst, refl, arith, Bool, true, false, Vector}
-use Rattle.qh_model.proofs.Common.{place, In, Members, IsIdSet, IsFinished, StoredFacet, surface_of}
-use Rattle.qh_model.proofs.surfaces.Stored.{live_is_marked}
+use Rattle.qh_model.proofs.Common.{place, In, Members, IsIdSet, IsFinished, StoredFacet, surface_of, IsPermutation, IsPermutation-sym}
+use Rattle.qh_model.proofs.{Members.in_permutation, surfaces.Stored.live_is_marked}
+use Rattle.qh_bodies.proofs.FaceOrder.{apart_permuted}
 use Rattle.qh_mesh.specs.contract.Replacement.{IsLive}
 use Rattle.qh_surface.specs.contract.Walks.{mark_at}
 use Rattle.qh_block.specs.steps.Faces.{IsNewPlane, IsNewFace, AreMarkedFaces, AreFacetFaces}
@@ -28,6 +29,21 @@ gathering_starts pts fs marks none room = record {
 }
 
 module _ (pts : List Vector) (fs : List StoredFacet) (marks : List Bool) (qs : List (List ℕ)) where
+  -- the order of the faces does not matter
+  pub gathering_permuted : (left : List ℕ) (ps : List (List ℕ)) → IsPermutation qs ps → IsGathering pts fs left marks qs
+      → IsGathering pts fs left marks ps
+  gathering_permuted left ps same old = record {
+    room = old.room;
+    live = old.live;
+    rest = old.rest;
+    faces = λ ids s z. let a = old.faces ids s z in record {
+      each = λ f l m. (let r = a.each f l m in (r.0, in_permutation qs ps same r.0 r.1, r.2));
+      only = λ q i. a.only q (in_permutation ps qs (IsPermutation-sym qs ps same) q i);
+      whole = a.whole;
+      apart = apart_permuted qs ps same a.apart;
+    };
+  }
+
   -- the next facet has a place; if it has no mark, its face is one more face
   module _ (all left : List ℕ) (f : ℕ) (old : IsGathering pts fs all marks qs) (is : all ≡ f ∷ left) where
     live : IsLive fs f

@@ -3,7 +3,6 @@ use crate::cut::facets::Facets;
 use crate::outlines::Outline;
 use crate::sights::Sight;
 use qh_mesh::FacetNo;
-use qh_model::Point;
 use qh_places::Budget;
 use std::alloc::{AllocError, Global};
 
@@ -93,37 +92,34 @@ impl<'a> Cutting<'a> {
 
     /// Visits the neighbours of a facet: those in the plane get the state; the others are queued for a test if the
     /// plane is removed.
-    fn spread(&mut self, f: FacetNo, corners: [Point; 3], state: State) -> Result<(), AllocError> {
-        let sight = Sight::of(corners);
+    fn spread(&mut self, f: FacetNo, sight: &Sight, state: State) -> Result<(), AllocError> {
         for side in 0..3 {
-            let Some(beyond) = self.facets.across(f, side) else {
+            let Some(next) = self.facets.next(f, side) else {
                 continue;
             };
-            let known = self.state(beyond.facet);
+            let known = self.state(next);
             if known == state {
                 continue;
             }
-            if sight.meets(beyond.opposite) {
-                self.enter(beyond.facet, state)?;
+            let opposite = self.facets.opposite(f, side);
+            if opposite.is_some_and(|point| sight.meets(point)) {
+                self.enter(next, state)?;
             } else if state == State::Goes && known == State::Unasked {
-                self.waiting.push(beyond.facet)?;
+                self.waiting.push(next)?;
             }
         }
         Ok(())
     }
 
     /// Sets the state of all facets in the plane of one.
-    pub fn settle(&mut self, f: FacetNo, state: State) -> Result<(), AllocError> {
-        let Some(corners) = self.facets.corners(f) else {
-            return Ok(());
-        };
+    fn settle(&mut self, f: FacetNo, sight: &Sight, state: State) -> Result<(), AllocError> {
         self.plane.clear();
         self.enter(f, state)?;
         for place in 0..self.states.len() {
             let Some(next) = self.plane.get(place).copied() else {
                 break;
             };
-            self.spread(next, corners, state)?;
+            self.spread(next, sight, state)?;
         }
         Ok(())
     }
@@ -133,7 +129,10 @@ impl<'a> Cutting<'a> {
         if self.state(f) == State::Goes {
             return Ok(());
         }
-        self.settle(f, State::Goes)
+        match self.facets.sight(f) {
+            Some(sight) => self.settle(f, &sight, State::Goes),
+            None => Ok(()),
+        }
     }
 
     /// Tests whether a facet stays, unless that is known.
@@ -149,7 +148,7 @@ impl<'a> Cutting<'a> {
         } else {
             State::Goes
         };
-        self.settle(f, state)
+        self.settle(f, &sight, state)
     }
 
     /// Tests the queued facets, and those that are queued meanwhile, until the budget is exhausted.

@@ -13,13 +13,6 @@ pub(crate) struct Facets<'a> {
     surface: &'a NamedMesh,
 }
 
-/// The neighbour of a facet across a side, and the corner of the neighbour that is not on the side.
-#[derive(Clone, Copy, Drop)]
-pub(crate) struct Neighbour {
-    pub facet: FacetNo,
-    pub opposite: Point,
-}
-
 impl<'a> Facets<'a> {
     /// Returns the facets of a mesh.
     pub fn of(surface: &'a NamedMesh) -> Facets<'a> {
@@ -81,17 +74,13 @@ impl<'a> Facets<'a> {
         Some(mesh.facet_of(mesh.across(f, side)))
     }
 
-    /// Returns the facet across a side of another: 0, 1 or 2.
-    pub fn across(self, f: FacetNo, side: usize) -> Option<Neighbour> {
+    /// Returns the corner of the facet across a side of another, 0, 1 or 2, that is not on the side.
+    pub fn opposite(self, f: FacetNo, side: usize) -> Option<Point> {
         if side >= 3 || !self.is_live(f) {
             return None;
         }
         let mesh = &self.surface.mesh;
-        let edge = mesh.across(f, side);
-        let opposite = mesh.opposite(edge);
-        Some(Neighbour {
-            facet: mesh.facet_of(edge),
-            opposite: *self.surface.points.get(opposite.index())?,
-        })
+        let corner = mesh.opposite(mesh.across(f, side));
+        self.surface.points.get(corner.index()).copied()
     }
 }

@@ -2,18 +2,12 @@
 use crate::cut::cover::Cover;
 use crate::cut::cutting::{Cutting, Others};
 use crate::cut::facets::Facets;
-use crate::cut::rays::Rays;
-use crate::outlines::{FACING_TOGETHER, Outline};
+use crate::outlines::Outline;
 use crate::vector::Vector;
 use qh_mesh::FacetNo;
 use qh_model::{Id, Memory, Point};
 use qh_parts_join::{Divided, Part, Run};
-use qh_places::Budget;
 use std::alloc::{AllocError, Global};
-
-/// The number of facets that all walks for the directions of an outline pass, for each facet of a part. After that the
-/// directions may be wrong, which makes tests longer; the tests have a separate budget.
-const STEPS_FOR_EACH: u32 = 4;
 
 /// A guess of what stays of a part.
 #[derive(Drop)]
@@ -53,25 +47,6 @@ fn four_of(set: Divided) -> Option<[Point; 4]> {
     Some([point_of(i)?, point_of(j)?, point_of(k)?, point_of(l)?])
 }
 
-/// Returns, for each `FACING_TOGETHER` points, the direction in which the surface faces at the middle one.
-fn ways_out(
-    alloc: Global,
-    facets: Facets,
-    four: [Point; 4],
-    points: &[Point],
-) -> Result<Vec<Vector>, AllocError> {
-    let mut ways = Vec::new(alloc);
-    let mut budget = Budget::for_each(facets.places(), STEPS_FOR_EACH);
-    let Some(mut rays) = Rays::from_middle(facets, four) else {
-        return Ok(ways);
-    };
-    for own in points.chunks(FACING_TOGETHER) {
-        let sight = facets.sight(rays.leaves(own[own.len() / 2], &mut budget));
-        ways.push(sight.map_or(Vector::NONE, |sight| sight.way()))?;
-    }
-    Ok(ways)
-}
-
 /// Returns the outline of the part with this number, which the marks of the other parts need.
 ///
 /// # Errors
@@ -82,10 +57,10 @@ pub fn outline_of(alloc: Global, set: Divided, number: usize) -> Result<Outline,
         return Ok(Outline::over(alloc, Vec::new(alloc), &[])?);
     };
     let points = points_of(alloc, set.pts, &part.own)?;
-    let ways = match four_of(set) {
-        Some(four) => ways_out(alloc, Facets::of(&part.surface), four, &points)?,
-        None => Vec::new(alloc),
-    };
+    let facing = part.facing.iter();
+    let ways = facing
+        .map(|way| Vector::outward(*way).unit())
+        .collect::<Vec<Vector>>(alloc)?;
     Ok(Outline::over(alloc, points, &ways)?)
 }
 

@@ -8,7 +8,7 @@ ghost use Rattle.qh_parts_join.specs.steps.JoinedFaces.{IsBodyOfFaces};
 
 use crate::join::bridges::are_bridges;
 use crate::join::kept::Kept;
-use qh_bodies::{UnsortedFaces, body_of_faces, have_one_border, out_of_order, tally_of};
+use qh_bodies::{UnsortedFaces, body_of_faces, have_one_border, out_of_order};
 use qh_model::{Body, Memory, Polygon};
 use std::alloc::{AllocError, Global};
 use std::thread::{Threads, join};
@@ -85,6 +85,7 @@ fn with_bridges(
 fn body_of_joined(alloc: Global, faces: UnsortedFaces) -> Result<Option<Body>, Memory>
     ensures { IfOk result (λ found. IfSome found (IsBodyOfFaces faces)) }
 {
+    let tally = faces.tally(alloc)?;
     let polygons = faces.sorted(alloc)?;
     if polygons.len() == 0 {
         return Ok(None);
@@ -92,7 +93,6 @@ fn body_of_joined(alloc: Global, faces: UnsortedFaces) -> Result<Option<Body>, M
     if !are_in_order(&polygons) {
         return Ok(None);
     }
-    let tally = tally_of(alloc, &polygons)?;
     Ok(Some(body_of_faces(polygons, tally)))
 }
 

@@ -2,7 +2,7 @@
 use Rattle.qh_model.proofs.Common.{◌≡◌, ◌∙◌, ℕ, List, Bool, false, arith, ap, length, sym, subst, length-map, named_facet}
 use Rattle.qh_mesh.specs.contract.Names.{name_in}
 use Rattle.qh_surface.specs.contract.{NamedMeshes.named, Walks.mark_at}
-use Rattle.qh_block.proofs.finished.Gathering.{gathering_starts, next_within, gathering_goes, gathering_ends}
+use Rattle.qh_block.proofs.finished.Gathering.{gathering_starts, next_within, gathering_permuted, gathering_goes, gathering_ends}
 use Rattle.qh_surface.proofs.NamedFacets.{names}
 use Rattle.qh_block.proofs.faces.faces.Goals as goal
 
@@ -12,7 +12,7 @@ loop-f-init c =
     let same : length (named surface) ≡ length surface.mesh = length-map surface.mesh (named_facet (name_in surface.ids.items)) in
     let long : length c.as_mut_slice-marks.result.now ≡ length surface.mesh =
     ap (λ (xs : List Bool). length xs) items ∙ c.in_ok-places.ensures.len ∙ c.places.ensures in
-    rw (c.into_iter-f-iterator.ensures.into_iter_gives ∙ c.live-f-items.ensures ∙ sym (names surface).live, c.in_ok-faces.ensures.items)
+    rw (c.into_iter-f-iterator.ensures.into_iter_gives ∙ c.live-f-items.ensures ∙ sym (names surface).live, c.none-faces.ensures)
     (gathering_starts c.args.pts.now (named surface) c.as_mut_slice-marks.result.now
     (subst (λ (xs : List Bool). (f : ℕ) → mark_at xs f ≡ false) (sym items) c.in_ok-places.ensures.none) (omega (arith, same, long)))
 
@@ -22,7 +22,7 @@ bounds-marks-index c = rw c.index.ensures (next_within _ _ _ _ _ _ _ c.loop-f.in
 pub loop-f-preserved-in_ok-push : goal.loop-f-preserved-in_ok-push
 loop-f-preserved-in_ok-push c =
     let new = c.in_ok-new_face.ensures in
-    rw c.in_ok-push.ensures.items (gathering_goes _ _ _ _ _ _ _ c.loop-f.invariant c.in-Some.ensures.steps
+    gathering_permuted _ _ _ _ _ _ c.in_ok-push.ensures (gathering_goes _ _ _ _ _ _ _ c.loop-f.invariant c.in-Some.ensures.steps
     (rw c.index.ensures at c.if-not-marks-index.true) _ _ c.new_face.auto.marks new.kept new.own new.face)
 
 pub returns : goal.returns

@@ -4,8 +4,7 @@ use Rattle.qh_parts.proofs.joint.joint_of.Goals as goal
 
 pub returns-clause-given : goal.returns-clause-given
 returns-clause-given g c =
-    given_in_any_order _ _ c.args.set.parts.now _ _ _ (rw (c.in_ok-faces.was, c.in-Some-3.is) at c.join-merged.ensures.first.0)
-    (rw c.in-Some.is at c.in_ok-given.ensures)
+    given_in_any_order _ _ c.args.set.parts.now _ _ _ (rw c.in_ok-faces.was at c.join-kept.ensures.second) (rw c.in-Some.is at c.in_ok-given.ensures)
 
 pub returns-clause-kept : goal.returns-clause-kept
-returns-clause-kept g c = rw (c.in_ok-faces.was, c.in-Some-3.is) at c.join-merged.ensures.first.1
+returns-clause-kept g c = (rw c.in_ok-kept.was at c.join-kept.ensures.first) c.if-not-kept.false

@@ -1,5 +1,5 @@
 -- No kept id is above the plane of the three, and the polygon of the ids in the plane is the claimed one.
-use Rattle.qh_model.proofs.Common.{◌≡◌, ◌∙◌, false, subst, sym, both_ways, same_text, place, AreInLine, Members, IsFacePolygon}
+use Rattle.qh_model.proofs.Common.{◌≡◌, ◌∙◌, subst, sym, both_ways, same_text, place, AreInLine, Members, IsFacePolygon}
 use Rattle.qh_places.proofs.LevelFaces.{triple, face}
 use Rattle.qh_parts_join.proofs.BridgeLevels.{level_indices}
 use Rattle.qh_parts_join.proofs.join.bridges.is_face_at.Goals as goal

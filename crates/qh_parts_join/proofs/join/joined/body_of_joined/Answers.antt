@@ -1,10 +1,13 @@
 -- Joined faces that close up are closed faces of the set.
 use Rattle.std.proofs.{Common.◌≡◌, Common.length, Common.arith, lemmas.List.Sorted.IsPermutation-sym}
 use Rattle.qh_model.proofs.Members.{in_permutation}
-use Rattle.qh_bodies.proofs.StepCounts.{closed_permuted}
+use Rattle.qh_bodies.proofs.{StepCounts.closed_permuted, TallyOrder.tally_permuted}
 use Rattle.qh_laws.proofs.Joined.{closed_faces}
 use Rattle.qh_parts_join.proofs.JoinedLists.{are_joined}
 use Rattle.qh_parts_join.proofs.join.joined.body_of_joined.Goals as goal
+
+pub body_of_faces-requires : goal.body_of_faces-requires
+body_of_faces-requires c = tally_permuted _ _ _ c.in_ok-polygons.ensures.same c.in_ok-tally.ensures
 
 pub returns : goal.returns
 returns c = λ at ids kept distinct solid keeps closed each.

@@ -1,5 +1,5 @@
 -- The key of the facet is listed, or the facet is not in the ring.
-use Rattle.qh_model.proofs.Common.{◌∙◌, ◌++◌, inl, inr, ap, map, refl, [], ◌∷◌, true, both_ways, map-append}
+use Rattle.qh_model.proofs.Common.{◌∙◌, ◌++◌, inl, inr, ap, map, refl, [], ◌∷◌, both_ways, map-append}
 use Rattle.qh_parts.specs.steps.RingKeys.{facet_in}
 use Rattle.qh_parts.proofs.seam.marked.Marked.list_ring.Goals as goal
 
