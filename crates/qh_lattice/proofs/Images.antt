@@ -1,18 +1,17 @@
 -- Signs, lines, turns and combinations of mapped points.
-use Rattle.qh_model.proofs.Common.{◌≡◌, ◌≢◌, ℕ, ◌+◌, ◌⊎◌, inl, inr, ⊎_elim, refl, sym, ap, subst, ◌∙◌, [], ◌∷◌, arith, ints, by_lt_z, ℤ, pos, ◌+ℤ◌, ◌-ℤ◌, ◌*ℤ◌}
-use Rattle.qh_model.proofs.Common.{◌<ℤ◌, ◌↔◌, Combination, IsBalanced, Extreme, Others, Members, cross, vol, Vector, origin, dot}
-use Rattle.qh_model.specs.headline.Predicates.{left}
-use Rattle.qh_model.proofs.{algebra.Signs.less_le, algebra.Signs.not_less, extremes.Directions.Parallel, extremes.Directions.square-positive}
-use Rattle.qh_model.proofs.algebra.Order.{mul-pos, mul-nonneg, mul-pos_neg, cancel-pos, cancel-zero, zero_product, product_zero, zero_or_not}
-use Rattle.qh_model.proofs.algebra.Integers.{mul_sub, mul_swap, mul_comm, one_mul}
-use Rattle.qh_model.proofs.algebra.VectorIdentities.{vec, put, dotE, combine3, vector_path, left-dot, dot_comm, dot-origin}
-use Rattle.qh_model.proofs.{closed_surfaces.Beyond.scaled, polygons.PlaneTurns.level_parallel}
-use Rattle.qh_laws.proofs.{ScaledPoints.weigh, Scales.combination_moved}
-use Rattle.qh_model.proofs.algebra.Ring.{Expr, ring, Expr.var, Expr.add, Expr.sub as less, Expr.mul}
+use Rattle.qh_lattice.proofs.Identities.{apply, cofactors}
+use Rattle.qh_lattice.proofs.Identities.{transposed, adjugate, moved_volume, cross-moved, normal_back, shift_back, moved_back, apply-origin, dot-factor}
 use Rattle.qh_lattice.specs.contract.LatticeMaps.{Matrix, determinant, moved}
 use Rattle.qh_lattice.specs.laws.MapLaws.{SameSign, at_moved, MovedVolumeSign, MovedLine, MovedTurn, MovedExtreme}
-use Rattle.qh_lattice.proofs.Identities.{apply, cofactors, transposed, adjugate, moved_volume, cross-moved, normal_back, shift_back, moved_back, apply-origin}
-use Rattle.qh_lattice.proofs.Identities.{dot-factor}
+use Rattle.qh_laws.proofs.{ScaledPoints.weigh, Scales.combination_moved}
+use Rattle.qh_model.proofs.Common.{◌≡◌, ◌≢◌, ℕ, ◌+◌, ◌⊎◌, inl, inr, ⊎_elim, refl, sym, ap, subst, ◌∙◌, [], ◌∷◌, arith, ints, by_lt_z}
+use Rattle.qh_model.proofs.Common.{ℤ, pos, ◌+ℤ◌, ◌-ℤ◌, ◌*ℤ◌, ◌<ℤ◌, ◌↔◌, Combination, IsBalanced, Extreme, Others, Members, cross, vol, Vector, origin, dot}
+use Rattle.qh_model.proofs.algebra.Integers.{mul_sub, mul_swap, mul_comm, one_mul}
+use Rattle.qh_model.proofs.algebra.Order.{mul-pos, mul-nonneg, mul-pos_neg, cancel-pos, cancel-zero, zero_product, product_zero, zero_or_not}
+use Rattle.qh_model.proofs.algebra.{Ring.Expr, Ring.ring, Ring.Expr.var, Ring.Expr.add, Ring.Expr.sub as less, Ring.Expr.mul, Signs.less_le, Signs.not_less}
+use Rattle.qh_model.proofs.algebra.VectorIdentities.{vec, put, dotE, combine3, vector_path, left-dot, dot_comm, dot-origin}
+use Rattle.qh_model.proofs.{closed_surfaces.Beyond.scaled, extremes.Directions.Parallel, extremes.Directions.square-positive}
+use Rattle.qh_model.{proofs.polygons.PlaneTurns.level_parallel, specs.headline.Predicates.left}
 
 -- ---- signs
 -- a product below 0

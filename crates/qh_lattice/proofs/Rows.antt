@@ -1,16 +1,13 @@
 -- Rows of a map as rows of its matrix.
-use Rattle.qh_model.proofs.Common.{ℕ, ◌≡◌, ◌∙◌, ◌<◌, ◌≤◌, ◌+◌, ◌*◌, ◌^◌, refl, subst, sym, ap, arith, below_more, FitsSigned, true, List, [], ◌∷◌, ◌++◌, get_or}
-use Rattle.qh_model.proofs.Common.{length, get_or-append_seam, get_or_append_left, get_or_default, to_z-of_z, ints, fits_signed_from_abs, ℤ, pos, ◌+ℤ◌, ◌-ℤ◌}
-use Rattle.qh_model.proofs.Common.{◌*ℤ◌, ◌<ℤ◌, unsigned_abs, IsCoordinate, cross, vol, place, Vector, origin, dot, lt_z, mag, w32, w128, w64, to_z, of_z}
-use Rattle.qh_model.specs.declared.limits.TheConstants.{COORDINATE_LIMIT}
-use Rattle.qh_model.proofs.{algebra.Order.mul-pos, closed_surfaces.Beyond.scaledE}
-use Rattle.qh_model.proofs.algebra.VectorIdentities.{vec, put, dotE, crossE, subE, VE, vector_path}
-use Rattle.qh_model.proofs.algebra.Ring.{ring, Expr.var, Expr.con, Expr.add, Expr.sub as less, Expr.mul}
-use Rattle.qh_pred.proofs.Coordinates.{read_is}
-use Rattle.qh_lattice.specs.{contract.LatticeMaps.Matrix, contract.LatticeMaps.determinant, contract.LatticeMaps.moved, declared.row.Row.Row}
-use Rattle.qh_lattice.specs.declared.row.TheConstants.{PRODUCT_LIMIT, CENTRE_LIMIT}
+use Rattle.qh_lattice.{proofs.Sums.through, specs.contract.LatticeMaps.Matrix, specs.contract.LatticeMaps.determinant, specs.contract.LatticeMaps.moved}
+use Rattle.qh_lattice.specs.declared.row.{Row.Row, TheConstants.PRODUCT_LIMIT, TheConstants.CENTRE_LIMIT}
 use Rattle.qh_lattice.specs.steps.Rows.{along_row, matrix_of, shift_of, times}
-use Rattle.qh_lattice.proofs.Sums.{through}
+use Rattle.qh_model.proofs.Common.{ℕ, ◌≡◌, ◌∙◌, ◌<◌, ◌≤◌, ◌+◌, ◌*◌, ◌^◌, refl, subst, sym, ap, arith, below_more, FitsSigned, true, List, [], ◌∷◌, ◌++◌}
+use Rattle.qh_model.proofs.Common.{get_or, length, get_or-append_seam, get_or_append_left, get_or_default, to_z-of_z, ints, fits_signed_from_abs, ℤ, pos, ◌+ℤ◌}
+use Rattle.qh_model.proofs.Common.{◌-ℤ◌, ◌*ℤ◌, ◌<ℤ◌, unsigned_abs, IsCoordinate, cross, vol, place, Vector, origin, dot, lt_z, mag, w32, w128, w64, to_z, of_z}
+use Rattle.qh_model.proofs.algebra.{Order.mul-pos, Ring.ring, Ring.Expr.var, Ring.Expr.con, Ring.Expr.add, Ring.Expr.sub as less, Ring.Expr.mul}
+use Rattle.qh_model.proofs.algebra.VectorIdentities.{vec, put, dotE, crossE, subE, VE, vector_path}
+use Rattle.{qh_model.proofs.closed_surfaces.Beyond.scaledE, qh_model.specs.declared.limits.TheConstants.COORDINATE_LIMIT, qh_pred.proofs.Coordinates.read_is}
 
 -- the product of two coordinates that were read
 pub as_product : (p x y a b : ℤ) → mag x < 2 ^ 31 → mag y < 2 ^ 31 → p ≡ to_z w32 (of_z w32 x) *ℤ to_z w32 (of_z w32 y) → x ≡ a → y ≡ b → p ≡ a *ℤ b
