@@ -1,13 +1,12 @@
 -- The distinct ids by marks, and the repeats among sorted keys of points, for any numbers that determine the places.
-use Rattle.qh_model.proofs.Common.{◌≡◌, ℕ, ◌+◌, ◌-◌, ◌*◌, ◌%◌, ◌/◌, ◌<◌, ◌≤◌, List, length, get_or, map, arith, ap, sym, subst, ◌∙◌, ◌↔◌, ◌⊎◌, inl, inr, ⊎_elim}
-use Rattle.qh_model.proofs.Common.{true, false, Bool, cases_lt, nat_tests, div-add-mod', mod-mul-add, All, IsStrictlyIncreasing, IsNonDecreasing, IsPermutation}
-use Rattle.qh_model.proofs.Common.{IsIdSet, IsDistinctId, AreDistinctIds, place, In, Vector}
-use Rattle.std.proofs.lemmas.Nat.{div-mul-add}
+use Rattle.qh_model.proofs.Common.{◌≡◌, ℕ, ◌+◌, ◌-◌, ◌*◌, ◌%◌, ◌/◌, ◌<◌, ◌≤◌, List, length, get_or, map}
+use Rattle.qh_model.proofs.Common.{arith, ap, sym, subst, ◌∙◌, ◌↔◌, ◌⊎◌, inl, inr, ⊎_elim, true, false, Bool, cases_lt, nat_tests, div-add-mod', mod-mul-add}
+use Rattle.qh_model.proofs.Common.{All, IsStrictlyIncreasing, IsNonDecreasing, IsPermutation, IsIdSet, IsDistinctId, AreDistinctIds, place, In, Vector}
 use Rattle.qh_model.proofs.Members.{In-get_or, All-of, in_at}
+use Rattle.qh_plane.specs.steps.{PlaceKeys.AllIds, PlaceKeys.ArePlaceRepeats, Repeats.IsRepeatedId, Repeats.AreAllRepeats, SortedPoints.AllDiffer}
 use Rattle.qh_polygon.proofs.KeyOrder.{IsKeyIn, TellIds, code_le, key_told, key_listed, keys_rise}
 use Rattle.qh_polygon.proofs.MarkedIds.{IsMarked, in_marked_ids, of_marked_ids, marked_ids-rise}
-use Rattle.qh_polygon.specs.contract.Marks.{marked_ids}
-use Rattle.qh_plane.specs.steps.{PlaceKeys.AllIds, PlaceKeys.ArePlaceRepeats, Repeats.IsRepeatedId, Repeats.AreAllRepeats, SortedPoints.AllDiffer}
+use Rattle.{qh_polygon.specs.contract.Marks.marked_ids, std.proofs.lemmas.Nat.div-mul-add}
 
 -- the ids below a count rise
 pub rises_each : (n : ℕ) (all : List ℕ) → AllIds n all → IsStrictlyIncreasing all
@@ -20,8 +19,7 @@ all_in n all a i h = subst (λ v. In v all) (a.each i h) (In-get_or all i 0 (let
 -- no other number is listed
 pub in_all : (n : ℕ) (all : List ℕ) → AllIds n all → (i : ℕ) → In i all → i < n
 in_all n all a i m =
-    let r = in_at all i m in
-    let lt : r.0 < n = subst (λ v. r.0 < v) a.len r.1 in
+    let r = in_at all i m in let lt : r.0 < n = subst (λ v. r.0 < v) a.len r.1 in
     subst (λ v. v < n) (sym (a.each r.0 lt) ∙ r.2) lt
 
 -- if all points differ, all ids are distinct
@@ -58,10 +56,10 @@ pub record AreSortedKeys (pts : List Vector) (room : ℕ) (code : ℕ → ℕ) (
 
 -- of two keys of one place, the lower one has the lower id
 id_up : (room x y : ℕ) → x / room ≡ y / room → x ≤ y → x % room ≤ y % room
-id_up room x y e h = let a = div-add-mod' x room in let b = div-add-mod' y room in let q = ap (λ v. v * room) e in omega (arith, a, b, q, h)
+id_up room x y e h = omega (arith, div-add-mod' x room, div-add-mod' y room, ap (λ v. v * room) e, h)
 
 id_less : (room x y : ℕ) → x / room ≡ y / room → x < y → x % room < y % room
-id_less room x y e h = let a = div-add-mod' x room in let b = div-add-mod' y room in let q = ap (λ v. v * room) e in omega (arith, a, b, q, h)
+id_less room x y e h = omega (arith, div-add-mod' x room, div-add-mod' y room, ap (λ v. v * room) e, h)
 
 -- the key of id i is at n, and determines the id and its place
 pub record StandsAt (room : ℕ) (code : ℕ → ℕ) (keys : List ℕ) (i n : ℕ) : Type 0 where
@@ -120,7 +118,7 @@ module _ (pts : List Vector) (room : ℕ) (code : ℕ → ℕ) (keys : List ℕ)
       (t.place_told ∙ sym e ∙ sym s.place_told) (k.rising q p 0 h s.within)))) (cases_lt p q)
     where
       back : get_or keys q 0 % room ≤ get_or keys p 0 % room → ⊥
-      back h = let a = s.id_told in let b = t.id_told in omega (arith, l, h, a, b)
+      back h = omega (arith, l, h, s.id_told, t.id_told)
 
   -- ---- the repeats, if the keys are those of all ids
   module _ (every : (i : ℕ) → i < length pts → In i k.ids) (apart : (i j : ℕ) → i < j → j < length pts → code i ≡ code j → place pts i ≡ place pts j)
@@ -133,7 +131,7 @@ module _ (pts : List Vector) (room : ℕ) (code : ℕ → ℕ) (keys : List ℕ)
         codes = k.equal r.1 i r.3
 
         p : (n : ℕ) × StandsAt room code keys r.1 n
-        p = position r.1 (every r.1 (let h = r.2 in let l = r.0 in omega (arith, h, l)))
+        p = position r.1 (every r.1 (omega (arith, r.2, r.0)))
 
         q : (n : ℕ) × StandsAt room code keys i n
         q = position i (every i r.0)
@@ -160,7 +158,7 @@ module _ (pts : List Vector) (room : ℕ) (code : ℕ → ℕ) (keys : List ℕ)
         r = told.only i m
 
         here : In (get_or keys r.0 0) keys
-        here = In-get_or keys r.0 0 (let h = r.1 in omega (arith, h))
+        here = In-get_or keys r.0 0 (omega (arith, r.1))
 
         next : In (get_or keys (r.0 + 1) 0) keys
         next = In-get_or keys (r.0 + 1) 0 r.1

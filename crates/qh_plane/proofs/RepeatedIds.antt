@@ -1,15 +1,13 @@
 -- Points that are equal to an earlier one: found key by key, joined from parts of the hashes, and removed.
 use Rattle.qh_model.proofs.Common.{◌≡◌, ◌≢◌, ℕ, zero, suc, ◌+◌, ◌-◌, ◌*◌, ◌/◌, ◌%◌, ◌<◌, ◌≤◌, ◌⊎◌, inl, inr, List, [], ◌∷◌, ◌++◌, Bool, true, false, length}
 use Rattle.qh_model.proofs.Common.{get_or, set, arith, ap, sym, subst, ◌∙◌, refl, get_or-set_same, get_or-set_other, ⊎_elim, cases_lt, length-set, ℕ_discrete}
-use Rattle.qh_model.proofs.Common.{IsDistinctId, AreDistinctIds, place, In, Vector}
-use Rattle.std.proofs.Math.Nat.{div-lt_iff_lt-mul, mul-lt-mul_of_pos_right}
-use Rattle.qh_model.proofs.lists.Joined.{in_append, of_append}
-use Rattle.qh_plane.proofs.DistinctLists.{all_distinct, marked_distinct}
-use Rattle.qh_plane.proofs.RepeatedPlaces.{none_related, one_related, none_more, all_related}
-use Rattle.qh_plane.specs.{declared.hashed_keys.TheConstants.ID_ROOM, declared.hashed_keys.TheConstants.NO_HASH, steps.PlaceKeys.AllIds}
-use Rattle.qh_plane.specs.steps.HashedKeys.{place_hash, hash_at, PartHashes, WithHashes, IsRepeat, RepeatsTold}
+use Rattle.qh_model.proofs.{Common.IsDistinctId, Common.AreDistinctIds, Common.place, Common.In, Common.Vector, lists.Joined.in_append, lists.Joined.of_append}
+use Rattle.qh_plane.proofs.{DistinctLists.all_distinct, DistinctLists.marked_distinct, RepeatedPlaces.none_related, RepeatedPlaces.one_related}
+use Rattle.qh_plane.{proofs.RepeatedPlaces.none_more, proofs.RepeatedPlaces.all_related, specs.declared.hashed_keys.TheConstants.ID_ROOM}
+use Rattle.qh_plane.specs.{declared.hashed_keys.TheConstants.NO_HASH, steps.HashedKeys.place_hash, steps.HashedKeys.hash_at}
+use Rattle.qh_plane.specs.steps.{HashedKeys.PartHashes, HashedKeys.WithHashes, HashedKeys.IsRepeat, HashedKeys.RepeatsTold, PlaceKeys.AllIds}
 use Rattle.qh_plane.specs.steps.Repeats.{Ids, PartsBelow, IsRepeatedId, AreRepeats, AreAllRepeats, MarksWithout}
-use Rattle.qh_polygon.specs.contract.Marks.{marked_ids}
+use Rattle.{qh_polygon.specs.contract.Marks.marked_ids, std.proofs.Math.Nat.div-lt_iff_lt-mul, std.proofs.Math.Nat.mul-lt-mul_of_pos_right}
 
 -- ---- key by key
 -- the first key is not a repeat

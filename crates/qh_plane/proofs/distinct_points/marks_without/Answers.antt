@@ -1,6 +1,5 @@
 use Rattle.std.proofs.Common.{◌∙◌, ◌<◌, ◌++◌, ◌∷◌, [], false, take, set, ap, sym, subst}
-use Rattle.std.proofs.lemmas.List.{take_more}
-use Rattle.qh_plane.{proofs.RepeatedIds.mark_taken, specs.steps.Repeats.MarksWithout}
+use Rattle.{std.proofs.lemmas.List.take_more, qh_plane.proofs.RepeatedIds.mark_taken, qh_plane.specs.steps.Repeats.MarksWithout}
 use Rattle.qh_plane.proofs.distinct_points.marks_without.Goals as goal
 
 pub loop-id-preserved : goal.loop-id-preserved

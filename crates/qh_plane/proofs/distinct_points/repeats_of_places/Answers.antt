@@ -1,7 +1,6 @@
 use Rattle.std.proofs.Common.{◌≡◌, ◌∙◌, ℕ, ◌+◌, ◌/◌, ◌++◌, ◌∷◌, [], arith, ap, sym, subst, Vec, Global}
 use Rattle.qh_plane.proofs.RepeatedPlaces.{none_related, one_related, none_more, all_related}
-use Rattle.qh_polygon.specs.declared.place_keys.TheConstants.{ROOM}
-use Rattle.qh_plane.specs.steps.PlaceKeys.{ArePlaceRepeats}
+use Rattle.{qh_polygon.specs.declared.place_keys.TheConstants.ROOM, qh_plane.specs.steps.PlaceKeys.ArePlaceRepeats}
 use Rattle.qh_plane.proofs.distinct_points.repeats_of_places.Goals.{then-place_in+in_ok-push, else-place_in}
 use Rattle.qh_plane.proofs.distinct_points.repeats_of_places.Goals as goal
 

@@ -32,7 +32,6 @@ loop-piece-preserved c =
 pub returns : goal.returns
 returns c =
     let pts = c.args.pts.now in let f = c.loop-piece.firsts in let n = c.loop-piece.piece-index in
-    let end : n ≡ length c.args.pieces.now = (let a = c.loop-piece.auto.piece-index-end in let b = c.loop-piece-test.false in omega (arith, a, b)) in
+    let end : n ≡ length c.args.pieces.now = (omega (arith, c.loop-piece.auto.piece-index-end, c.loop-piece-test.false)) in
     let reached : length pts ≤ n * c.args.size = subst (λ m. length pts ≤ m * c.args.size) (sym end) c.requires.all in
-    let begin = c.loop-piece.invariant.begin in
-    all_seen pts f.close f.slots.items c.loop-piece.begin f.ids.items c.loop-piece.invariant.seen (omega (arith, begin, reached))
+    all_seen pts f.close f.slots.items c.loop-piece.begin f.ids.items c.loop-piece.invariant.seen (omega (arith, c.loop-piece.invariant.begin, reached))

@@ -25,7 +25,7 @@ loop-j-preserved c =
             (new_told pts keys j ids some told (λ r. clash (sym (c.is_repeat.ensures.1 r) ∙ w.if-is_repeat.false)) (λ two e.
             elim w.else-j-ge2.branch [
               | else-j-ge2-via-then-j-ge2+else-hash_in w' ↦ absurd (w'.if-hash_in.false (w'.hash_in.ensures ∙ e ∙ sym w'.hash_in-then-j-ge2.ensures))
-              | else-j-ge2-via-else-j-ge2 w' ↦ let t = w'.if-j-ge2.false in absurd (omega (arith, two, t))
+              | else-j-ge2-via-else-j-ge2 w' ↦ absurd (omega (arith, two, w'.if-j-ge2.false))
             ]))
       ],
     )

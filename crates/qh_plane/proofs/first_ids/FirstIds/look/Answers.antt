@@ -11,8 +11,7 @@ returns-then-first c same =
     let below : i < k = seen_id pts f.close f.slots.items k f.ids.items c.requires.seen c.slot-slot.result i (search rules)
     c.index-first.ensures c.if-first.true in
     let is : place pts i ≡ place pts k =
-    sym (point_read pts i c.index-pts-first.result (omega (arith, below, within)) c.index-pts-first.is)
-    ∙ c.same_point.ensures.0 same
+    sym (point_read pts i c.index-pts-first.result (omega (arith, below, within)) c.index-pts-first.is) ∙ c.same_point.ensures.0 same
     ∙ point_read pts k c.index-pts-number-then-first.result within c.index-pts-number-then-first.is in
     repeat_seen pts f.close f.slots.items k f.ids.items c.requires.seen within c.requires.few i below is
 
