@@ -53,8 +53,7 @@ unfolding vol cross
 scaled-determinant k l m a b c =
     let O : VE = record { x = con (pos 0); y = con (pos 0); z = con (pos 0) } in
     let A = vec 0 in let B = vec 1 in let C = vec 2 in let K = var 9 in let L = var 10 in let M = var 11 in
-    ring (put a (put b (put c (k ∷ l ∷ m ∷ []))))
-    (dotE (crossE (scaledE K A) (scaledE L B)) (scaledE M C))
+    ring (put a (put b (put c (k ∷ l ∷ m ∷ [])))) (dotE (crossE (scaledE K A) (scaledE L B)) (scaledE M C))
     (mul K (mul L (mul M (dotE (crossE (subE A O) (subE B O)) (subE C O))))) refl
 
 -- rows with a determinant above 0 have one above 0 at their scales

@@ -35,8 +35,7 @@ module _ (points rest : List Vector) (size m : ℕ) (bs : List Block) (b : Block
   same k l =
       let inside : k < length rest - m = subst (λ n. k < n) back l in
       let r : length bs * size + (m + k) ≡ (length bs + 1) * size + k = omega arith in
-      get_or-drop m rest k origin ∙ h.same (m + k) (omega arith)
-      ∙ ap (λ n. get_or points n origin) (r ∙ ap (λ n. n * size + k) (sym more))
+      get_or-drop m rest k origin ∙ h.same (m + k) (omega arith) ∙ ap (λ n. get_or points n origin) (r ∙ ap (λ n. n * size + k) (sym more))
 
   -- the points of the new block
   own : (k : ℕ) → length bs * size ≤ k → k < length bs * size + size → k < length points
@@ -47,9 +46,7 @@ module _ (points rest : List Vector) (size m : ℕ) (bs : List Block) (b : Block
       let here : j < length rest = omega arith in
       let there : length bs * size + j ≡ k = omega arith in
       let l : j < length (take m rest) = subst (λ n. j < n) (sym front) inside in
-      subst (IsInBlock b)
-      (get_or-take m rest j origin inside ∙ h.same j here ∙ ap (λ n. get_or points n origin) there)
-      (box j (omega arith) l l)
+      subst (IsInBlock b) (get_or-take m rest j origin inside ∙ h.same j here ∙ ap (λ n. get_or points n origin) there) (box j (omega arith) l l)
 
   each : AreBlocks points size (bs ++ b ∷ [])
   each n c l e k from to inside = elim (cases_lt n (length bs)) [

@@ -1,7 +1,6 @@
 -- Members of a list: a test that finds them, and those before and after a cut.
 use Rattle.qh_model.proofs.Common.{◌≡◌, ℕ, zero, suc, ◌⊎◌, inl, inr, List, [], ◌∷◌, take, drop, subst, refl, sym, Bool, true, false, eqb, eqb-true, ◌||◌}
-use Rattle.qh_model.proofs.Common.{list_any, pointwise, In}
-use Rattle.qh_model.proofs.closed_surfaces.SignedVolume.{eqb-refl}
+use Rattle.qh_model.proofs.{Common.list_any, Common.pointwise, Common.In, closed_surfaces.SignedVolume.eqb-refl}
 
 -- a test finds a member
 pub any_in : (x : ℕ) (xs : List ℕ) → list_any (λ y. eqb y x) xs ≡ true → In x xs

@@ -1,12 +1,11 @@
 -- The next apex: facets without an outside set are skipped, and the first point of a set is removed from it.
-use Rattle.qh_model.proofs.Common.{◌≡◌, ℕ, ◌<◌, arith, ap, sym, ◌∙◌, true, ◌⊎◌, ⊎_elim, inl, inr, List, [], ◌∷◌, All, length, drop, subst, slice_set}
-use Rattle.qh_model.proofs.Common.{length-set, get_or-set_same, pos, ◌<ℤ◌, All-head, All-tail, All-permutation, In, IsPermutation}
+use Rattle.{qh_model.proofs.Members.in_permutation, qh_mesh.specs.contract.Replacement.IsLive}
 use Rattle.std.proofs.lemmas.List.{set-get_or, set-set}
-use Rattle.qh_mesh.specs.contract.Replacement.{IsLive}
 use Rattle.qh_surface.specs.contract.OutsideSets.{OutsideValue, set_of, joined}
-use Rattle.qh_surface.specs.steps.Runs.{height_at, IsDone, AreDone, IsOutside, AreOutside, RunState, with_waiting, with_first, IsUnderWay, IsPicked}
-use Rattle.qh_model.proofs.Members.{in_permutation}
 use Rattle.qh_surface.proofs.runs.SetWrites.{of_join, join_has, join_keeps, joined_front}
+use Rattle.qh_surface.specs.steps.Runs.{height_at, IsDone, AreDone, IsOutside, AreOutside, RunState, with_waiting, with_first, IsUnderWay, IsPicked}
+use Rattle.qh_model.proofs.Common.{◌≡◌, ℕ, ◌<◌, arith, ap, sym, ◌∙◌, true, ◌⊎◌, ⊎_elim, inl, inr, List, [], ◌∷◌, All, length}
+use Rattle.qh_model.proofs.Common.{drop, subst, slice_set, length-set, get_or-set_same, pos, ◌<ℤ◌, All-head, All-tail, All-permutation, In, IsPermutation}
 
 -- the sets without the first point of the set at f
 abbrev pub taken : OutsideValue → ℕ → OutsideValue

@@ -9,23 +9,20 @@ use Rattle.qh_surface.proofs.quickhull.waiting_facets.next_apex.Goals as goal
 taken_out : (c : goal.After-take_first-arg-1)
     → IsPermutation c.loop-pending.pending.items (c.swap_remove-facet.result ∷ c.swap_remove-facet.new.self.items)
 taken_out c =
-    let pending = c.loop-pending.pending in let i = c.next.result in let f = c.swap_remove-facet.result in
-    let next = c.next.ensures in let len = c.len-in-loop-pending.ensures in let long = pending.ok.0 in
+    let pending = c.loop-pending.pending in let f = c.swap_remove-facet.result in let len = c.len-in-loop-pending.ensures in
     subst (λ rest. IsPermutation pending.items (f ∷ rest)) (sym c.swap_remove-facet.ensures.items)
-    (IsPermutation-swap_remove pending.items i f (omega (arith, next, len, long)) c.swap_remove-facet.ensures.value)
+    (IsPermutation-swap_remove pending.items c.next.result f (omega (arith, c.next.ensures, len, pending.ok.0)) c.swap_remove-facet.ensures.value)
 
 pub take_first-requires : goal.take_first-requires
 take_first-requires c =
     let v = c.loop-pending.sets in
-    All-head (λ f. f < length v.sets) _ _
-    (All-permutation (λ f. f < length v.sets) _ _ (taken_out c) c.loop-pending.invariant.within)
+    All-head (λ f. f < length v.sets) _ _ (All-permutation (λ f. f < length v.sets) _ _ (taken_out c) c.loop-pending.invariant.within)
 
 pub returns-in-Some-clause-picked : goal.returns-in-Some-clause-picked
 returns-in-Some-clause-picked c s k =
-    let e = c.in-Some.ensures in let rest = c.swap_remove-facet.new.self.items in
-    subst (λ (v : OutsideValue). IsPicked (with_waiting s v rest) c.swap_remove-facet.result c.in-Some.apex)
-    (sym (taken_is _ _ _ e.positions e.orphans e.sets))
-    (picked (c.loop-pending.invariant.under_way s k) _ _ (taken_out c.before.before) e.first e.position)
+    let e = c.in-Some.ensures in
+    subst (λ (v : OutsideValue). IsPicked (with_waiting s v c.swap_remove-facet.new.self.items) c.swap_remove-facet.result c.in-Some.apex)
+    (sym (taken_is _ _ _ e.positions e.orphans e.sets)) (picked (c.loop-pending.invariant.under_way s k) _ _ (taken_out c.before.before) e.first e.position)
 
 pub loop-pending-preserved : goal.loop-pending-preserved
 loop-pending-preserved c =
@@ -41,5 +38,5 @@ loop-pending-preserved c =
 
 pub returns-clause-done : goal.returns-clause-done
 returns-clause-done c s k =
-    let pending = c.loop-pending.pending in let long = pending.ok.0 in let len = c.len.ensures in let none = c.loop-pending-test.false in
-    all_done (nil_from_length pending.items (omega (arith, len, none, long))) (c.loop-pending.invariant.under_way s k)
+    let pending = c.loop-pending.pending in
+    all_done (nil_from_length pending.items (omega (arith, c.len.ensures, c.loop-pending-test.false, pending.ok.0))) (c.loop-pending.invariant.under_way s k)
