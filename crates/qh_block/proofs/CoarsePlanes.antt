@@ -1,10 +1,8 @@
 -- A plane whose normal is divided by a step, with its offset lowered by the room for the rests, is under the original plane.
-use Rattle.qh_model.proofs.Common.{◌≡◌, arith, ◌∙◌, ap, ints, ℤ, pos, ◌+ℤ◌, ◌-ℤ◌, ◌*ℤ◌, ◌≤ℤ◌, ◌<ℤ◌, Vector, dot, IsCoordinate}
-use Rattle.qh_model.specs.declared.limits.TheConstants.{COORDINATE_LIMIT}
-use Rattle.qh_model.proofs.algebra.Order.{mul-le}
-use Rattle.qh_model.proofs.algebra.Integers.{add_mul, mul_add, mul_assoc, mul_comm, mul_one, mul_swap}
-use Rattle.qh_pred.specs.contract.Planes.{PlaneValue}
 use Rattle.qh_block.specs.{contract.CoarsePlanes.IsUnder, steps.CoarsePlanes.IsLowered, steps.CoarsePlanes.IsRest, steps.CoarsePlanes.IsRoomFor}
+use Rattle.qh_model.proofs.Common.{◌≡◌, arith, ◌∙◌, ap, ints, ℤ, pos, ◌+ℤ◌, ◌-ℤ◌, ◌*ℤ◌, ◌≤ℤ◌, ◌<ℤ◌, Vector, dot, IsCoordinate}
+use Rattle.qh_model.proofs.algebra.Integers.{add_mul, mul_add, mul_assoc, mul_comm, mul_one, mul_swap}
+use Rattle.{qh_model.proofs.algebra.Order.mul-le, qh_model.specs.declared.limits.TheConstants.COORDINATE_LIMIT, qh_pred.specs.contract.Planes.PlaneValue}
 
 -- the greatest coordinate
 abbrev limit : ℤ
