@@ -40,8 +40,9 @@ height_parts plane m o p t k =
     rest n m t k = record { x = less (mul n.x t) (mul k m.x); y = less (mul n.y t) (mul k m.y); z = less (mul n.z t) (mul k m.z) }
 
 pub block_is_below : (b : Bundle) (block : Block) (k : ℕ) (share rest : ℤ)
-    → share ≡ pos k *ℤ (block.reach -ℤ dot (vector_of block.along) b.origin) → ((n p : Vector) → IsInSpans b n → IsWithin block.bounds p
-    → dot (less_times n k (vector_of block.along)) (minus p b.origin) ≤ℤ rest) → (share +ℤ rest) <ℤ b.depth
+    → share ≡ pos k *ℤ (block.reach -ℤ dot (vector_of block.along) b.origin)
+    → ((n p : Vector) → IsInSpans b n → IsWithin block.bounds p → dot (less_times n k (vector_of block.along)) (minus p b.origin) ≤ℤ rest)
+    → (share +ℤ rest) <ℤ b.depth
     → (plane : PlaneValue) → IsOfBundle b plane → (p : Vector) → IsInBlock block p → height plane p <ℤ pos 0
 block_is_below b block k share rest es er total plane of p in_block =
     by_lt_z (height plane p) (pos 0) (λ l. l) (λ g. absurd (no_height (mul-nonneg (height plane p) of.times g (positive_le of.times of.some))))

@@ -1,7 +1,6 @@
 -- One more id is found, or has no mark.
 use Rattle.qh_model.proofs.Common.{◌≡◌, ◌<◌, ◌⊎◌, inl, inr, length, arith, ◌∙◌, ap, true, both_ways, get_or_default_zero, In}
-use Rattle.qh_surface.specs.contract.Walks.{mark_at}
-use Rattle.qh_places.proofs.Listed.{each_listed}
+use Rattle.{qh_surface.specs.contract.Walks.mark_at, qh_places.proofs.Listed.each_listed}
 use Rattle.qh_parts_join.proofs.{LeftIds.one_more, LeftIds.none_left, parts.marked.Goals.then-is_marked+in_ok-push, parts.marked.Goals.else-is_marked}
 use Rattle.qh_parts_join.proofs.parts.marked.Goals as goal
 
