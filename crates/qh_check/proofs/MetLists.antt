@@ -1,7 +1,6 @@
 -- Lists that are met along others: from one id to the next, and to the end.
 use Rattle.qh_model.proofs.Common.{ℕ, ◌≡◌, ◌≢◌, ◌+◌, ◌<◌, ◌≤◌, arith, sym, subst, inl, inr, List, [], ◌∷◌, ◌++◌, length, get_or, drop, cases_lt, append-nil}
-use Rattle.qh_model.proofs.Common.{drop_more, drop_all, ◌↔◌}
-use Rattle.qh_check.specs.contract.Pieces.{IsMetAlong}
+use Rattle.{qh_model.proofs.Common.drop_more, qh_model.proofs.Common.drop_all, qh_model.proofs.Common.◌↔◌, qh_check.specs.contract.Pieces.IsMetAlong}
 
 -- a list without its first member is met if the list is met
 met_less : (u : ℕ) (p q : List ℕ) → IsMetAlong (u ∷ p) q → IsMetAlong p q
@@ -28,8 +27,7 @@ met_later u v p q n = (λ h. inr h, back)
 
 -- one step along the ids, at which the next member of the list is met
 pub met_step : (part ids : List ℕ) (next k : ℕ) (B : List ℕ → Type 0) → k < length ids → next < length part
-    → get_or part next 0 ≡ get_or ids k 0
-    → ((rest : List ℕ) → IsMetAlong (drop next part) (drop k ids ++ rest) ↔ B rest)
+    → get_or part next 0 ≡ get_or ids k 0 → ((rest : List ℕ) → IsMetAlong (drop next part) (drop k ids ++ rest) ↔ B rest)
     → (rest : List ℕ) → IsMetAlong (drop (next + 1) part) (drop (k + 1) ids ++ rest) ↔ B rest
 met_step part ids next k B l m e h rest =
     let here = met_here (get_or part next 0) (get_or ids k 0) (drop (next + 1) part) (drop (k + 1) ids ++ rest) e in
@@ -39,8 +37,7 @@ met_step part ids next k B l m e h rest =
 
 -- one step along the ids, at which the next member of the list is not met
 pub met_skip : (part ids : List ℕ) (next k : ℕ) (B : List ℕ → Type 0) → k < length ids
-    → ¬ ((next < length part) × (get_or part next 0 ≡ get_or ids k 0))
-    → ((rest : List ℕ) → IsMetAlong (drop next part) (drop k ids ++ rest) ↔ B rest)
+    → ¬ ((next < length part) × (get_or part next 0 ≡ get_or ids k 0)) → ((rest : List ℕ) → IsMetAlong (drop next part) (drop k ids ++ rest) ↔ B rest)
     → (rest : List ℕ) → IsMetAlong (drop next part) (drop (k + 1) ids ++ rest) ↔ B rest
 met_skip part ids next k B l n h rest = elim (cases_lt next (length part)) [ inl m ↦ go m | inr m ↦ over m ]
   where
@@ -49,8 +46,7 @@ met_skip part ids next k B l n h rest = elim (cases_lt next (length part)) [ inl
 
     go : next < length part → IsMetAlong (drop next part) (drop (k + 1) ids ++ rest) ↔ B rest
     go m =
-        subst (λ xs. IsMetAlong xs (drop (k + 1) ids ++ rest) ↔ B rest) (sym (drop_more part next 0 m))
-        (λ a. both.0 (later.0 a), λ b. later.1 (both.1 b))
+        subst (λ xs. IsMetAlong xs (drop (k + 1) ids ++ rest) ↔ B rest) (sym (drop_more part next 0 m)) (λ a. both.0 (later.0 a), λ b. later.1 (both.1 b))
       where
         later : IsMetAlong (get_or part next 0 ∷ drop (next + 1) part) (drop (k + 1) ids ++ rest)
             ↔ IsMetAlong (get_or part next 0 ∷ drop (next + 1) part) (get_or ids k 0 ∷ (drop (k + 1) ids ++ rest))
@@ -61,8 +57,7 @@ met_skip part ids next k B l n h rest = elim (cases_lt next (length part)) [ inl
 
     over : length part ≤ next → IsMetAlong (drop next part) (drop (k + 1) ids ++ rest) ↔ B rest
     over m =
-        subst (λ xs. IsMetAlong xs (drop (k + 1) ids ++ rest) ↔ B rest) (sym (drop_all next part m))
-        (λ a. both.0 tt, λ b. tt)
+        subst (λ xs. IsMetAlong xs (drop (k + 1) ids ++ rest) ↔ B rest) (sym (drop_all next part m)) (λ a. both.0 tt, λ b. tt)
       where
         both : IsMetAlong [] (get_or ids k 0 ∷ (drop (k + 1) ids ++ rest)) ↔ B rest
         both = subst (λ xs. IsMetAlong xs (get_or ids k 0 ∷ (drop (k + 1) ids ++ rest)) ↔ B rest) (drop_all next part m) now
@@ -92,4 +87,4 @@ met_both part xs ys m n f g le = (there, back)
     there e = left.0 (subst (λ l. IsMetAlong l []) (sym (drop_all n part (omega (arith, e)))) tt)
 
     back : IsMetAlong part (xs ++ ys) → n ≡ length part
-    back h = let l = met_nothing part n (left.1 h) in omega (arith, l, le)
+    back h = omega (arith, met_nothing part n (left.1 h), le)

@@ -10,8 +10,7 @@ loop-position-preserved c =
     let P : Option FaceFault → Type 0 =
     λ o. MatchOption o (IsSeen pts ids c.args.faces.now (get_or polygons k own)) (IsFaultOf pts ids (get_or polygons k own)) in
     let seen : IsSeen pts ids c.args.faces.now (get_or polygons k own) = subst P c.in_default.is c.in_ok-fault.ensures in
-    below_more _ _ c.loop-position.invariant
-    (subst (IsSeen pts ids c.args.faces.now) (get_or_default polygons k own [] c.loop-position-test.true) seen)
+    below_more _ _ c.loop-position.invariant (subst (IsSeen pts ids c.args.faces.now) (get_or_default polygons k own [] c.loop-position-test.true) seen)
 
 pub returns-in-Some : goal.returns-in-Some
 returns-in-Some c =
@@ -26,4 +25,4 @@ returns-in-Some c =
 pub returns : goal.returns
 returns c = λ k d l.
     subst (IsSeen c.args.claim.pts.now c.args.claim.ids.now c.args.faces.now) (get_or_default c.args.claim.polygons.now k [] d l)
-    (c.loop-position.invariant k (let done = c.loop-position-test.false in omega (arith, done, l)))
+    (c.loop-position.invariant k (omega (arith, c.loop-position-test.false, l)))

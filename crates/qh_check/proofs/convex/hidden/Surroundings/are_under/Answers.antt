@@ -1,7 +1,6 @@
 -- The point of the current key lies under a triangle.
 use Rattle.qh_model.proofs.Common.{◌∙◌, ap, get_or, refl, subst, Vector, place}
-use Rattle.qh_check.specs.steps.Hidden.{id_in, IsUnderOne}
-use Rattle.qh_check.proofs.Prefixes.{each_more}
+use Rattle.qh_check.{specs.steps.Hidden.id_in, specs.steps.Hidden.IsUnderOne, proofs.Prefixes.each_more}
 use Rattle.qh_check.proofs.convex.hidden.Surroundings.are_under.Goals as goal
 
 pub loop-key-preserved : goal.loop-key-preserved
