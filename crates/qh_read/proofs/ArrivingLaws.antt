@@ -1,11 +1,10 @@
 -- The words that arrive from the first byte on are those of the text.
-use Rattle.qh_model.proofs.Common.{◌≡◌, ◌∙◌, [], ◌∷◌, ◌+◌, ◌==◌, ◌++◌, ℕ, List, Bool, true, false, cond, refl, ap, sym, arith, append_assoc, map, nat_tests}
-use Rattle.qh_model.proofs.Common.{map-append, ℤ, pos, Option, Some, None, option_map, nat_le, number_of, Word, is_blank}
+use Rattle.qh_model.proofs.Common.{◌≡◌, ◌∙◌, [], ◌∷◌, ◌+◌, ◌==◌, ◌++◌, ℕ, List, Bool, true, false, cond, refl, ap, sym}
+use Rattle.qh_model.proofs.Common.{arith, append_assoc, map, nat_tests, map-append, ℤ, pos, Option, Some, None, option_map, nat_le, number_of, Word, is_blank}
 use Rattle.qh_model.specs.declared.{form.Form.TheVariants.Off, limits.TheConstants.COORDINATE_LIMIT}
 use Rattle.qh_read.specs.{contract.Numerals.small_number, contract.Numerals.numeral_of, contract.Numerals.numerals_in, declared.token.Token.TheVariants.Empty}
-use Rattle.qh_read.specs.{contract.Tokens.cap, declared.token.Token.Token}
-use Rattle.qh_read.specs.{declared.numerals.Numeral.Numeral, steps.Arriving.told_if, steps.Arriving.grown_on, steps.Arriving.arriving, steps.SmallTokens.capped}
-use Rattle.qh_read.proofs.{HoldingLaws.grown_more, OffLexingLaws.off_words-lexed}
+use Rattle.qh_read.specs.{contract.Tokens.cap, declared.token.Token.Token, declared.numerals.Numeral.Numeral, steps.Arriving.told_if, steps.Arriving.grown_on}
+use Rattle.qh_read.{specs.steps.Arriving.arriving, specs.steps.SmallTokens.capped, proofs.HoldingLaws.grown_more, proofs.OffLexingLaws.off_words-lexed}
 use Rattle.qh_read.proofs.{Lexing.Lexed, Lexing.start, Lexing.ended, Lexing.closed, Lexing.next, Lexing.lexed, TokenLaws.grown_by, TokenLaws.value-number}
 
 -- a small number is distinguished from all others

@@ -1,14 +1,13 @@
 -- The state of a reader is determined by the words of its bytes.
-use Rattle.qh_model.proofs.Common.{◌≡◌, ◌∙◌, ◌++◌, [], ◌∷◌, ◌+◌, ◌-◌, ◌*◌, ◌==◌, ◌||◌, ℕ, List, Bool, true, false, cond, refl, ap, sym, arith, nat_tests}
-use Rattle.qh_model.proofs.Common.{append-nil, is_ascii_digit, ℤ, Option, codes, bytes_eq, Word, is_blank, is_data}
+use Rattle.qh_model.proofs.Common.{◌≡◌, ◌∙◌, ◌++◌, [], ◌∷◌, ◌+◌, ◌-◌, ◌*◌, ◌==◌, ◌||◌, ℕ, List, Bool, true, false}
+use Rattle.qh_model.proofs.Common.{cond, refl, ap, sym, arith, nat_tests, append-nil, is_ascii_digit, ℤ, Option, codes, bytes_eq, Word, is_blank, is_data}
 use Rattle.qh_model.specs.declared.form.Form.{Form, TheVariants.Qhull, TheVariants.Off}
 use Rattle.qh_read.proofs.Lexing.{Lexed, start, ended, closed, begun, marked, next, lexed, words_in}
-use Rattle.qh_read.proofs.{LexingLaws.in_cond, LexingLaws.push_cond, LexingLaws.data_words-lexed, ProgressLaws.judged, ProgressLaws.judged-append}
-use Rattle.qh_read.proofs.{OffLexingLaws.off_words-lexed, TokenLaws.grown_by, TokenLaws.value-number, TokenLaws.keyword-off}
+use Rattle.qh_read.proofs.{LexingLaws.in_cond, LexingLaws.push_cond, LexingLaws.data_words-lexed, ProgressLaws.judged}
+use Rattle.qh_read.proofs.{ProgressLaws.judged-append, OffLexingLaws.off_words-lexed, TokenLaws.grown_by, TokenLaws.value-number, TokenLaws.keyword-off}
 use Rattle.qh_read.specs.contract.Holding.{Held, held_at_start, word_ended, held_begun, held_marked, ended_held, next_held, held_by}
-use Rattle.qh_read.specs.contract.Progress.{Progress, started, after}
-use Rattle.qh_read.specs.{contract.Tokens.cap, contract.Tokens.grown, contract.Tokens.value_of, contract.Tokens.is_keyword, declared.token.Token.Token}
-use Rattle.qh_read.specs.declared.token.Token.TheVariants.{Empty, Sign, Digits, Keyword, Other}
+use Rattle.qh_read.specs.contract.{Progress.Progress, Progress.started, Progress.after, Tokens.cap, Tokens.grown, Tokens.value_of, Tokens.is_keyword}
+use Rattle.qh_read.specs.declared.token.Token.{Token, TheVariants.Empty, TheVariants.Sign, TheVariants.Digits, TheVariants.Keyword, TheVariants.Other}
 
 -- the state after bytes that are split into words
 abbrev pub held_of : Form → Lexed → Held
@@ -48,8 +47,7 @@ begun_solid h t c s = refl
 word_ends : (p : Progress) (ws : List Word) (n : ℕ) (w : List ℕ) → judged p (ws ++ ended n w) ≡ word_ended (judged p ws) (grown_by Empty w) n
 word_ends p ws n [] = ap (judged p) (append-nil ws)
 word_ends p ws n (c ∷ w) =
-    judged-append p ws (ended n (c ∷ w))
-    ∙ ap (λ (o : Option ℤ). after (judged p ws) (bytes_eq (c ∷ w) (codes "OFF")) o n) (sym (value-number (c ∷ w)))
+    judged-append p ws (ended n (c ∷ w)) ∙ ap (λ (o : Option ℤ). after (judged p ws) (bytes_eq (c ∷ w) (codes "OFF")) o n) (sym (value-number (c ∷ w)))
     ∙ ap (λ (b : Bool). after (judged p ws) b (value_of (grown_by Empty (c ∷ w))) n) (sym (keyword-off (c ∷ w)))
     ∙ sym (ended_solid (judged p ws) (grown_by Empty (c ∷ w)) n (solid_by w (grown Empty c) (solid_grown Empty c)))
 
@@ -110,8 +108,7 @@ words-lexed Off bs = off_words-lexed bs
 pub progress-words : (form : Form) (bs : List ℕ) → (ended_held (held_by (held_at_start form) bs)).progress ≡ judged (started form) (words_in form bs)
 progress-words form bs =
     let s = lexed form start bs in
-    ap (λ (h : Held). (ended_held h).progress) (sym (runs form bs start))
-    ∙ sym (word_ends (started form) s.words s.line s.under_way)
+    ap (λ (h : Held). (ended_held h).progress) (sym (runs form bs start)) ∙ sym (word_ends (started form) s.words s.line s.under_way)
     ∙ ap (judged (started form)) (words-lexed form bs)
 
 pub held_by-append : (h : Held) (xs bs : List ℕ) → held_by h (xs ++ bs) ≡ held_by (held_by h xs) bs

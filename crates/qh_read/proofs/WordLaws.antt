@@ -25,14 +25,12 @@ taken-more line old ids last v at new t =
 -- the next corner is a number
 pub corners-next : (after : ℕ → List Numeral → Option ReadFault) (n k line : ℕ) (ws : List Numeral) → k < n
     → corners_fault after (n - k) line ws ≡ number_fault (λ corner next rest. corners_fault after (n - (k + 1)) next rest) ws
-corners-next after n k line ws l =
-    let more : n - k ≡ suc (n - (k + 1)) = omega (arith, l) in ap (λ (m : ℕ). corners_fault after m line ws) more
+corners-next after n k line ws l = let more : n - k ≡ suc (n - (k + 1)) = omega (arith, l) in ap (λ (m : ℕ). corners_fault after m line ws) more
 
 -- a face comes next
 pub faces-next : (layout : Layout) (n k : ℕ) (ws : List Numeral) → k < n
     → faces_fault layout (n - k) ws ≡ face_fault layout (λ rest. faces_fault layout (n - (k + 1)) rest) ws
-faces-next layout n k ws l =
-    let more : n - k ≡ suc (n - (k + 1)) = omega (arith, l) in ap (λ (m : ℕ). faces_fault layout m ws) more
+faces-next layout n k ws l = let more : n - k ≡ suc (n - (k + 1)) = omega (arith, l) in ap (λ (m : ℕ). faces_fault layout m ws) more
 
 -- no word remains on the line
 here : (b : Bool) (line at : ℕ) → (at == line) ≡ b → at ≢ line → b ≡ false

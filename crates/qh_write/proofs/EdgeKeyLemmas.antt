@@ -1,16 +1,14 @@
 -- Edges counted by numbers of pairs: the added numbers, and the number of different ones.
-use Rattle.qh_model.proofs.Common.{◌≡◌, ◌≢◌, ◌∙◌, ℕ, ◌+◌, ◌<◌, List, [], ◌∷◌, ◌++◌, length, ap, sym, refl, subst, inl, inr, map, drop, get_or, append_assoc}
-use Rattle.qh_model.proofs.Common.{min, max, IsPermutation, Bool, true, false, cond, eqb-true, nat_cmp, eqb-false, flat_map-append, length-map}
-use Rattle.qh_model.proofs.Common.{IsPermutation-sym, IsStrictlyIncreasing-dedup, flat_map, AllByRecursion, ◌==◌, ◌↔◌, eqb, steps_along, steps_round, packed}
-use Rattle.qh_model.proofs.Common.{fan, fans, pairs_along, pairs_round, edge_count, In, Once}
-use Rattle.std.proofs.lemmas.List.Kept.{Contains-dedup_nat, Contains-from_dedup}
-use Rattle.std.specs.List.{dedup, Sorted.IsSorted}
-use Rattle.qh_model.specs.declared.keys.packed.TheConstants.{HALF_ROOM}
-use Rattle.qh_model.proofs.{Members.to_contains, Members.of_contains, Members.in_permutation, Members.rising_once, Members.every_at, lists.OnceEach.once_length}
-use Rattle.qh_model.proofs.{PackedPairs.packed-same, lists.Images.in_map, lists.Images.of_map, lists.Joined.in_flat_map, lists.Joined.of_flat_map}
+use Rattle.qh_model.proofs.Common.{◌≡◌, ◌≢◌, ◌∙◌, ℕ, ◌+◌, ◌<◌, List, [], ◌∷◌}
+use Rattle.qh_model.proofs.Common.{◌++◌, length, ap, sym, refl, subst, inl, inr, map, drop, get_or, append_assoc, min, max, IsPermutation, Bool, true, false}
+use Rattle.qh_model.proofs.Common.{cond, eqb-true, nat_cmp, eqb-false, flat_map-append, length-map, IsPermutation-sym, IsStrictlyIncreasing-dedup, flat_map}
+use Rattle.qh_model.proofs.Common.{AllByRecursion, ◌==◌, ◌↔◌, eqb, steps_along, steps_round, packed, fan, fans, pairs_along, pairs_round, edge_count, In, Once}
+use Rattle.qh_model.proofs.{Members.to_contains, Members.of_contains, Members.in_permutation, Members.rising_once, Members.every_at, PackedPairs.packed-same}
+use Rattle.qh_model.proofs.lists.{Images.in_map, Images.of_map, Joined.in_flat_map, Joined.of_flat_map, OnceEach.once_length}
 use Rattle.qh_model.proofs.polygons.EdgeCounts.{distinct, length-distinct, of_distinct, in_distinct, once_distinct}
+use Rattle.{qh_model.specs.declared.keys.packed.TheConstants.HALF_ROOM, qh_write.proofs.FanLemmas.drop_next}
 use Rattle.qh_write.specs.steps.EdgeKeys.{pair_key, HasRoom, AddsPairs, Completes, pairs_of}
-use Rattle.qh_write.proofs.FanLemmas.{drop_next}
+use Rattle.std.{proofs.lemmas.List.Kept.Contains-dedup_nat, proofs.lemmas.List.Kept.Contains-from_dedup, specs.List.dedup, specs.List.Sorted.IsSorted}
 
 -- ---- adding
 -- nothing added
@@ -90,8 +88,7 @@ pub edges_by_keys : (faces : List (List ℕ)) (keys sorted : List ℕ) → AddsP
     → length (dedup eqb sorted) ≡ edge_count faces
 edges_by_keys faces keys sorted added same rising =
     once_length (dedup eqb sorted) (map code (distinct ps)) (rising_once (dedup eqb sorted) (IsStrictlyIncreasing-dedup sorted rising))
-    (once_codes (distinct ps) small (once_distinct ps)) members
-    ∙ length-map (distinct ps) code ∙ length-distinct ps
+    (once_codes (distinct ps) small (once_distinct ps)) members ∙ length-map (distinct ps) code ∙ length-distinct ps
   where
     ps : List (ℕ × ℕ)
     ps = pairs_of faces

@@ -1,10 +1,9 @@
 -- Texts that grow by pieces, and the numbers of vertices, found in a table or by a search.
-use Rattle.qh_model.proofs.Common.{◌≡◌, ◌≢◌, ◌∙◌, ℕ, suc, ◌+◌, ◌-◌, ◌<◌, ◌≤◌, List, [], ◌∷◌, ◌++◌, length, arith, ap, sym, refl, subst, inl, inr, ◌⊎◌}
-use Rattle.qh_model.proofs.Common.{get_or-set_same, get_or-set_other, set, length-set, get_or, eqb-true, Bool, zero-add, ap₂, true, false, cond, All, replicate}
-use Rattle.qh_model.proofs.Common.{decimal, slice_index, Vec, Global, Result, Ok, Err, eqb-false, length-replicate, All-from_get_or, flat_map, nat_cmp, ◌==◌}
-use Rattle.qh_model.proofs.Common.{MatchResult, IsStrictlyIncreasing, IsBodyInOrder, In, Once, line, spaced, vertex_number, face_text}
-use Rattle.std.proofs.lemmas.List.Sorted.{searched}
-use Rattle.std.specs.List.Sorted.{IsBinarySearchResult}
+use Rattle.qh_model.proofs.Common.{◌≡◌, ◌≢◌, ◌∙◌, ℕ, suc, ◌+◌, ◌-◌, ◌<◌, ◌≤◌, List, [], ◌∷◌, ◌++◌, length, arith, ap, sym, refl}
+use Rattle.qh_model.proofs.Common.{subst, inl, inr, ◌⊎◌, get_or-set_same, get_or-set_other, set, length-set, get_or, eqb-true, Bool, zero-add, ap₂, true, false}
+use Rattle.qh_model.proofs.Common.{cond, All, replicate, decimal, slice_index, Vec, Global, Result, Ok, Err, eqb-false, length-replicate, All-from_get_or}
+use Rattle.qh_model.proofs.Common.{flat_map, nat_cmp, ◌==◌, MatchResult, IsStrictlyIncreasing, IsBodyInOrder, In, Once, line, spaced, vertex_number, face_text}
+use Rattle.std.{proofs.lemmas.List.Sorted.searched, specs.List.Sorted.IsBinarySearchResult}
 use Rattle.qh_model.proofs.{Cuts.bounds_order, Members.All-In, Members.In-get_or, Members.rising_once, renamed.Positions.at_number, renamed.Positions.number_at}
 use Rattle.qh_write.specs.declared.texts.numbering.VertexNumbers.{VertexNumbers, TheVariants.Table}
 use Rattle.qh_write.specs.steps.Numberings.{numbered, number_in, HasNumber, AreNumbered, face_by_numbers, NumberExtremes}
@@ -69,12 +68,10 @@ number_found ids i found rising has result = by_case found (searched ids i found
 
     by_case : (r : Result ℕ ℕ)
         → MatchResult r (λ k. (k < length ids) × (get_or ids k 0 ≡ i)) (λ k. (k ≤ length ids) × ((n : ℕ) → n < k → get_or ids n 0 < i)
-        × ((n : ℕ) → k ≤ n → n < length ids → i < get_or ids n 0))
-        → MatchResult r (λ k. k ≡ vertex_number ids i) (λ _. ⊥)
+        × ((n : ℕ) → k ≤ n → n < length ids → i < get_or ids n 0)) → MatchResult r (λ k. k ≡ vertex_number ids i) (λ _. ⊥)
     by_case (Ok k) s = sym (subst (λ n. vertex_number ids n ≡ k) s.1 (number_at ids k (rising_once ids rising) s.0))
     by_case (Err k) s =
-        let n = vertex_number ids i in
-        let at = at_number ids i has in
+        let n = vertex_number ids i in let at = at_number ids i has in
         let before : n < k → get_or ids n 0 < i = s.1 n in
         let after : k ≤ n → n < length ids → i < get_or ids n 0 = s.2 n in
         grind (arith, at.0, at.1, before, after)
@@ -87,8 +84,7 @@ face_numbered extremes numbers right q named = ap (λ (t : List ℕ). line (deci
     pieces : (q : List ℕ) → ((i : ℕ) → In i q → In i extremes)
         → flat_map (λ i. spaced (number_in numbers i)) q ≡ flat_map (λ i. spaced (vertex_number extremes i)) q
     pieces [] named = refl
-    pieces (i ∷ q) named =
-        ap₂ (λ (a b : List ℕ). a ++ b) (ap spaced (right.is i (named i (inl refl)))) (pieces q (λ j h. named j (inr h)))
+    pieces (i ∷ q) named = ap₂ (λ (a b : List ℕ). a ++ b) (ap spaced (right.is i (named i (inl refl)))) (pieces q (λ j h. named j (inr h)))
 
 -- all faces by these numbers have their vertex numbers
 all_numbered : (extremes : List ℕ) (numbers : VertexNumbers) → NumberExtremes extremes numbers

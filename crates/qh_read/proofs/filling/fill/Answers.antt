@@ -1,6 +1,5 @@
 use Rattle.std.proofs.Common.{◌≡◌, ◌+◌, ◌++◌, ◌∙◌, ℕ, List, refl, arith, ap, sym, subst, length, length-append, length-take, length-drop, take, drop}
-use Rattle.std.{proofs.Math.Seq.take-add, specs.Io.KnownBytes.Consumes}
-use Rattle.qh_read.proofs.SourceLemmas.{Consumes-append}
+use Rattle.{std.proofs.Math.Seq.take-add, std.specs.Io.KnownBytes.Consumes, qh_read.proofs.SourceLemmas.Consumes-append}
 use Rattle.qh_read.proofs.filling.fill.Goals as goal
 
 -- the bytes read before, and one piece
@@ -32,8 +31,7 @@ returns-then-taken-before-clause-stops g c =
 -- one more piece
 pub loop-count-preserved : goal.loop-count-preserved
 loop-count-preserved g c =
-    let at = c.loop-count.count in
-    let n = c.in_ok-taken.taken in
+    let at = c.loop-count.count in let n = c.in_ok-taken.taken in
     let new : List ℕ = c.read_at.new.bytes in
     let inv = c.loop-count.invariant in
     let both : take at c.loop-count.bytes ++ take n (drop at new) ≡ take (at + n) new =

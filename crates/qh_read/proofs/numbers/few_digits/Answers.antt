@@ -1,9 +1,8 @@
-use Rattle.qh_read.proofs.numbers.few_digits.Goals as goal
 use Rattle.std.proofs.Common.{arith, ◌≡◌, ◌≤◌, ◌<◌, ◌+◌, ◌-◌, ◌*◌, ◌∙◌, ℕ, Bool, List, true, length, add-one}
-use Rattle.std.{proofs.lemmas.Grind.common_steps, specs.Char.is_ascii_digit, specs.Prelude.get_or}
-use Rattle.qh_model.specs.declared.form.Form.{Form}
+use Rattle.{std.proofs.lemmas.Grind.common_steps, std.specs.Char.is_ascii_digit, std.specs.Prelude.get_or, qh_model.specs.declared.form.Form.Form}
 use Rattle.qh_read.{proofs.CursorLaws.step, proofs.DigitLaws.greatest, proofs.DigitLaws.greatest-rises, specs.contract.Holding.next_held}
 use Rattle.qh_read.specs.{contract.Progress.Progress, declared.token.TheConstants.MAGNITUDE_CAP, declared.token.Token.TheVariants.Digits, steps.Numbers.quiet}
+use Rattle.qh_read.proofs.numbers.few_digits.Goals as goal
 
 -- one more digit, below the cap
 digit_more : (form : Form) (p : Progress) (line : ℕ) (minus : Bool) (n d : ℕ) → is_ascii_digit d ≡ true

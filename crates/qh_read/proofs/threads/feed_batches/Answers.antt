@@ -19,19 +19,15 @@ returns-in_err-at_end-2-clause-stops g c =
 -- one batch was fed, and one more was read
 pub loop-at_end-preserved : goal.loop-at_end-preserved
 loop-at_end-preserved g c =
-    let inv = c.loop-at_end.invariant in
-    let s = inv.so_far in
+    let inv = c.loop-at_end.invariant in let s = inv.so_far in
     let done : List ℕ = batch_text c.loop-at_end.batches.done in
     let raw : List ℕ = batch_text c.loop-at_end.batches.raw in
     let more : List ℕ = batch_text c.turn.new.batches.next in
     let filled = c.in_ok-at_end-2.ensures.filled in
-    let filled_text = c.in_ok-at_end-2.ensures.text in
-    let first : batch_text c.advance.new.self.done ≡ raw = ap batch_text c.advance.ensures.done ∙ filled_text in
+    let first : batch_text c.advance.new.self.done ≡ raw = ap batch_text c.advance.ensures.done ∙ c.in_ok-at_end-2.ensures.text in
     let second : batch_text c.advance.new.self.raw ≡ more = ap batch_text c.advance.ensures.raw in
     let both : (s.given ++ (done ++ raw)) ++ more ≡ (s.given ++ done) ++ (batch_text c.advance.new.self.done ++ batch_text c.advance.new.self.raw) =
-    append_assoc s.given (done ++ raw) more
-    ∙ ap (λ (u : List ℕ). s.given ++ u) (append_assoc done raw more)
-    ∙ sym (append_assoc s.given done (raw ++ more))
+    append_assoc s.given (done ++ raw) more ∙ ap (λ (u : List ℕ). s.given ++ u) (append_assoc done raw more) ∙ sym (append_assoc s.given done (raw ++ more))
     ∙ ap₂ (λ (u v : List ℕ). (s.given ++ done) ++ (u ++ v)) (sym first) (sym second) in
     record {
       so_far = record {

@@ -17,8 +17,7 @@ returns-in_err-feed_batches g c =
 all_fed : (g : Over) (c : goal.After-finish g) → GivesAll (g.S.Source.remaining c.args.source.now)
     (g.S.Source.remaining c.if-not-branch.source) (Fed c.args.form c.if-not-branch.reader)
 all_fed g c =
-    let form = c.args.form in
-    let old = g.S.Source.remaining c.args.source.now in
+    let form = c.args.form in let old = g.S.Source.remaining c.args.source.now in
     elim c.if-not-branch.branch [
       | then-not-branch+in_ok-feed_batches w ↦ subst (λ s. GivesAll old (g.S.Source.remaining s) (Fed form c.if-not-branch.reader)) (sym w.source-is)
           (subst (λ (r : Reading). GivesAll old (g.S.Source.remaining w.feed_batches.new.source) (Fed form r)) (sym w.reader-is) (

@@ -66,8 +66,7 @@ returns-in_err-feed-clause-stops g c =
     let few : length piece ≤ PIECE_LENGTH = omega (arith, fits, length-take c.in_ok-count.count c.read.new.buf) in
     let p = err_from_is_err_and c.from_residual-in_err-feed.result c.from_residual-in_err-feed.ensures.1 in
     let f : FeedFault = c.in_err-feed.field-0.0 in
-    let took = Consumes-append _ _ _ s.given piece s.took c.in_ok-count.ensures.bytes.0 in
-    let new = c.read.new.self in
+    let took = Consumes-append _ _ _ s.given piece s.took c.in_ok-count.ensures.bytes.0 in let new = c.read.new.self in
     let stops : Stops (read_fault f) c.args.reader.now.count (g.S.Source.remaining c.args.source.now) (g.S.Source.remaining new)
     (g.S.Source.failure_count c.args.source.now) (g.S.Source.failure_count new) = record {
       big = λ e.

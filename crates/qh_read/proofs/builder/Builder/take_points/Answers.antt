@@ -1,8 +1,7 @@
 use Rattle.qh_model.proofs.Common.{arith, ◌≡◌, ◌≤◌, ◌∙◌, ◌++◌, ◌-◌, ◌*◌, ℕ, List, ap, sym, length, length-append, append-nil, ℤ, coordinates, Vector}
+use Rattle.qh_read.{proofs.CursorLaws.shown-pushed, specs.contract.Progress.wants, specs.declared.builder.Pending.Pending, specs.declared.builder.Stage.Stage}
+use Rattle.qh_read.specs.{declared.cursor.Cursor.Cursor, steps.Building.taken, steps.Cursors.held_from, steps.Stages.stage_shown, steps.Stages.pending_list}
 use Rattle.qh_read.proofs.builder.Builder.take_points.Goals as goal
-use Rattle.qh_read.proofs.CursorLaws.{shown-pushed}
-use Rattle.qh_read.specs.{contract.Progress.wants, declared.builder.Stage.Stage, steps.Building.taken, steps.Cursors.held_from}
-use Rattle.qh_read.specs.{declared.builder.Pending.Pending, declared.cursor.Cursor.Cursor, steps.Stages.stage_shown, steps.Stages.pending_list}
 
 -- no coordinate of another point came in between, before or after
 pub returns-clause-held : goal.returns-clause-held
@@ -11,8 +10,7 @@ returns-clause-held c form base =
     let from : Cursor = c.args.from in
     let to : Cursor = c.push_points-cursor.result in
     let left : ℕ = c.in-Zero-Coordinates.left in
-    let trailing = c.in-Zero-Coordinates.trailing in
-    let pushed = c.push_points-cursor.ensures.pushed in
+    let trailing = c.in-Zero-Coordinates.trailing in let pushed = c.push_points-cursor.ensures.pushed in
     let old : List Vector = was.points.items in
     let new : List Vector = c.push_points-cursor.new.points.items in
     let count : ℕ = c.len.result - c.len-before.result in

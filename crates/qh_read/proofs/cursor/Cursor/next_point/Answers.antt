@@ -5,11 +5,8 @@ use Rattle.qh_read.proofs.cursor.Cursor.next_point.Goals as goal
 -- one number after another
 pub returns : goal.returns
 returns c =
-    let x = c.in_ok-x.ensures in
-    let before_y = c.in_ok-word_y.ensures.parted in
-    let y = c.in_ok-y.ensures in
-    let before_z = c.in_ok-word_z.ensures.parted in
-    let z = c.in_ok-z.ensures in
+    let x = c.in_ok-x.ensures in let before_y = c.in_ok-word_y.ensures.parted in let y = c.in_ok-y.ensures in
+    let before_z = c.in_ok-word_z.ensures.parted in let z = c.in_ok-z.ensures in
     record {
       held = λ form p base.
           let first = x.held form p base in

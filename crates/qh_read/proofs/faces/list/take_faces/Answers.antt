@@ -16,10 +16,10 @@ returns-in_err-face-clause-fault c =
 pub faces-preserved : goal.faces-preserved
 faces-preserved c =
     let layout = c.args.reading.layout in let orientation = c.args.reading.orientation in let count = c.args.count in let k = c.faces.counter in
-    let face = c.in_ok-face.face in let left = c.take_face.new.words in let t = c.in_ok-face.ensures.ok in
+    let face = c.in_ok-face.face in let t = c.in_ok-face.ensures.ok in
     let pushed : c.push.new.self.items ≡ c.faces.faces.items ++ face ∷ [] = grind (arith, common_steps) in record {
       taken = λ more later.
-          let one : AreFaces layout orientation c.faces.words (face ∷ more) = (t.0, left, t.1, t.2, later) in
+          let one : AreFaces layout orientation c.faces.words (face ∷ more) = (t.0, c.take_face.new.words, t.1, t.2, later) in
           subst (λ (fs : List (List ℕ)). AreFaces layout orientation c.args.words.now fs)
           (sym (ap (λ (fs : List (List ℕ)). fs ++ more) pushed ∙ append_assoc c.faces.faces.items (face ∷ []) more))
           (c.faces.invariant.taken (face ∷ more) one);

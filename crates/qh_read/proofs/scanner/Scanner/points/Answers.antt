@@ -6,8 +6,7 @@ use Rattle.qh_read.specs.{declared.token.Token.TheVariants.Empty, steps.Building
 -- the builder's points, if there is no unfinished comment or word
 pub returns-clause-held : goal.returns-clause-held
 returns-clause-held c =
-    let was = c.args.self.now in
-    let form = was.form in
+    let was = c.args.self.now in let form = was.form in
     let old : Progress = shown was.builder in
     let new : Progress = shown c.take_points-cursor.new.self in
     let cursor : Cursor = c.take_points-cursor.result in
@@ -16,8 +15,7 @@ returns-clause-held c =
     ap (λ (u : List ℕ). held_by (record (quiet form new cursor.line c.args.token) { comment = was.comment }) u) c.rest.ensures
     ∙ ap (λ (t : Token). held_by (record (quiet form new cursor.line t) { comment = was.comment }) (ahead cursor)) empty
     ∙ ap (λ (b : Bool). held_by (record (quiet form new cursor.line Empty) { comment = b }) (ahead cursor)) quieted
-    ∙ ap (λ (n : ℕ). held_by (quiet form new n Empty) (ahead cursor)) (omega arith)
-    ∙ sym (c.take_points-cursor.ensures.held form 0)
+    ∙ ap (λ (n : ℕ). held_by (quiet form new n Empty) (ahead cursor)) (omega arith) ∙ sym (c.take_points-cursor.ensures.held form 0)
     ∙ ap (λ (n : ℕ). held_by (quiet form old n Empty) c.args.bytes.now) (omega arith)
     ∙ ap (λ (b : Bool). held_by (record (quiet form old was.line Empty) { comment = b }) c.args.bytes.now) (sym quieted)
     ∙ ap (λ (t : Token). held_by (record (quiet form old was.line t) { comment = was.comment }) c.args.bytes.now) (sym empty)

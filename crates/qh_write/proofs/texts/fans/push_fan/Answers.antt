@@ -14,8 +14,7 @@ loop-triangle-init c =
 
 pub push_face-requires-in-loop-triangle : goal.push_face-requires-in-loop-triangle
 push_face-requires-in-loop-triangle c =
-    All-head (AreNumbered c.args.numbers.now) _ _
-    (subst (All (AreNumbered c.args.numbers.now)) c.in-Some.ensures.steps c.loop-triangle.invariant.numbered)
+    All-head (AreNumbered c.args.numbers.now) _ _ (subst (All (AreNumbered c.args.numbers.now)) c.in-Some.ensures.steps c.loop-triangle.invariant.numbered)
 
 pub loop-triangle-preserved : goal.loop-triangle-preserved
 loop-triangle-preserved c = record {
