@@ -1,15 +1,11 @@
 -- A part that was tested against each other part stays, and contributes its faces.
-use Rattle.qh_model.proofs.Common.{◌≡◌, ℕ, ◌<◌, ◌⊎◌, inl, inr, List, All, Bool, true, length, get_or, sym, subst, ap, ◌∙◌, get_or_default, flat_map}
-use Rattle.qh_model.proofs.Common.{HasDistinctPoints, IsIdSet, IsFinished, surface_of, Vector, place, In, Members}
+use Rattle.qh_model.proofs.Common.{◌≡◌, ℕ, ◌<◌, ◌⊎◌, inl, inr, List, All, Bool, true, length, get_or, sym}
+use Rattle.qh_model.proofs.Common.{subst, ap, ◌∙◌, get_or_default, flat_map, HasDistinctPoints, IsIdSet, IsFinished, surface_of, Vector, place, In, Members}
 use Rattle.qh_model.proofs.{Members.All-of, Members.In-get_or, Members.to_contains, lists.Joined.in_flat_map, lists.Joined.of_flat_map}
-use Rattle.qh_model.proofs.surfaces.Stored.{live_is_marked}
-use Rattle.qh_mesh.specs.contract.Replacement.{IsLive}
-use Rattle.qh_surface.specs.contract.NamedMeshes.{named}
-use Rattle.qh_block.specs.steps.Faces.{IsFacetPolygon}
-use Rattle.qh_laws.specs.contract.Parts.{IsPartFace}
-use Rattle.qh_laws.proofs.Parts.{strict_is_clear}
-use Rattle.qh_parts_join.specs.{contract.Parts.ids_in, contract.Parts.own_in, contract.Parts.KeepsCorners, contract.Parts.IsPartOf, declared.parts.Part.Part}
-use Rattle.qh_parts.specs.{contract.Staying.IsStayingPart, steps.Apart.IsApart}
+use Rattle.{qh_model.proofs.surfaces.Stored.live_is_marked, qh_mesh.specs.contract.Replacement.IsLive, qh_surface.specs.contract.NamedMeshes.named}
+use Rattle.{qh_block.specs.steps.Faces.IsFacetPolygon, qh_laws.specs.contract.Parts.IsPartFace, qh_laws.proofs.Parts.strict_is_clear}
+use Rattle.qh_parts_join.specs.contract.Parts.{ids_in, own_in, KeepsCorners, IsPartOf}
+use Rattle.{qh_parts_join.specs.declared.parts.Part.Part, qh_parts.specs.contract.Staying.IsStayingPart, qh_parts.specs.steps.Apart.IsApart}
 
 -- the id at a place of a list is one of the list
 pub named_there : (xs : List ℕ) (k x : ℕ) → x ≡ get_or xs k x → k < length xs → In x xs

@@ -1,8 +1,7 @@
 -- The neighbour is the one across the side.
 use Rattle.qh_model.proofs.Common.{◌≡◌, ◌∙◌, ap, sym, false, Bool, refl, not-true, IsTrue, not, surface_of}
 use Rattle.qh_mesh.specs.contract.Edges.{facet_of, nth_side}
-use Rattle.qh_mesh.proofs.Rewiring.{over-twin}
-use Rattle.qh_surface.specs.contract.Walks.{mark_at}
+use Rattle.{qh_mesh.proofs.Rewiring.over-twin, qh_surface.specs.contract.Walks.mark_at}
 use Rattle.qh_parts.proofs.seam.marked.Marked.goes_over.Goals as goal
 
 pub returns : goal.returns
