@@ -51,12 +51,11 @@ block_is_below b block k share rest es er total plane of p in_block =
     m = vector_of block.along
 
     first : (pos k *ℤ (dot m p -ℤ dot m b.origin)) ≤ℤ share
-    first = let low = in_block.low in
+    first =
+        let less_le : (x y z : ℤ) → x ≤ℤ y → (x -ℤ z) ≤ℤ (y -ℤ z) = λ x y z l. omega (arith, ints) in
+        let low = in_block.low in
         subst (λ s. (pos k *ℤ (dot m p -ℤ dot m b.origin)) ≤ℤ s) (sym es)
         (mul-le (pos k) (dot m p -ℤ dot m b.origin) (block.reach -ℤ dot m b.origin) (omega (arith, ints)) (less_le (dot m p) block.reach (dot m b.origin) low))
-      where
-        less_le : (x y z : ℤ) → x ≤ℤ y → (x -ℤ z) ≤ℤ (y -ℤ z)
-        less_le x y z l = omega (arith, ints)
 
     second : dot (less_times (taken plane.normal of.times) k m) (minus p b.origin) ≤ℤ rest
     second = er (taken plane.normal of.times) p of.normal in_block.within

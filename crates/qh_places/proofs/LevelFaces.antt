@@ -23,13 +23,10 @@ module _ (pts : List Vector) (ids : List ℕ) (plane : PlaneValue) (level : List
   supports l m = subst (λ v. v ≤ℤ pos 0) (told (at l)) (h.below l m)
 
   on : (l : ℕ) → Members level l ↔ OnPlane at (Members ids) i j k l
-  on l = (there, back)
-    where
-      there : In l level → OnPlane at (Members ids) i j k l
-      there m = let o = (h.members l).0 m in (o.0, sym (told (at l)) ∙ o.1)
-
-      back : OnPlane at (Members ids) i j k l → In l level
-      back o = (h.members l).1 (o.0, told (at l) ∙ o.1)
+  on l =
+      let there : In l level → OnPlane at (Members ids) i j k l = λ m. let o = (h.members l).0 m in (o.0, sym (told (at l)) ∙ o.1) in
+      let back : OnPlane at (Members ids) i j k l → In l level = λ o. (h.members l).1 (o.0, told (at l) ∙ o.1) in
+      (there, back)
 
   -- three members of the set are in their plane
   pub three_in : In i ids → In j ids → In k ids → In i level × In j level × In k level

@@ -79,14 +79,13 @@ one_settled {pts} {fs} {ps} {v} {w} {pending} {made} {o} live planes within firs
         (subst (In o) (sym first) (inl refl)) (λ j x h. rw (first-is, plane_height pts fs ps _ o planes (live j x h)) at (d.unseen j x h)))))
 
     assigned : IsAssigned ps pts made v w → IsSettling pts fs w pending made
-    assigned a = settled_by k held rest (λ f p i. rw sets (join_keeps v.sets a.facet a.in_front o f p room i))
+    assigned a =
+        let room : a.facet < length v.sets = All-In (λ f. f < length v.sets) made a.facet within a.named in
+        settled_by k held rest (λ f p i. rw sets (join_keeps v.sets a.facet a.in_front o f p room i))
         (placed (inl (a.facet, rw sets (join_has v.sets a.facet a.in_front o room))))
       where
         sets : w.sets ≡ slice_set v.sets a.facet (joined a.in_front o (set_of v a.facet))
         sets = rw first-is at a.sets
-
-        room : a.facet < length v.sets
-        room = All-In (λ f. f < length v.sets) made a.facet within a.named
 
         here : IsLive fs a.facet
         here = All-In (IsLive fs) made a.facet live a.named
