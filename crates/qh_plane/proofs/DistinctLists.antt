@@ -114,11 +114,10 @@ module _ (pts : List Vector) (room : ℕ) (code : ℕ → ℕ) (keys : List ℕ)
 
   -- of two ids with one number, the key of the lower one comes first
   pub stands_before : (i j p q : ℕ) → i < j → code i ≡ code j → StandsAt room code keys i p → StandsAt room code keys j q → p < q
-  stands_before i j p q l e s t = ⊎_elim (λ h. h) (λ h. absurd (back (id_up room (get_or keys q 0) (get_or keys p 0)
+  stands_before i j p q l e s t =
+      let back : get_or keys q 0 % room ≤ get_or keys p 0 % room → ⊥ = λ h. omega (arith, l, h, s.id_told, t.id_told) in
+      ⊎_elim (λ h. h) (λ h. absurd (back (id_up room (get_or keys q 0) (get_or keys p 0)
       (t.place_told ∙ sym e ∙ sym s.place_told) (k.rising q p 0 h s.within)))) (cases_lt p q)
-    where
-      back : get_or keys q 0 % room ≤ get_or keys p 0 % room → ⊥
-      back h = omega (arith, l, h, s.id_told, t.id_told)
 
   -- ---- the repeats, if the keys are those of all ids
   module _ (every : (i : ℕ) → i < length pts → In i k.ids) (apart : (i j : ℕ) → i < j → j < length pts → code i ≡ code j → place pts i ≡ place pts j)
@@ -143,8 +142,7 @@ module _ (pts : List Vector) (room : ℕ) (code : ℕ → ℕ) (keys : List ℕ)
         squeeze a b c g h e = omega (arith, g, h, e)
 
         from_last : (n : ℕ) → n + 1 ≡ q.0 → In (get_or keys q.0 0 % room) ids
-        from_last n e = subst (λ m. In (get_or keys m 0 % room) ids) e (told.has n within within (subst (λ m. get_or keys n 0 / room ≡ get_or keys m 0 / room)
-            (sym e) (squeeze _ _ _ (code_le room _ _ (k.rising p.0 n 0 (omega (arith, before, e)) (omega (arith, within))))
+        from_last n e = rw e at (told.has n within within (rw e (squeeze _ _ _ (code_le room _ _ (k.rising p.0 n 0 (omega (arith, before, e)) (omega (arith, within))))
             (code_le room _ _ (k.rising n q.0 0 (omega (arith, e)) q.1.within)) (p.1.place_told ∙ codes ∙ sym q.1.place_told))))
           where
             within : n + 1 < length keys
@@ -152,31 +150,17 @@ module _ (pts : List Vector) (room : ℕ) (code : ℕ → ℕ) (keys : List ℕ)
 
     -- a key that has the place of the key before belongs to a repeated id
     repeated : (i : ℕ) → In i ids → IsRepeatedId pts i
-    repeated i m = subst (IsRepeatedId pts) (sym r.3) (inside, low, less, apart low high less inside codes)
+    repeated i m =
+        let here : In (get_or keys r.0 0) keys = In-get_or keys r.0 0 (omega (arith, r.1)) in
+        let next : In (get_or keys (r.0 + 1) 0) keys = In-get_or keys (r.0 + 1) 0 r.1 in
+        let low : ℕ = get_or keys r.0 0 % room in let high : ℕ = get_or keys (r.0 + 1) 0 % room in
+        let inside : high < length pts = index_in (get_or keys (r.0 + 1) 0) next in
+        let codes : code low ≡ code high = sym (code_told (get_or keys r.0 0) here) ∙ r.2 ∙ code_told (get_or keys (r.0 + 1) 0) next in
+        let less : low < high = id_less room (get_or keys r.0 0) (get_or keys (r.0 + 1) 0) r.2 (up r.0 r.1) in
+        subst (IsRepeatedId pts) (sym r.3) (inside, low, less, apart low high less inside codes)
       where
         r : (n : ℕ) × (n + 1 < length keys) × (get_or keys n 0 / room ≡ get_or keys (n + 1) 0 / room) × (i ≡ get_or keys (n + 1) 0 % room)
         r = told.only i m
-
-        here : In (get_or keys r.0 0) keys
-        here = In-get_or keys r.0 0 (omega (arith, r.1))
-
-        next : In (get_or keys (r.0 + 1) 0) keys
-        next = In-get_or keys (r.0 + 1) 0 r.1
-
-        low : ℕ
-        low = get_or keys r.0 0 % room
-
-        high : ℕ
-        high = get_or keys (r.0 + 1) 0 % room
-
-        inside : high < length pts
-        inside = index_in (get_or keys (r.0 + 1) 0) next
-
-        codes : code low ≡ code high
-        codes = sym (code_told (get_or keys r.0 0) here) ∙ r.2 ∙ code_told (get_or keys (r.0 + 1) 0) next
-
-        less : low < high
-        less = id_less room (get_or keys r.0 0) (get_or keys (r.0 + 1) 0) r.2 (up r.0 r.1)
 
     -- so these are the ids of the points that are equal to an earlier one
     pub all_repeats : AreAllRepeats pts ids
@@ -184,11 +168,10 @@ module _ (pts : List Vector) (room : ℕ) (code : ℕ → ℕ) (keys : List ℕ)
 
 -- the distinct ids are rising ids of distinct points
 pub id_set : (pts : List Vector) (ids : List ℕ) → AreDistinctIds pts ids → IsIdSet pts ids
-id_set pts ids d = record { rising = d.rising; distinct = λ i j mi mj e. same i j mi mj e (by_order i j) }
+id_set pts ids d =
+    let by_order : (i j : ℕ) → (i < j) ⊎ ((j < i) ⊎ (i ≡ j)) = λ i j. grind (arith, nat_tests) in
+    record { rising = d.rising; distinct = λ i j mi mj e. same i j mi mj e (by_order i j) }
   where
-    by_order : (i j : ℕ) → (i < j) ⊎ ((j < i) ⊎ (i ≡ j))
-    by_order i j = grind (arith, nat_tests)
-
     same : (i j : ℕ) → In i ids → In j ids → place pts i ≡ place pts j → (i < j) ⊎ ((j < i) ⊎ (i ≡ j)) → i ≡ j
     same i j mi mj e (inl h) = absurd (((d.members j).0 mj).1 i h e)
     same i j mi mj e (inr (inl h)) = absurd (((d.members i).0 mi).1 j h (sym e))

@@ -86,15 +86,14 @@ module _ (pts : List Vector) (b : CloseBox) (slots : List ℕ) (k : ℕ) (ids : 
               (old.held s (subst (λ (n : ℕ). s < n) (length-set slots here k) l))
 
       pub new_seen : HaveFirsts pts b after (k + 1) (ids ++ k ∷ [])
-      new_seen = record { firsts = firsts_after; held = held_after; rising = rises; members = λ i. (to i, from i) }
+      new_seen =
+          let to : (i : ℕ) → In i (ids ++ k ∷ []) → IsDistinctId pts i × (i < k + 1) = λ i m. one i (of_append ids (k ∷ []) i m) in
+          record { firsts = firsts_after; held = held_after; rising = rises; members = λ i. (to i, from i) }
         where
           one : (i : ℕ) → In i ids ⊎ In i (k ∷ []) → IsDistinctId pts i × (i < k + 1)
           one i (inl m) = let h = (old.members i).0 m in (h.0, omega (arith, h.1))
           one i (inr (inl e)) = subst (λ (n : ℕ). IsDistinctId pts n × (n < k + 1)) (sym e) ((within, new_place), omega arith)
           one i (inr (inr m)) = absurd m
-
-          to : (i : ℕ) → In i (ids ++ k ∷ []) → IsDistinctId pts i × (i < k + 1)
-          to i m = one i (of_append ids (k ∷ []) i m)
 
           from : (i : ℕ) → IsDistinctId pts i × (i < k + 1) → In i (ids ++ k ∷ [])
           from i h = by_decision (ℕ_discrete i k)
@@ -149,7 +148,4 @@ repeats_seen pts b slots k (suc m) ids old few each =
 -- after all points were processed, the ids are the distinct ones
 pub all_seen : (pts : List Vector) (b : CloseBox) (slots : List ℕ) (k : ℕ) (ids : List ℕ) → HaveFirsts pts b slots k ids → length pts ≤ k
     → AreDistinctIds pts ids
-all_seen pts b slots k ids h l = record { rising = h.rising; members = λ i. ((λ m. ((h.members i).0 m).0), (λ d. (h.members i).1 (d, below i d.0))) }
-  where
-    below : (i : ℕ) → i < length pts → i < k
-    below i m = omega (arith, m, l)
+all_seen pts b slots k ids h l = record { rising = h.rising; members = λ i. ((λ m. ((h.members i).0 m).0), (λ d. (h.members i).1 (d, omega (arith, d.0, l)))) }

@@ -21,11 +21,6 @@ FedOn-append a b d old mid new f g = record {
   count = omega (arith, f.count, g.count, length-append f.given g.given);
 }
 
--- the reason why reading stops, under another name
-pub Stops-equal : (e f : ReadFault) (before : ℕ) (old new : Option (List ℕ)) (failures failures_after : ℕ) → e ≡ f
-    → Stops f before old new failures failures_after → Stops e before old new failures failures_after
-Stops-equal e f before old new failures failures_after same s = subst (λ (x : ReadFault). Stops x before old new failures failures_after) (sym same) s
-
 -- the reason why reading stops after these bytes
 pub Stops-after : (e : ReadFault) (before : ℕ) (old mid new : Option (List ℕ))
     (failures_old failures_mid failures_new : ℕ) (given : List ℕ) (count : ℕ)

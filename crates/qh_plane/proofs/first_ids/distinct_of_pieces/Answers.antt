@@ -17,9 +17,8 @@ look_at_piece-requires-clause-firsts c =
     let found : IfSome (option_copied c.in_ok-ids.field-0) (λ (v : Vec ℕ Global). AreFirstIds pts (end_of pts size n) (end_of pts size (n + 1)) v.items) =
     rw c.in_ok-ids.ensures at (rw (sym c.piece-item.is) at (c.requires.pieces n c.piece-item.result c.loop-piece-test.true)) in
     let firsts : AreFirstIds pts (end_of pts size n) (end_of pts size (n + 1)) c.in-Some.ids.now.items = rw c.in-Some.is at found in
-    subst (λ b. AreFirstIds pts b c.min-end.result c.deref.result.now) (sym c.loop-piece.invariant.begin)
-    (subst (λ e. AreFirstIds pts (end_of pts size n) e c.deref.result.now) (sym next.0)
-    (subst (AreFirstIds pts (end_of pts size n) (end_of pts size (n + 1))) (sym c.deref.ensures.value) firsts))
+    rw c.loop-piece.invariant.begin
+    (rw next.0 (subst (AreFirstIds pts (end_of pts size n) (end_of pts size (n + 1))) (sym c.deref.ensures.value) firsts))
 
 pub loop-piece-preserved : goal.loop-piece-preserved
 loop-piece-preserved c =

@@ -20,9 +20,7 @@ returns-then-digit-gt9-clause-small c = omega (arith, greatest-rises c.loop-i.i 
 
 pub loop-i-preserved : goal.loop-i-preserved
 loop-i-preserved c =
-    let bytes : List ℕ = c.args.bytes.now in
-    let at : ℕ = c.args.at + c.loop-i.i in
-    let n : ℕ = c.loop-i.magnitude in
+    let bytes : List ℕ = c.args.bytes.now in let at : ℕ = c.args.at + c.loop-i.i in let n : ℕ = c.loop-i.magnitude in
     let digit : ℕ = c.digit_of-digit.result in
     let h : is_ascii_digit (get_or bytes at 0) ≡ true = c.digit_of-digit.ensures.digit c.if-digit-gt9.false in
     let value : digit ≡ get_or bytes at 0 - 48 = c.digit_of-digit.ensures.value c.if-digit-gt9.false in

@@ -11,8 +11,7 @@ returns-clause-held c form base =
     let to : Cursor = c.push_points-cursor.result in
     let left : ℕ = c.in-Zero-Coordinates.left in
     let trailing = c.in-Zero-Coordinates.trailing in let pushed = c.push_points-cursor.ensures.pushed in
-    let old : List Vector = was.points.items in
-    let new : List Vector = c.push_points-cursor.new.points.items in
+    let old : List Vector = was.points.items in let new : List Vector = c.push_points-cursor.new.points.items in
     let count : ℕ = c.len.result - c.len-before.result in
     let more : count ≡ length pushed.more = omega (arith, ap length pushed.items, length-append old pushed.more) in
     let enough : 3 * length pushed.more ≤ left = omega arith in

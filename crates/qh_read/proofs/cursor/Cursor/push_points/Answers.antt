@@ -10,8 +10,7 @@ pub loop-cursor-preserved : goal.loop-cursor-preserved
 loop-cursor-preserved c =
     let from = c.args.self in let was = c.loop-cursor.invariant.pushed in let blanks = c.skip_blanks-cursor.ensures in
     let word = c.skip_blanks-cursor.result in let x = c.in-Some.x in let y = c.in-Some.y in let z = c.in-Some.z in
-    let found = c.in-Some.ensures in
-    let point : Vector = record { x = x.value; y = y.value; z = z.value } in
+    let found = c.in-Some.ensures in let point : Vector = record { x = x.value; y = y.value; z = z.value } in
     let items : c.push_reserved.new.self.items ≡ c.loop-cursor.points.items ++ point ∷ [] = grind (arith, common_steps) in
     record {
       pushed = record {

@@ -1,13 +1,12 @@
-use Rattle.qh_read.proofs.scanner.Scanner.points.Goals as goal
 use Rattle.std.proofs.{Common.arith, Common.◌≡◌, Common.◌∙◌, Common.ℕ, Common.Bool, Common.List, Common.false, Common.ap, Common.sym, lemmas.Grind.common_steps}
-use Rattle.qh_read.specs.{contract.Holding.held_by, contract.Progress.Progress, declared.cursor.Cursor.Cursor, declared.token.Token.Token}
-use Rattle.qh_read.specs.{declared.token.Token.TheVariants.Empty, steps.Building.shown, steps.Cursors.ahead, steps.Numbers.quiet}
+use Rattle.qh_read.specs.{contract.Holding.held_by, contract.Progress.Progress, declared.cursor.Cursor.Cursor}
+use Rattle.qh_read.specs.{declared.token.Token.Token, declared.token.Token.TheVariants.Empty, steps.Building.shown, steps.Cursors.ahead, steps.Numbers.quiet}
+use Rattle.qh_read.proofs.scanner.Scanner.points.Goals as goal
 
 -- the builder's points, if there is no unfinished comment or word
 pub returns-clause-held : goal.returns-clause-held
 returns-clause-held c =
-    let was = c.args.self.now in let form = was.form in
-    let old : Progress = shown was.builder in
+    let was = c.args.self.now in let form = was.form in let old : Progress = shown was.builder in
     let new : Progress = shown c.take_points-cursor.new.self in
     let cursor : Cursor = c.take_points-cursor.result in
     let quieted : was.comment ≡ false = grind (arith, common_steps) in
