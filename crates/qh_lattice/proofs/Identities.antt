@@ -125,10 +125,9 @@ moved_back m s v =
 
 -- the image of the origin
 pub apply-origin : (m : Matrix) → apply m origin ≡ origin
-apply-origin m = vector_path (apply m origin) origin (none m.first) (none m.second) (none m.third)
-  where
-    none : (r : Vector) → dot r origin ≡ pos 0
-    none r = dot_comm r origin ∙ dot-origin r
+apply-origin m =
+    let none : (r : Vector) → dot r origin ≡ pos 0 = λ r. dot_comm r origin ∙ dot-origin r in
+    vector_path (apply m origin) origin (none m.first) (none m.second) (none m.third)
 
 -- ---- scalar products
 -- a factor of a vector is a factor of its image

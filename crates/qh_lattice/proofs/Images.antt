@@ -93,7 +93,9 @@ left-moved m s i j k u v w =
 
 -- the law of turns
 pub moved_turn : MovedTurn
-moved_turn m h s i j k u v w hu hv hw = ⊎_elim (λ e. same_zero a b (first e) (second e)) (λ e. sign e) (vector_zero_or_not n)
+moved_turn m h s i j k u v w hu hv hw =
+    let first : n ≡ origin → a ≡ pos 0 = λ e. left-dot n u v w ∙ dot_comm r n ∙ ap (λ x. dot x r) e ∙ dot-origin r in
+    ⊎_elim (λ e. same_zero a b (first e) (second e)) (λ e. sign e) (vector_zero_or_not n)
   where
     n : Vector
     n = cross i j k
@@ -109,9 +111,6 @@ moved_turn m h s i j k u v w hu hv hw = ⊎_elim (λ e. same_zero a b (first e) 
 
     b : ℤ
     b = left (cross (moved m s i) (moved m s j) (moved m s k)) (moved m s u) (moved m s v) (moved m s w)
-
-    first : n ≡ origin → a ≡ pos 0
-    first e = left-dot n u v w ∙ dot_comm r n ∙ ap (λ x. dot x r) e ∙ dot-origin r
 
     second : n ≡ origin → b ≡ pos 0
     second e =
@@ -222,8 +221,7 @@ moved_extreme m h s at ids l = extreme_moved m h s at (Members ids) l
 
 -- different points have different images
 pub moved_apart : (m : Matrix) → determinant m ≢ pos 0 → (s p q : Vector) → moved m s p ≡ moved m s q → p ≡ q
-moved_apart m h s p q e = vector_path p q (cancel-both (determinant m) p.x q.x h (ap (λ v. v.x) same))
+moved_apart m h s p q e =
+    let same : scaled (determinant m) p ≡ scaled (determinant m) q = sym (moved_back m s p) ∙ ap (moved (adjugate m) (shift_back m s)) e ∙ moved_back m s q in
+    vector_path p q (cancel-both (determinant m) p.x q.x h (ap (λ v. v.x) same))
     (cancel-both (determinant m) p.y q.y h (ap (λ v. v.y) same)) (cancel-both (determinant m) p.z q.z h (ap (λ v. v.z) same))
-  where
-    same : scaled (determinant m) p ≡ scaled (determinant m) q
-    same = sym (moved_back m s p) ∙ ap (moved (adjugate m) (shift_back m s)) e ∙ moved_back m s q

@@ -2,7 +2,7 @@
 use Rattle.qh_lattice.{proofs.Sums.through, specs.contract.LatticeMaps.Matrix, specs.contract.LatticeMaps.determinant, specs.contract.LatticeMaps.moved}
 use Rattle.qh_lattice.specs.declared.row.{Row.Row, TheConstants.PRODUCT_LIMIT, TheConstants.CENTRE_LIMIT}
 use Rattle.qh_lattice.specs.steps.Rows.{along_row, matrix_of, shift_of, times}
-use Rattle.qh_model.proofs.Common.{ℕ, ◌≡◌, ◌∙◌, ◌<◌, ◌≤◌, ◌+◌, ◌*◌, ◌^◌, refl, subst, sym, ap, arith, below_more, FitsSigned, true, List, [], ◌∷◌, ◌++◌}
+use Rattle.qh_model.proofs.Common.{ℕ, ◌≡◌, ◌∙◌, ◌<◌, ◌≤◌, ◌+◌, ◌*◌, ◌^◌, refl, sym, ap, arith, below_more, FitsSigned, true, List, [], ◌∷◌, ◌++◌}
 use Rattle.qh_model.proofs.Common.{get_or, length, get_or-append_seam, get_or_append_left, get_or_default, to_z-of_z, ints, fits_signed_from_abs, ℤ, pos, ◌+ℤ◌}
 use Rattle.qh_model.proofs.Common.{◌-ℤ◌, ◌*ℤ◌, ◌<ℤ◌, unsigned_abs, IsCoordinate, cross, vol, place, Vector, origin, dot, lt_z, mag, w32, w128, w64, to_z, of_z}
 use Rattle.qh_model.proofs.algebra.{Order.mul-pos, Ring.ring, Ring.Expr.var, Ring.Expr.con, Ring.Expr.add, Ring.Expr.sub as less, Ring.Expr.mul}
@@ -59,8 +59,7 @@ scaled-determinant k l m a b c =
 -- rows with a determinant above 0 have one above 0 at their scales
 pub rows_oriented : (a b c : Row) → pos 0 <ℤ vol origin a.by b.by c.by → pos 0 <ℤ determinant (matrix_of a b c)
 rows_oriented a b c h =
-    subst (λ v. pos 0 <ℤ v) (sym (scaled-determinant a.scale b.scale c.scale a.by b.by c.by))
-    (mul-pos a.scale _ a.above (mul-pos b.scale _ b.above (mul-pos c.scale _ c.above h)))
+    rw (scaled-determinant a.scale b.scale c.scale a.by b.by c.by) (mul-pos a.scale _ a.above (mul-pos b.scale _ b.above (mul-pos c.scale _ c.above h)))
 
 -- the images of the points so far, and one more
 pub one_more : (m : Matrix) (s : Vector) (pts images : List Vector) (n : ℕ) (q : Vector) → length images ≡ n

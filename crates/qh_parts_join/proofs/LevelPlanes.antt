@@ -24,10 +24,7 @@ module _ (pts : List Vector) (plane : PlaneValue) where
       ]
 
       back : (l : ℕ) → In l (a ++ b) × (height plane (place pts l) ≡ pos 0) → In l (f ++ g)
-      back l m = in_append f g l (elim (of_append a b l m.0) [
-        | inl i ↦ inl ((x.members l).1 (i, m.1))
-        | inr i ↦ inr ((y.members l).1 (i, m.1))
-      ])
+      back l m = in_append f g l (elim (of_append a b l m.0) [ inl i ↦ inl ((x.members l).1 (i, m.1)) | inr i ↦ inr ((y.members l).1 (i, m.1)) ])
 
   -- one more id is in the plane
   pub level_on : (a f : List ℕ) (l : ℕ) → AreLevel pts a plane f → height plane (place pts l) ≡ pos 0
@@ -61,10 +58,7 @@ module _ (pts : List Vector) (plane : PlaneValue) where
       there k m = let h = (x.members k).0 m in (in_append a (l ∷ []) k (inl h.0), h.1)
 
       back : (k : ℕ) → In k (a ++ l ∷ []) × (height plane (place pts k) ≡ pos 0) → In k f
-      back k m = elim (of_append a (l ∷ []) k m.0) [
-        | inl i ↦ (x.members k).1 (i, m.1)
-        | inr i ↦ absurd (less_differ _ _ (under k i) m.1)
-      ]
+      back k m = elim (of_append a (l ∷ []) k m.0) [ inl i ↦ (x.members k).1 (i, m.1) | inr i ↦ absurd (less_differ _ _ (under k i) m.1) ]
 
   -- the same ids in another list
   pub level_for : (a b f g : List ℕ) → AreLevel pts a plane f → ((l : ℕ) → In l a ↔ In l b) → ((l : ℕ) → In l g ↔ In l f)

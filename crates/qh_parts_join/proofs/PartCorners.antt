@@ -24,10 +24,7 @@ module _ (pts : List Vector) (ids shared kept : List ℕ) (parts : List Part) (a
   extremes l x =
       let (p, i, h) = of_flat_map ids_in parts l ((all l).1 x.0) in
       let (f, live, k) = extremes_are_kept (place pts) ids p.ids.items (surface_of (named p.surface)) (part p i).finished (part_inside p i) l x h in
-      (members l).1 (elim ((part p i).corners f live l k) [
-        | inl o ↦ inl (in_flat_map own_in parts p l i o)
-        | inr s ↦ inr s
-      ])
+      (members l).1 (elim ((part p i).corners f live l k) [ inl o ↦ inl (in_flat_map own_in parts p l i o) | inr s ↦ inr s ])
 
   pub are_kept : AreKept (place pts) ids kept
   are_kept = record { inside = inside; extremes = extremes }

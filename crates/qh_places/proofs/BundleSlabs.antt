@@ -1,7 +1,7 @@
 -- A bundle of planes is above a block if the sum of the bounds of its rest and its share is below the depth.
-use Rattle.qh_model.proofs.Common.{◌≡◌, ◌∙◌, ap, ℕ, ◌<◌, refl, sym, arith, subst, [], ◌∷◌, ints, by_lt_z, ℤ, pos, ◌+ℤ◌, ◌-ℤ◌, ◌*ℤ◌, ◌<ℤ◌, ◌≤ℤ◌, Vector, minus}
-use Rattle.qh_model.proofs.{Common.dot, algebra.Integers.mul_comm, algebra.Order.mul-le, algebra.Order.mul-nonneg, algebra.Order.positive_le}
-use Rattle.qh_model.proofs.algebra.Ring.{Expr, ring, Expr.var, Expr.add, Expr.sub as less, Expr.mul}
+use Rattle.qh_model.proofs.Common.{◌≡◌, ◌∙◌, ap, ℕ, ◌<◌, refl, arith, subst, [], ◌∷◌, ints, by_lt_z, ℤ, pos, ◌+ℤ◌, ◌-ℤ◌, ◌*ℤ◌, ◌<ℤ◌, ◌≤ℤ◌, Vector, minus, dot}
+use Rattle.qh_model.proofs.algebra.{Integers.mul_comm, Order.mul-le, Order.mul-nonneg, Order.positive_le, Ring.Expr, Ring.ring}
+use Rattle.qh_model.proofs.algebra.Ring.Expr.{var, add, sub as less, mul}
 use Rattle.qh_model.proofs.algebra.VectorIdentities.{VE, vec, subE, dotE, put}
 use Rattle.qh_places.specs.{contract.Bundles.taken, contract.Bundles.IsInSpans, contract.Bundles.IsOfBundle, declared.bundles.Bundle.Bundle}
 use Rattle.qh_places.specs.{declared.slabs.Block.Block, steps.Boxes.IsWithin, steps.Slabs.vector_of, steps.Slabs.less_times, steps.Slabs.IsInBlock}
@@ -54,7 +54,7 @@ block_is_below b block k share rest es er total plane of p in_block =
     first =
         let less_le : (x y z : ℤ) → x ≤ℤ y → (x -ℤ z) ≤ℤ (y -ℤ z) = λ x y z l. omega (arith, ints) in
         let low = in_block.low in
-        subst (λ s. (pos k *ℤ (dot m p -ℤ dot m b.origin)) ≤ℤ s) (sym es)
+        rw es
         (mul-le (pos k) (dot m p -ℤ dot m b.origin) (block.reach -ℤ dot m b.origin) (omega (arith, ints)) (less_le (dot m p) block.reach (dot m b.origin) low))
 
     second : dot (less_times (taken plane.normal of.times) k m) (minus p b.origin) ≤ℤ rest

@@ -49,10 +49,7 @@ module _ (points : List Vector) (ids : List ℕ) (plane : PlaneValue) where
       → rise_at points plane k <ℤ pos 0 → HasLooked points ids plane from (k + 1) old found
   found_under from k old found h u = record {
     below = λ j f m n. elim (cases_lt j k) [ inl x ↦ h.below j f x n | inr x ↦ less_le _ _ (under j m x) ];
-    lists = λ j f m n z. elim (cases_lt j k) [
-      | inl x ↦ h.lists j f x n z
-      | inr x ↦ absurd (less_differ _ _ (under j m x) z)
-    ];
+    lists = λ j f m n z. elim (cases_lt j k) [ inl x ↦ h.lists j f x n z | inr x ↦ absurd (less_differ _ _ (under j m x) z) ];
     kept = h.kept;
     only = h.only;
   }
@@ -65,8 +62,7 @@ module _ (points : List Vector) (ids : List ℕ) (plane : PlaneValue) where
       → k < length points → k < length ids → p ≡ get_or points k p → i ≡ get_or ids k i → height plane p ≡ pos 0
       → HasLooked points ids plane from (k + 1) old (found ++ i ∷ [])
   look_on from k p i old found h l m e f z =
-      subst (λ j. HasLooked points ids plane from (k + 1) old (found ++ j ∷ [])) (sym (f ∙ get_or_default ids k i 0 m))
-      (found_on from k old found h l (subst (λ q. height plane q ≡ pos 0) (e ∙ get_or_default points k p origin l) z))
+      rw (f ∙ get_or_default ids k i 0 m) (found_on from k old found h l (subst (λ q. height plane q ≡ pos 0) (e ∙ get_or_default points k p origin l) z))
 
   pub look_under : (from k : ℕ) (p : Vector) (old found : List ℕ) → HasLooked points ids plane from k old found
       → k < length points → p ≡ get_or points k p → ¬ (pos 0 <ℤ height plane p) → ¬ (height plane p ≡ pos 0) → HasLooked points ids plane from (k + 1) old found
@@ -136,10 +132,7 @@ module _ (pts : List Vector) (ids : List ℕ) (p : Places) (are : ArePlaces pts 
   pub level_of_near : (near : Near) (found : List ℕ) → IsNear p.points.items near → IsOfBundle near.bundle plane
       → HasSeen p.points.items p.ids.items plane near.starts.items (length near.starts.items) found → AreLevel pts ids plane found
   level_of_near near found n o h = level_of found
-      (λ k l. elim (begun near.starts.items (length near.starts.items) k) [
-        | inl b ↦ h.below k b l
-        | inr b ↦ less_le _ _ (n plane o k l l b)
-      ])
+      (λ k l. elim (begun near.starts.items (length near.starts.items) k) [ inl b ↦ h.below k b l | inr b ↦ less_le _ _ (n plane o k l l b) ])
       (λ k l e. elim (begun near.starts.items (length near.starts.items) k) [
         | inl b ↦ h.lists k b l e
         | inr b ↦ absurd (less_differ _ _ (n plane o k l l b) e)

@@ -43,10 +43,7 @@ module _ (P : ℕ → Type 0) (fs : List StoredFacet) where
     joined_further = record {
       len = length-set marks g true;
       kept = kept;
-      only = λ f h. elim (cases_eq f g) [
-        | inl e ↦ inr (in_append vs (g ∷ []) f (inr (inl e)))
-        | inr n ↦ inl (sym (other f n) ∙ h)
-      ];
+      only = λ f h. elim (cases_eq f g) [ inl e ↦ inr (in_append vs (g ∷ []) f (inr (inl e))) | inr n ↦ inl (sym (other f n) ∙ h) ];
       longer = (let c = length_push vs g in omega arith);
       same = get_or_append_left vs (g ∷ []) 0;
     }
@@ -79,10 +76,7 @@ pub further_trans : (a b c : List Bool) (us vs ws : List ℕ) → IsFurther a b 
 further_trans a b c us vs ws p q = record {
   len = q.len ∙ p.len;
   kept = λ f h. q.kept f (p.kept f h);
-  only = λ f h. elim (q.only f h) [
-    | inl m ↦ elim (p.only f m) [ inl o ↦ inl o | inr i ↦ inr (found_further b c vs ws q f i) ]
-    | inr i ↦ inr i
-  ];
+  only = λ f h. elim (q.only f h) [ inl m ↦ elim (p.only f m) [ inl o ↦ inl o | inr i ↦ inr (found_further b c vs ws q f i) ] | inr i ↦ inr i ];
   longer = (let l = p.longer in let m = q.longer in omega arith);
   same = λ j h. q.same j (let l = p.longer in omega arith) ∙ p.same j h;
 }

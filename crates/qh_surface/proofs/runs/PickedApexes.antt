@@ -66,8 +66,7 @@ module _ {s : RunState} (k : IsUnderWay s) (rest : List ℕ) (f : ℕ) (is : IsP
       → IsPicked (with_waiting s (taken s.sets f) rest) f a
   picked {a} e l = record {
     apex = let h = k.positions in omega arith;
-    before = subst (λ (v : OutsideValue). IsUnderWay (with_waiting s v (f ∷ rest)))
-        (sym (put_back s.sets f a (All-head (λ g. g < length s.sets.sets) f rest range) e)) (with_pending (f ∷ rest) k range waits);
+    before = rw (put_back s.sets f a (All-head (λ g. g < length s.sets.sets) f rest range) e) (with_pending (f ∷ rest) k range waits);
   }
 
 -- the facts without the apex and its facet

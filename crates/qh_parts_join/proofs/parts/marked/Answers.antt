@@ -20,7 +20,4 @@ loop-id-preserved c =
 pub returns-clause-all : goal.returns-clause-all
 returns-clause-all c = λ l i m.
     elim (each_listed (λ j. In j c.loop-id.found.items ⊎ (¬ (mark_at c.args.marks.now j ≡ true))) c.args.ids.now
-    c.loop-id.id-index (omega arith) c.loop-id.invariant.each l i) [
-      | inl found ↦ found
-      | inr never ↦ absurd (never m)
-    ]
+    c.loop-id.id-index (omega arith) c.loop-id.invariant.each l i) [ inl found ↦ found | inr never ↦ absurd (never m) ]

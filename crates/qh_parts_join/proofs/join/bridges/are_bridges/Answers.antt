@@ -1,5 +1,5 @@
 -- If the polygons of each piece are faces, all polygons are.
-use Rattle.qh_model.proofs.Common.{◌<◌, length, refl, subst, arith, true, IfOk-weaker, Ok, IfOk, IsTrue, All}
+use Rattle.qh_model.proofs.Common.{◌<◌, length, refl, arith, true, IfOk-weaker, Ok}
 use Rattle.{qh_places.proofs.Chunks.chunk_all, qh_parts_join.specs.steps.Bridges.IsBridge}
 use Rattle.qh_parts_join.proofs.join.bridges.are_bridges.Goals as goal
 
@@ -11,6 +11,5 @@ returns g c = IfOk-weaker c.are_all.result _ _ (λ b all yes.
     let e = (c.in_ok-answers.ensures.each n (Ok true) inside).1 in (
       e.argument.now,
       e.argument_is,
-      (subst (λ r. IfOk r (λ yes. IsTrue yes → All (IsBridge c.args.kept.pts.now c.args.kept.corners.now c.args.kept.shared.now) e.argument.now))
-          (each n (Ok true) inside) e.call) refl,
+      (rw (each n (Ok true) inside) at e.call) refl,
     ))) c.are_all.ensures
