@@ -61,5 +61,4 @@ pub held_is_below : (planes : List PlaneValue) (c : Cell) (p : Vector) → IsCel
     → height plane p <ℤ pos 0
 held_is_below planes c p cell held plane i =
     let at = number_of planes plane i in
-    subst (λ q. height q p <ℤ pos 0) at.2
-    (⊎_elim (λ below. below p held.1) (λ near. All-In (λ k. height (numbered planes k) p <ℤ pos 0) c.near.items at.0 held.2 near) (cell at.0 at.1))
+    rw at.2 at (⊎_elim (λ below. below p held.1) (λ near. All-In (λ k. height (numbered planes k) p <ℤ pos 0) c.near.items at.0 held.2 near) (cell at.0 at.1))

@@ -1,8 +1,8 @@
 -- The first three corners of a face are a supporting triple with this face.
-use Rattle.qh_model.proofs.Common.{ℕ, ◌≡◌, ◌≢◌, inl, inr, refl, sym, subst, List, [], ◌∷◌, pos, ◌<ℤ◌, IsFace, HasDistinctPoints, Vector, cross, vol, In}
-use Rattle.qh_model.{proofs.Common.Members, proofs.Common.IsSupportingTriple, proofs.Common.IsFacePolygon, specs.headline.Predicates.left}
-use Rattle.qh_model.proofs.{algebra.VectorIdentities.left-turn, polygons.Fans.corners_support, polygons.Fans.face_fan, polygons.PlaneTurns.level_along}
-use Rattle.{qh_model.proofs.polygons.Edges.seen_from, qh_check.proofs.Pieces.one_beginning, qh_check.specs.contract.Pieces.BeginsWith}
+use Rattle.qh_model.proofs.Common.{ℕ, ◌≡◌, ◌≢◌, inl, inr, refl, List, [], ◌∷◌, pos, ◌<ℤ◌, IsFace, HasDistinctPoints, Vector, cross, vol, In, Members}
+use Rattle.qh_model.{proofs.Common.IsSupportingTriple, proofs.Common.IsFacePolygon, specs.headline.Predicates.left, proofs.algebra.VectorIdentities.left-turn}
+use Rattle.qh_model.proofs.polygons.{Fans.corners_support, Fans.face_fan, PlaneTurns.level_along, Edges.seen_from}
+use Rattle.qh_check.{proofs.Pieces.one_beginning, specs.contract.Pieces.BeginsWith}
 
 -- the three are a supporting triple whose polygon is q
 abbrev pub HasFace : (ℕ → Vector) → (ℕ → Type 0) → List ℕ → (i j k : ℕ) → Type 0
@@ -38,9 +38,7 @@ module _ (at : ℕ → Vector) (ids : List ℕ) (d : HasDistinctPoints at (Membe
       on l m = ((p.members l).0 m).1
 
       turn : pos 0 <ℤ left (cross (at u) (at v) (at w)) (at i) (at j) (at k)
-      turn =
-          subst (λ x. pos 0 <ℤ x) (sym (left-turn (cross (at u) (at v) (at w)) (at i) (at j) (at k)))
-          (p.round j k (inr (inl (refl, refl))) i (inl refl) not_j not_k)
+      turn = rw (left-turn (cross (at u) (at v) (at w)) (at i) (at j) (at k)) (p.round j k (inr (inl (refl, refl))) i (inl refl) not_j not_k)
 
       own : IsFacePolygon at (Members ids) i j k (i ∷ j ∷ k ∷ r)
       own =

@@ -2,8 +2,8 @@
 use Rattle.qh_check.proofs.{FirstCorners.HasFace, FirstCorners.corners_at, MetBehind.round_has, Verdicts.faces_of}
 use Rattle.qh_check.specs.{contract.Pieces.IsMetRound, contract.Pieces.IsPiece, declared.findings.Finding.Finding}
 use Rattle.qh_check.specs.steps.{Faces.IsFaceOf, Findings.IsFound, Findings.IsSeen, HullFaces.IsPieceAmong, HullFaces.TurnsAlike}
-use Rattle.qh_model.proofs.Common.{ℕ, ◌≡◌, ◌≢◌, ap, inl, inr, refl, sym, subst, ◌∙◌, List, []}
-use Rattle.qh_model.proofs.Common.{get_or, All, pos, ◌<ℤ◌, ◌≤ℤ◌, Option, Some, None, MatchOption, is_gt, IsFace, HasDistinctPoints, IsIdSet, BodyValue, IsBody}
+use Rattle.qh_model.proofs.Common.{ℕ, ◌≡◌, ◌≢◌, ap, inl, inr, refl, sym, subst, ◌∙◌, List}
+use Rattle.qh_model.proofs.Common.{[], get_or, All, pos, ◌<ℤ◌, Option, Some, None, MatchOption, is_gt, IsFace, HasDistinctPoints, IsIdSet, BodyValue, IsBody}
 use Rattle.qh_model.proofs.Common.{IsDimension, Vector, origin, dot, cross, place, vol, In, Members, IsSupportingTriple, AreFaces, ArePolygons, IsFacePolygon}
 use Rattle.qh_model.proofs.Members.{All-In, All-of, In-get_or}
 use Rattle.qh_model.proofs.algebra.{Order.cancel-nonpos, Order.mul-nonneg_nonpos, Order.positive_le, Signs.less_differ, VectorIdentities.in_line-left}
@@ -58,8 +58,7 @@ module _ (pts : List Vector) (ids : List ℕ) (d : HasDistinctPoints (place pts)
     has_k = (corner t.k has_k).0;
     area = λ e. less_differ (pos 0) (left n (at t.i) (at t.j) (at t.k)) turn (sym (in_line-left n (at t.i) (at t.j) (at t.k) e));
     supports = λ l a. cancel-nonpos (dot n n) (vol (at t.i) (at t.j) (at t.k) (at l)) (square-positive n plane.0.area)
-        (subst (λ x. x ≤ℤ pos 0)
-        (sym (level_volume (at t.u) (at t.v) (at t.w) (at t.i) (at t.j) (at t.k) (at l) (corner t.i has_i).1 (corner t.j has_j).1 (corner t.k has_k).1))
+        (rw (level_volume (at t.u) (at t.v) (at t.w) (at t.i) (at t.j) (at t.k) (at l) (corner t.i has_i).1 (corner t.j has_j).1 (corner t.k has_k).1)
         (mul-nonneg_nonpos (left n (at t.i) (at t.j) (at t.k)) (vol (at t.u) (at t.v) (at t.w) (at l)) (positive_le _ turn) (plane.0.supports l a)));
   }
 

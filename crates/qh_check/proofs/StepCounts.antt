@@ -41,11 +41,8 @@ same_ends [] [] e h = refl
 same_ends [] (y ∷ ys) e h = absurd (omega (arith, e))
 same_ends (x ∷ xs) [] e h = absurd (omega (arith, e))
 same_ends (x ∷ xs) (y ∷ ys) e h =
-    join (h 0 (omega arith)) (same_ends xs ys (omega (arith, e)) (λ k l. h (suc k) (omega (arith, l))))
-  where
-    join : ends (step_in x) ≡ ends (step_in y) → map ends (map step_in xs) ≡ map ends (map step_in ys)
-        → map ends (map step_in (x ∷ xs)) ≡ map ends (map step_in (y ∷ ys))
-    join p q = cc (p, q)
+    let first : ends (step_in x) ≡ ends (step_in y) = h 0 (omega arith) in
+    let others = same_ends xs ys (omega (arith, e)) (λ k l. h (suc k) (omega (arith, l))) in cc (first, others)
 
 -- ---- keys of edges that rise
 -- a rising list without its first element rises
@@ -112,26 +109,20 @@ module _ (ts : List Triple) (up down : List ℕ) (steps : AreSteps ts up down) w
     pub closes : (u v : ℕ) → count_by (is_edge (u, v)) (map ends all) ≡ count_by (is_edge (v, u)) (map ends all)
     closes u v = elim (cases_lt u v) [
       | inl l ↦ ahead u v l
-      | inr r ↦ elim (cases_lt v u) [ inl l ↦ sym (ahead v u l) | inr s ↦ level r s ]
+      | inr r ↦ elim (cases_lt v u) [ inl l ↦ sym (ahead v u l) | inr s ↦ (let e : u ≡ v = omega (arith, r, s) in rw e refl) ]
     ]
       where
         ahead : (u v : ℕ) → u < v → count_by (is_edge (u, v)) (map ends all) ≡ count_by (is_edge (v, u)) (map ends all)
         ahead u v l = count_up u v l ∙ ap (count_by (is_edge (u, v))) same ∙ sym (count_down u v l)
 
-        level : v ≤ u → u ≤ v → count_by (is_edge (u, v)) (map ends all) ≡ count_by (is_edge (v, u)) (map ends all)
-        level r s =
-            let e : u ≡ v = omega (arith, r, s) in
-            subst (λ w. count_by (is_edge (u, w)) (map ends all) ≡ count_by (is_edge (w, u)) (map ends all)) e refl
-
   -- each step is taken at most once
   pub once : EdgesRise up → (u v : ℕ) → u < v → count_by (is_edge (u, v)) (map ends all) ≤ 1
   once rise u v l = subst (λ (n : ℕ). n ≤ 1) (sym told) (once_rising (λ key. on u v (step_in key)) (u * ROOM + v) tells up rise)
     where
-      whole : (n : ℕ) → n / ROOM * ROOM + n % ROOM ≡ n
-      whole n = omega arith
-
       tells : (key : ℕ) → on u v (step_in key) ≡ true → key / ROOM ≡ u * ROOM + v
-      tells key e = sym (whole (key / ROOM)) ∙ ap (λ (p : ℕ × ℕ). p.0 * ROOM + p.1) (sym (edge_tests.same (u, v) (ends (step_in key)) e))
+      tells key e =
+          let whole : key / ROOM / ROOM * ROOM + key / ROOM % ROOM ≡ key / ROOM = omega arith in
+          sym whole ∙ ap (λ (p : ℕ × ℕ). p.0 * ROOM + p.1) (sym (edge_tests.same (u, v) (ends (step_in key)) e))
 
       told : count_by (is_edge (u, v)) (map ends all) ≡ count (λ key. on u v (step_in key)) up
       told = count_up u v l ∙ count-map ends (is_edge (u, v)) (map step_in up) ∙ count-map step_in (on u v) up

@@ -56,8 +56,7 @@ module _ (ts : List Triple) (up down : List ℕ) (steps : AreSteps ts up down) w
   ups_below n low = All-of (λ key. IsBelow n (step_in key)) up (λ key m. turns_below n ts low (step_in key) (of_ups (step_in key) (in_map step_in up key m)).0)
 
   pub downs_below : (n : ℕ) → All (IsBelow n) ts → All (λ key. IsBelow n (step_in key)) down
-  downs_below n low = All-of (λ key. IsBelow n (step_in key)) down (λ key m.
+  downs_below n low =
+      let turned : (key : ℕ) → IsBelow n (back (step_in key)) → IsBelow n (step_in key) = λ key b. record { i = b.j; j = b.i; k = b.k } in
+      All-of (λ key. IsBelow n (step_in key)) down (λ key m.
       turned key (turns_below n ts low (back (step_in key)) (of_downs (step_in key) (in_map step_in down key m)).0))
-    where
-      turned : (key : ℕ) → IsBelow n (back (step_in key)) → IsBelow n (step_in key)
-      turned key b = record { i = b.j; j = b.i; k = b.k }

@@ -39,10 +39,7 @@ module _ (pts : List Vector) (ids : List ℕ) (qs : List (List ℕ)) (set : IsId
   is_right some faces closed once = record { right = (λ e. claim, λ p. refl); reason = claim }
     where
       claim : IsHullSurface at (Members ids) qs
-      claim = inl (
-        solid,
-        record { some = some; pieces = λ q m. All-In (IsFaceOf pts ids) qs q faces m set.distinct; closed = closed; once = once },
-      )
+      claim = inl (solid, record { some = some; pieces = λ q m. All-In (IsFaceOf pts ids) qs q faces m set.distinct; closed = closed; once = once })
 
 -- ---- sets that are not solid, whose hull is computed
 module _ (pts : List Vector) (ids : List ℕ) (qs : List (List ℕ)) (flat : ¬ (IsDimension (place pts) (Members ids) 3)) where

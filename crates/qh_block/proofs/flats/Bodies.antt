@@ -35,11 +35,9 @@ module _ (pts : List Vector) (ids : List ℕ) (b : BodyValue) where
     -- the hull of one id
     pub point_is_body : IsDimension (place pts) (Members ids) 0 → IsFlatBody 0 (i ∷ []) 0 b → IsRight
     point_is_body d f =
+        let extreme : IsExtreme i = greatest_is_extreme (place pts) ids origin i member (λ j o. absurd (o.1 (alone j o.0))) in
         flat_is_body 0 (i ∷ []) 0 f d (λ l. (λ m. ⊎_elim (λ e. rw e extreme) (λ n. absurd n) m, λ x. inl (alone l x.0)))
         (inr (inr (inr (refl, (i ∷ [], record { i = i; has_i = member; is = refl }, refl))))) (no_edges i)
-      where
-        extreme : IsExtreme i
-        extreme = greatest_is_extreme (place pts) ids origin i member (λ j o. absurd (o.1 (alone j o.0)))
 
   -- ---- two ids
   -- the hull of two ids, with the lower first

@@ -7,7 +7,7 @@ pub loop-part-init : goal.loop-part-init
 loop-part-init c =
     let pts = c.args.set.pts.now in let cs = HoldsPoint c.args.columns.now in
     let zero : 0 * c.args.size ≡ 0 = omega arith in
-    subst (λ (ys : List ℕ). KeepsExtremes pts cs ys c.new-kept.result.items) (sym (ap (λ n. take n c.args.set.ids.now) zero))
+    rw (ap (λ n. take n c.args.set.ids.now) zero)
     (subst (λ (xs : List ℕ). KeepsExtremes pts cs [] xs) (sym c.new-kept.ensures.items) (all_kept pts cs []))
 
 pub loop-part-preserved : goal.loop-part-preserved
@@ -20,13 +20,10 @@ loop-part-preserved c =
     c.in_ok-extend_from_slice-in-Ok.ensures.items ∙ ap (λ (v : List ℕ). c.loop-part.kept.items ++ v) c.deref.ensures.value in
     let next : i * size + size ≡ (i + 1) * size = omega arith in
     let both = both_kept pts cs (take (i * size) ids) back c.loop-part.kept.items c.in-Ok.ids.items c.loop-part.invariant part in
-    subst (λ (v : List ℕ). KeepsExtremes pts cs (take ((i + 1) * size) ids) v) (sym items)
-    (subst (λ (v : List ℕ). KeepsExtremes pts cs v (c.loop-part.kept.items ++ c.in-Ok.ids.items))
-    (sym (take-add (i * size) size ids) ∙ ap (λ n. take n ids) next) both)
+    rw items (rw (sym (take-add (i * size) size ids) ∙ ap (λ n. take n ids) next) at both)
 
 pub returns : goal.returns
 returns c =
     let more : length c.args.parts.now * c.args.size ≤ c.loop-part.part-index * c.args.size =
     mul-le-mul_right c.args.size c.loop-part-test.false in
-    subst (λ (v : List ℕ). KeepsExtremes c.args.set.pts.now (HoldsPoint c.args.columns.now) v c.loop-part.kept.items)
-    (take_all (c.loop-part.part-index * c.args.size) c.args.set.ids.now (omega (arith, more, c.requires.all))) c.loop-part.invariant
+    rw (take_all (c.loop-part.part-index * c.args.size) c.args.set.ids.now (omega (arith, more, c.requires.all))) at c.loop-part.invariant
