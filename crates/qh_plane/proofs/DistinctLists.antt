@@ -142,7 +142,8 @@ module _ (pts : List Vector) (room : ℕ) (code : ℕ → ℕ) (keys : List ℕ)
         squeeze a b c g h e = omega (arith, g, h, e)
 
         from_last : (n : ℕ) → n + 1 ≡ q.0 → In (get_or keys q.0 0 % room) ids
-        from_last n e = rw e at (told.has n within within (rw e (squeeze _ _ _ (code_le room _ _ (k.rising p.0 n 0 (omega (arith, before, e)) (omega (arith, within))))
+        from_last n e = rw e at (told.has n within within (rw e (squeeze _ _ _
+            (code_le room _ _ (k.rising p.0 n 0 (omega (arith, before, e)) (omega (arith, within))))
             (code_le room _ _ (k.rising n q.0 0 (omega (arith, e)) q.1.within)) (p.1.place_told ∙ codes ∙ sym q.1.place_told))))
           where
             within : n + 1 < length keys

@@ -1,5 +1,5 @@
-use Rattle.std.proofs.Common.{◌≡◌, ◌≤◌, ◌<◌, ◌+◌, ◌++◌, ◌∙◌, ℕ, List, arith, ap, length, length-append, length-take, take, drop, refl, sym, append_assoc, Ok}
-use Rattle.std.proofs.{Common.Err, Common.inl, Common.inr, Math.Seq.take-append_seam, lemmas.Bool.cases_lt, lemmas.Result.err_from_is_err_and}
+use Rattle.std.proofs.Common.{◌≡◌, ◌≤◌, ◌<◌, ◌+◌, ◌++◌, ◌∙◌, ℕ, List, arith, ap, length, length-append, length-take, take, drop, refl, sym, append_assoc, Err}
+use Rattle.std.proofs.{Common.inl, Common.inr, Math.Seq.take-append_seam, lemmas.Bool.cases_lt, lemmas.Result.err_from_is_err_and}
 use Rattle.{qh_model.specs.declared.limits.TheConstants.BYTE_LIMIT, qh_read.proofs.SourceLemmas.Consumes-append, qh_read.specs.contract.ReadFaults.read_fault}
 use Rattle.qh_read.specs.{contract.ReadFaults.IsTextFault, declared.fault.FeedFault.FeedFault, declared.whole.TheConstants.PIECE_LENGTH, steps.Sources.Stops}
 use Rattle.qh_model.specs.declared.read_fault.ReadFault.TheVariants as faults
@@ -20,9 +20,6 @@ no_device refusals.Memory h = cc
 no_text : (f : FeedFault) → IsTextFault (read_fault f) → ⊥
 no_text refusals.Big t = t.2 refl
 no_text refusals.Memory t = t.0 refl
-
-not_refused : (x : Unit {0}) (f : FeedFault) → Ok x ≡ Err f → ⊥
-not_refused x f h = cc
 
 -- the content written back to a vector by a slice of its length
 written : (n : ℕ) (new rest : List ℕ) → length new ≡ n → take n (new ++ rest) ≡ new
@@ -47,7 +44,7 @@ loop-source-preserved g c =
       steady = c.in_ok-count.ensures.kept ∙ c.loop-source.invariant.steady;
       buffer = c.loop-source.invariant.buffer;
       small = elim (cases_lt BYTE_LIMIT (c.loop-source.reader.count + length (take c.in_ok-count.count c.deref.result.now))) [
-        | inl passed ↦ absurd (not_refused _ _ (c.in_ok-feed.ensures.big.1 passed))
+        | inl passed ↦ (let refused = c.in_ok-feed.ensures.big.1 passed in cc)
         | inr h ↦ omega (arith, h, c.in_ok-feed.ensures.count)
       ];
     }
