@@ -76,8 +76,7 @@ module _ (pts : List Vector) (offsets corners : List ℕ) (v : Verdict) (is : Is
       let named : AreNamedFaces pts t.ids pts is.faces h.polygons =
       subst (λ xs. AreNamedFaces pts xs pts is.faces h.polygons) ids (subst (λ fs. AreNamedFaces pts h.ids pts fs h.polygons) faces h.named) in
       let polygons = one_list pts t.ids pts (distinct_apart pts t.ids t.distinct) is.faces h.polygons t.polygons named t.same in
-      ap Told (t.right.1 (subst (λ qs. IsHullSurface (place pts) (Members t.ids) qs) polygons
-      (subst (λ xs. IsHullSurface (place pts) (Members xs) h.polygons) ids h.surface)))
+      ap Told (t.right.1 (rw polygons at (subst (λ xs. IsHullSurface (place pts) (Members xs) h.polygons) ids h.surface)))
 
   pub right_verdict : (v.kind ≡ QCONVEX_RIGHT) ↔ AreHullFaces pts offsets corners
   right_verdict = (

@@ -48,9 +48,7 @@ fits_part starts count answers extremes offsets corners are room i h =
 -- equal parts have the same hull
 same_hull : (pts : List Vector) (a : SetAnswer) (e e' f o o' p c c' d : List ℕ) → e' ≡ f → o' ≡ p → c' ≡ d
     → IsSetHull pts a e f o p c d → IsSetHull pts a e e' o o' c c'
-same_hull pts a e e' f o o' p c c' d se so sc h =
-    subst (λ t. IsSetHull pts a e t o o' c c') (sym se)
-    (subst (λ t. IsSetHull pts a e f o t c c') (sym so) (subst (λ t. IsSetHull pts a e f o p c t) (sym sc) h))
+same_hull pts a e e' f o o' p c c' d se so sc h = rw (se, so, sc) h
 
 same_before : (pts : List Vector) (a : SetAnswer) (e e' f o o' p c c' d : List ℕ) → e' ≡ e → o' ≡ o → c' ≡ c
     → IsSetHull pts a e' f o' p c' d → IsSetHull pts a e f o p c d
@@ -125,7 +123,7 @@ written_more pts starts count are i answers answers' e e' f o o' p c c' d a s be
     record {
       each = λ j other h. below_more (λ k. HasSetHull pts starts k (slice_index_or (slice_set answers' i a) k other) e f o p c d) i
           (λ k l. let ne : k ≢ i = omega arith in
-          subst (λ x. HasSetHull pts starts k x e f o p c d) (sym (get_or-set_other answers' i k a other ne))
+          rw (get_or-set_other answers' i k a other ne)
           (hull_stays pts starts count are e e' o o' c c' f p d k i (slice_index_or answers' k other) (so_far.each k other l) l (omega arith)
           he.front ho.front hc.front)) (subst (λ x. HasSetHull pts starts i x e f o p c d) (sym (get_or-set_same answers' i a other place)) now)
           j h;

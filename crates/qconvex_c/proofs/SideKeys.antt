@@ -18,7 +18,9 @@ module _ (low high : ℕ → ℕ) where
   -- one more side
   pub one_more : (s : ℕ) (keys keys' : List ℕ) → s < SIDE_ROOM → AreKeys s low high keys
       → (low s ≤ high s → keys' ≡ keys ++ key_of s ∷ []) → (high s < low s → keys' ≡ keys) → AreKeys (s + 1) low high keys'
-  one_more s keys keys' h are up down = dite (dec_le (low s) (high s))
+  one_more s keys keys' h are up down =
+      let below : (t : ℕ) → t < s + 1 → (t ≡ s) ⊎ (t < s) = λ t l. eq-or-lt_of_le (omega arith) in
+      dite (dec_le (low s) (high s))
       (λ r. subst (AreKeys (s + 1) low high) (sym (up r)) (record {
         each = All-push (IsKey (s + 1) low high) keys (key_of s) longer (own r);
         all = λ t l q. elim (below t l) [
@@ -29,15 +31,9 @@ module _ (low high : ℕ → ℕ) where
       }))
       (λ n. subst (AreKeys (s + 1) low high) (sym (down (omega arith))) (record {
         each = longer;
-        all = λ t l q. elim (below t l) [
-          | inl e ↦ absurd (n (subst (λ x. low x ≤ high x) e q))
-          | inr m ↦ are.all t m q
-        ];
+        all = λ t l q. elim (below t l) [ inl e ↦ absurd (n (subst (λ x. low x ≤ high x) e q)) | inr m ↦ are.all t m q ];
       }))
     where
-      below : (t : ℕ) → t < s + 1 → (t ≡ s) ⊎ (t < s)
-      below t l = eq-or-lt_of_le (omega arith)
-
       longer : All (IsKey (s + 1) low high) keys
       longer = All-weaker (IsKey s low high) (IsKey (s + 1) low high)
           (λ key k. (record { side = omega (arith, k.side); rises = k.rises; ends = k.ends })) keys are.each
@@ -120,10 +116,7 @@ module _ (corners : List ℕ) (few : length corners / 3 ≤ 2 * POINT_LIMIT) (wi
         → AreNeighbors corners new
     both_joined old mid new a b s h = dite (dec_le (from s) (to s))
         (λ r. (let (k, l, side, _) = position_of from to sides up ups (omega arith) s h r in
-        elim (b.others s) [
-          | inl e ↦ subst (IsNeighbor corners s) (sym e) (by_up k l side)
-          | inr (m, i, f) ↦ by_down m i f
-        ]))
+        elim (b.others s) [ inl e ↦ subst (IsNeighbor corners s) (sym e) (by_up k l side) | inr (m, i, f) ↦ by_down m i f ]))
         (λ n. (let (k, l, side, _) = position_of to from sides down downs (omega arith) s h (omega arith) in by_down k l side))
       where
         by_up : (k : ℕ) → k < length up → slice_index up k % SIDE_ROOM ≡ s → IsNeighbor corners s (slice_index mid s)

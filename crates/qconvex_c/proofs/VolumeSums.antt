@@ -1,6 +1,6 @@
 -- Sums of volumes over triangles in one list, three corners at a time.
-use Rattle.qh_model.proofs.Common.{◌≡◌, ℕ, ◌+◌, ◌*◌, ◌/◌, ◌<◌, ℤ, pos, ◌+ℤ◌, suc, List, [], ◌∷◌, length, drop, get_or, refl, ap, sym, subst, ◌∙◌, arith, rules}
-use Rattle.qh_model.proofs.Common.{drop-cons, length-drop, +ℤ_assoc, w128, FitsSigned, vol, Vector}
+use Rattle.qh_model.proofs.Common.{◌≡◌, ℕ, ◌+◌, ◌*◌, ◌/◌, ◌<◌, ℤ, pos, ◌+ℤ◌, suc, List, [], ◌∷◌, length}
+use Rattle.qh_model.proofs.Common.{drop, get_or, refl, ap, sym, subst, ◌∙◌, arith, rules, drop-cons, length-drop, +ℤ_assoc, w128, FitsSigned, vol, Vector}
 use Rattle.qconvex_c.specs.contract.Volumes.{six_volumes, PartialSumsFit}
 
 -- the three corners of triangle k come before those of the next ones
@@ -42,7 +42,5 @@ module _ (at : ℕ → Vector) (o : Vector) (xs : List ℕ) where
   pub sum_end : (k : ℕ) (total : ℤ) → k ≡ length xs / 3
       → total +ℤ six_volumes at o (drop (3 * k) xs) ≡ six_volumes at o xs → total ≡ six_volumes at o xs
   sum_end k total e so_far =
+      let add_nothing : (x : ℤ) → x +ℤ pos 0 ≡ x = λ x. search rules in
       sym (add_nothing total) ∙ ap (λ v. total +ℤ v) (sym (few_none at o (drop (3 * k) xs) (omega (arith, length-drop (3 * k) xs, e)))) ∙ so_far
-    where
-      add_nothing : (x : ℤ) → x +ℤ pos 0 ≡ x
-      add_nothing x = search rules

@@ -33,8 +33,7 @@ loop-u-preserved c =
     let w = slice_index_or t 2 c.index-next-2.result in
     let triangle : t ≡ (slice_index_or t 0 c.index-next-0.result) ∷ v ∷ w ∷ [] = three_of t _ _ _ (search rules) in record {
       grown = join_next (normal_of (place c.args.pts.now)) c.loop-u.components.items _ _ t _ _ c.in-Some.ensures.steps
-          (subst (λ q. c.push_normal.new.components.items ≡ c.loop-u.components.items ++ normal_of (place c.args.pts.now) q)
-          (sym triangle) (search rules)) c.loop-u.invariant.grown;
+          (rw triangle (search rules)) c.loop-u.invariant.grown;
       within = All-tail (AreIndices c.args.pts.now) _ _
           (subst (All (AreIndices c.args.pts.now)) c.in-Some.ensures.steps c.loop-u.invariant.within);
     }
