@@ -23,8 +23,7 @@ shared_indices {pts} {shared} {p} z = All-of (λ i. i < length pts) shared (λ l
 pub apart_at : (pts : List Vector) (parts : List Part) (stay : ℕ → Bool) (k j : ℕ) (p q d e : Part) → k < length parts → j < length parts
     → IsApart pts (get_or parts k p) stay (own_in (get_or parts j q)) → IsApart pts (get_or parts k d) stay (own_in (get_or parts j e))
 apart_at pts parts stay k j p q d e hk hj apart =
-    subst (λ x. IsApart pts x stay (own_in (get_or parts j e))) (get_or_default parts k p d hk)
-    (subst (λ x. IsApart pts (get_or parts k p) stay (own_in x)) (get_or_default parts j q e hj) apart)
+    rw (get_or_default parts k p d hk) at (subst (λ x. IsApart pts (get_or parts k p) stay (own_in x)) (get_or_default parts j q e hj) apart)
 
 module _ (pts : List Vector) (shared : List ℕ) (parts : List Part) (number : ℕ) (d : Part) (stay : ℕ → Bool)
     (are : All (IsPartOf pts shared) parts) (within : number < length parts) where
@@ -67,10 +66,7 @@ module _ (pts : List Vector) (shared : List ℕ) (parts : List Part) (number : �
           | inr (others, m, apart) ↦ apart.seam.ring f r l m
         ];
       };
-      ring = λ kept keeps g r l i. elim (split kept keeps l i) [
-        | inl own ↦ inl own
-        | inr (others, m, apart) ↦ inr (apart.ring g r l m)
-      ];
+      ring = λ kept keeps g r l i. elim (split kept keeps l i) [ inl own ↦ inl own | inr (others, m, apart) ↦ inr (apart.ring g r l m) ];
     }
 
   -- the set of a part, with the ids of all parts in a set of distinct points

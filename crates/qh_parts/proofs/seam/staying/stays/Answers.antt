@@ -16,8 +16,7 @@ pub loop-other-preserved : goal.loop-other-preserved
 loop-other-preserved c = λ j h d e. elim (cases_lt j c.loop-other.other) [
   | inl l ↦ c.loop-other.invariant j l d e
   | inr g ↦ (let same : c.loop-other.other ≡ j = omega (arith, g, h) in
-      subst (λ k. (k ≡ c.args.number) ⊎ IsApart c.args.set.pts.now (get_or c.args.set.parts.now c.args.number d)
-      (mark_at c.args.guess.stay.now) (own_in (get_or c.args.set.parts.now k e))) same (at_other d e))
+      rw same at (at_other d e))
 ]
   where
     within : c.loop-other.other < length c.args.set.parts.now
