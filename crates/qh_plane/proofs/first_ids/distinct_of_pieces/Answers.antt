@@ -16,9 +16,7 @@ look_at_piece-requires-clause-firsts c =
     c.loop-piece.invariant.begin c.saturating_add.ensures c.min-end.ensures in
     let found : IfSome (option_copied c.in_ok-ids.field-0) (λ (v : Vec ℕ Global). AreFirstIds pts (end_of pts size n) (end_of pts size (n + 1)) v.items) =
     rw c.in_ok-ids.ensures at (rw (sym c.piece-item.is) at (c.requires.pieces n c.piece-item.result c.loop-piece-test.true)) in
-    let firsts : AreFirstIds pts (end_of pts size n) (end_of pts size (n + 1)) c.in-Some.ids.now.items = rw c.in-Some.is at found in
-    rw c.loop-piece.invariant.begin
-    (rw next.0 (subst (AreFirstIds pts (end_of pts size n) (end_of pts size (n + 1))) (sym c.deref.ensures.value) firsts))
+    rw (c.loop-piece.invariant.begin, next.0, c.deref.ensures.value) (rw c.in-Some.is at found)
 
 pub loop-piece-preserved : goal.loop-piece-preserved
 loop-piece-preserved c =

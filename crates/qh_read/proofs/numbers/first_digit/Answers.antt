@@ -1,6 +1,5 @@
 use Rattle.std.proofs.Common.{arith, ◌≡◌, ◌<◌, ◌+◌, ◌-◌, ◌∙◌, ℕ, Bool, List, true, false, cond, drop, length, ap, subst, refl}
-use Rattle.std.{proofs.lemmas.Grind.common_steps, specs.Char.is_ascii_digit, specs.Prelude.get_or}
-use Rattle.qh_model.specs.declared.form.Form.{Form, TheVariants.Qhull, TheVariants.Off}
+use Rattle.{std.proofs.lemmas.Grind.common_steps, std.specs.Char.is_ascii_digit, std.specs.Prelude.get_or, qh_model.specs.declared.form.Form.Form}
 use Rattle.qh_read.specs.{contract.Holding.next_held, contract.Progress.Progress, steps.Numbers.quiet, steps.Numbers.IsBegun, steps.Signs.is_minus}
 use Rattle.qh_read.specs.declared.token.Token.TheVariants.{Empty, Sign, Digits}
 use Rattle.qh_read.proofs.{CursorLaws.step, numbers.first_digit.Goals.then-bytes-at-eq43, numbers.first_digit.Goals.else-bytes-at-eq43}
@@ -15,10 +14,7 @@ after_sign : (form : Form) (p : Progress) (line : ℕ) (minus : Bool) (d : ℕ) 
 after_sign form p line minus d h = grind (arith, common_steps)
 
 sign : (form : Form) (p : Progress) (line : ℕ) (minus : Bool) → next_held (quiet form p line Empty) (cond minus 45 43) ≡ quiet form p line (Sign minus)
-sign Qhull p line true = refl
-sign Qhull p line false = refl
-sign Off p line true = refl
-sign Off p line false = refl
+sign form p line minus = grind (arith, common_steps)
 
 -- a digit
 one : (bytes : List ℕ) (start : ℕ) (digit : ℕ) → start < length bytes → is_ascii_digit (get_or bytes start 0) ≡ true

@@ -8,8 +8,7 @@ pub loop-triangle-init : goal.loop-triangle-init
 loop-triangle-init c =
     let items = c.into_iter-triangle-iterator.ensures.into_iter_gives ∙ c.fan-triangle-items.ensures in record {
       grown = ap (λ ts. c.args.text.now.items ++ flat_map (face_by_numbers c.args.numbers.now) ts) items;
-      numbered = subst (All (AreNumbered c.args.numbers.now)) (sym items)
-          (triangles_all (HasNumber c.args.numbers.now) c.args.face.now c.requires);
+      numbered = subst (All (AreNumbered c.args.numbers.now)) (sym items) (triangles_all (HasNumber c.args.numbers.now) c.args.face.now c.requires);
     }
 
 pub push_face-requires-in-loop-triangle : goal.push_face-requires-in-loop-triangle
