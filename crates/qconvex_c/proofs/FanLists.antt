@@ -1,8 +1,7 @@
 -- The lists of fans: made face by face they equal those of all triangles, and each has three numbers for each triangle.
-use Rattle.qh_model.proofs.Common.{ℕ, ℤ, ◌≡◌, ◌*◌, ◌/◌, ◌<◌, List, [], ◌∷◌, ◌++◌, length, slice_index_or, take, drop, arith, ap, sym, subst, refl, ◌∙◌, ◌⊎◌}
-use Rattle.qh_model.proofs.Common.{inl, inr, flat_map-append, append_assoc, length-append, All, flat_map, IsBodyInOrder, face_triangles, AreIndices}
-use Rattle.qh_model.proofs.Common.{triangles_along, HullValue, IsHull, place, Vector}
-use Rattle.qh_model.proofs.Members.{All-of, All-In}
+use Rattle.qh_model.proofs.Common.{ℕ, ℤ, ◌≡◌, ◌*◌, ◌/◌, ◌<◌, List, [], ◌∷◌, ◌++◌, length, slice_index_or, take, drop, arith, ap, sym, subst, refl}
+use Rattle.qh_model.proofs.Common.{◌∙◌, ◌⊎◌, inl, inr, flat_map-append, append_assoc, length-append, All, flat_map, IsBodyInOrder, face_triangles, AreIndices}
+use Rattle.qh_model.proofs.{Common.triangles_along, Common.HullValue, Common.IsHull, Common.place, Common.Vector, Members.All-of, Members.All-In}
 use Rattle.qconvex_c.specs.{contract.Flat.corners_of, steps.FaceFans.face_corners, steps.FaceFans.face_normals}
 use Rattle.qconvex_c.specs.contract.Triangles.{triangles_of, normal_of, AreFans, NeedsFanRoom}
 
@@ -41,9 +40,7 @@ module _ {X : Type 0} (f : List ℕ → List X) (three : (u v w : ℕ) → lengt
   length-along first u [] = refl
   length-along first u (v ∷ r) =
       let all = length-append (f (first ∷ u ∷ v ∷ [])) (flat_map f (triangles_along first v r)) in
-      let own = three first u v in
-      let rest = length-along first v r in
-      omega (arith, all, own, rest)
+      omega (arith, all, three first u v, length-along first v r)
 
   length-face : (q : List ℕ) → length (flat_map f (face_triangles q)) ≡ 3 * length (face_triangles q)
   length-face [] = refl
@@ -53,12 +50,9 @@ module _ {X : Type 0} (f : List ℕ → List X) (three : (u v w : ℕ) → lengt
   length-faces : (qs : List (List ℕ)) → length (flat_map f (triangles_of qs)) ≡ 3 * length (triangles_of qs)
   length-faces [] = refl
   length-faces (q ∷ qs) =
-      let joined = ap length (flat_map-append f (face_triangles q) (triangles_of qs)) in
-      let all = length-append (flat_map f (face_triangles q)) (flat_map f (triangles_of qs)) in
-      let triangles = length-append (face_triangles q) (triangles_of qs) in
-      let face = length-face q in
+      let all = length-append (flat_map f (face_triangles q)) (flat_map f (triangles_of qs)) in let face = length-face q in
       let rest = length-faces qs in
-      omega (arith, joined, all, triangles, face, rest)
+      omega (arith, ap length (flat_map-append f (face_triangles q) (triangles_of qs)), all, length-append (face_triangles q) (triangles_of qs), face, rest)
 
 -- the length of the list of their corners
 length-corners : (qs : List (List ℕ)) → length (corners_of (triangles_of qs)) ≡ 3 * length (triangles_of qs)
@@ -87,26 +81,18 @@ pub fans_made : (pts : List Vector) (h : HullValue) (len : ℕ) (ts : List ℕ) 
 fans_made pts h len ts ns is t n e = record {
   hull = h;
   right = is;
-  counted = let a = ap length (t ∙ corners_by_face h.body.polygons) in let b = length-corners h.body.polygons in
-      third (length ts) (length (triangles_of h.body.polygons)) (len / 3) (omega (arith, a, b)) (ap (λ k. k / 3) e);
+  counted = let a = ap length (t ∙ corners_by_face h.body.polygons) in
+      third (length ts) (length (triangles_of h.body.polygons)) (len / 3) (omega (arith, a, length-corners h.body.polygons)) (ap (λ k. k / 3) e);
   triangle_corners = t ∙ corners_by_face h.body.polygons;
   triangle_normals = n ∙ normals_by_face (place pts) h.body.polygons;
 }
 
 module _ (pts : List Vector) (count : ℕ) (ts : List ℕ) (ns : List ℤ) (f : AreFans pts count ts ns) where
   pub triangles_len : length ts ≡ 3 * count
-  triangles_len =
-      let corners = ap length f.triangle_corners in
-      let all = length-corners f.hull.body.polygons in
-      let counted = f.counted in
-      omega (arith, corners, all, counted)
+  triangles_len = omega (arith, ap length f.triangle_corners, length-corners f.hull.body.polygons, f.counted)
 
   pub normals_len : length ns ≡ 3 * count
-  normals_len =
-      let normals = ap length f.triangle_normals in
-      let all = length-normals (place pts) f.hull.body.polygons in
-      let counted = f.counted in
-      omega (arith, normals, all, counted)
+  normals_len = omega (arith, ap length f.triangle_normals, length-normals (place pts) f.hull.body.polygons, f.counted)
 
   -- buffers that begin with the lists
   pub fans_filled : (tb : List ℕ) (nb : List ℤ) → take (length ts) tb ≡ ts → take (length ns) nb ≡ ns

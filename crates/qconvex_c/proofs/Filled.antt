@@ -6,7 +6,7 @@ use Rattle.qconvex_c.specs.declared.sizes.Sizes.{Sizes}
 -- the number of ends is the number of faces
 length-ends : (n : ℕ) (qs : List (List ℕ)) → length (ends_from n qs) ≡ length qs
 length-ends n [] = refl
-length-ends n (q ∷ qs) = let e = length-ends (n + length q) qs in omega (arith, e)
+length-ends n (q ∷ qs) = omega (arith, length-ends (n + length q) qs)
 
 -- the elements after n in a buffer that ends as another
 pub rest_of : (n : ℕ) (xs ys zs : List ℕ) → xs ≡ ys → drop n ys ≡ drop n zs → drop n xs ≡ drop n zs
@@ -17,11 +17,7 @@ module _ (pts : List Vector) (s : Sizes) (es os cs : List ℕ) (f : IsFlatHull p
   extremes_len = ap length f.extreme_ids ∙ sym f.sizes.extremes
 
   offsets_len : length os ≡ s.faces + 1
-  offsets_len =
-      let os_len = ap length f.face_offsets in
-      let ends = length-ends 0 f.hull.body.polygons in
-      let faces = f.sizes.faces in
-      omega (arith, os_len, ends, faces)
+  offsets_len = omega (arith, ap length f.face_offsets, length-ends 0 f.hull.body.polygons, f.sizes.faces)
 
   corners_len : length cs ≡ s.corners
   corners_len = ap length f.face_corners ∙ sym f.sizes.corners

@@ -1,15 +1,13 @@
 -- A verdict is `RIGHT` exactly if the faces are the surface of the hull.
-use Rattle.qh_model.proofs.Common.{◌≡◌, ◌↔◌, ◌∙◌, ℕ, ◌<◌, List, [], length, get_or, arith, refl, ap, sym, subst, HasDistinctPoints, AreDistinctIds, place}
-use Rattle.qh_model.proofs.Common.{Members, Vector}
-use Rattle.std.proofs.lemmas.List.{ext_get_or}
-use Rattle.qh_model.proofs.{DistinctIds.distinct_apart, Members.in_at, hulls.Unique.distinct_ids_are_unique}
-use Rattle.qh_check.specs.{contract.Surfaces.IsHullSurface, declared.judgement.Judgement.TheVariants.Told, declared.judgement.Judgement.TheVariants.Stranger}
-use Rattle.qh_check.specs.{contract.Judging.IsJudgement, contract.Judging.IsTold, contract.Judging.IsStrangeFace, declared.judgement.Judgement.Judgement}
-use Rattle.qh_check.specs.contract.Naming.{AreNamed, AreNamedFaces, IsNamed}
+use Rattle.qconvex_c.specs.contract.{Checked.AreFacesIn, Checked.AreHullFaces, Checked.IsVerdictOn, Checked.verdict_of, Codes.QCONVEX_RIGHT}
+use Rattle.{qconvex_c.specs.declared.verdict.Verdict.Verdict, qh_check.specs.contract.Judging.IsJudgement}
+use Rattle.qh_check.specs.contract.{Judging.IsTold, Judging.IsStrangeFace, Naming.AreNamed, Naming.AreNamedFaces, Naming.IsNamed, Surfaces.IsHullSurface}
 use Rattle.qh_check.specs.declared.fault.FaceFault.TheVariants.{NoPlane, Above, OtherFace}
+use Rattle.qh_check.specs.declared.judgement.Judgement.{Judgement, TheVariants.Told, TheVariants.Stranger}
 use Rattle.qh_check.specs.declared.verdict.SurfaceVerdict.TheVariants.{Right, OtherPolygons, NoPiece, Open, Twice}
-use Rattle.qconvex_c.specs.contract.Checked.{AreFacesIn, AreHullFaces, IsVerdictOn, verdict_of}
-use Rattle.qconvex_c.specs.{contract.Codes.QCONVEX_RIGHT, declared.verdict.Verdict.Verdict}
+use Rattle.qh_model.proofs.Common.{◌≡◌, ◌↔◌, ◌∙◌, ℕ, ◌<◌, List, [], length, get_or, arith, refl, ap, sym, subst, HasDistinctPoints, AreDistinctIds, place}
+use Rattle.qh_model.proofs.{Common.Members, Common.Vector, DistinctIds.distinct_apart, Members.in_at, hulls.Unique.distinct_ids_are_unique}
+use Rattle.std.proofs.lemmas.List.{ext_get_or}
 
 -- the faces in a list of corners are unique
 one_cut : (offsets corners : List ℕ) (fs gs : List (List ℕ)) → AreFacesIn offsets corners fs → AreFacesIn offsets corners gs → fs ≡ gs
@@ -25,27 +23,23 @@ module _ (pts : List Vector) (ids : List ℕ) (named : List Vector) (apart : Has
   -- a face names only one polygon
   one_named : (numbers q r : List ℕ) → AreNamed pts ids named numbers q → AreNamed pts ids named numbers r → q ≡ r
   one_named numbers q r a b =
-      let count = a.count in
-      ext_get_or 0 q r (a.count ∙ sym b.count) (λ k l. (let below : k < length numbers = omega (arith, l, count) in
+      ext_get_or 0 q r (a.count ∙ sym b.count) (λ k l. (let below : k < length numbers = omega (arith, l, a.count) in
       one_id (get_or numbers k 0) (get_or q k 0) (get_or r k 0) (a.each k below) (b.each k below)))
 
   -- faces name only one list of polygons
   pub one_list : (faces qs rs : List (List ℕ)) → AreNamedFaces pts ids named faces qs → AreNamedFaces pts ids named faces rs → qs ≡ rs
   one_list faces qs rs a b =
-      let count = a.count in
-      ext_get_or [] qs rs (a.count ∙ sym b.count) (λ k l. (let below : k < length faces = omega (arith, l, count) in
+      ext_get_or [] qs rs (a.count ∙ sym b.count) (λ k l. (let below : k < length faces = omega (arith, l, a.count) in
       one_named (get_or faces k []) (get_or qs k []) (get_or rs k []) (a.each k below) (b.each k below)))
 
 -- faces with a stranger name no polygons
 no_stranger : (pts : List Vector) (ids : List ℕ) (named : List Vector) (faces qs : List (List ℕ)) (n : ℕ)
     → AreDistinctIds pts ids → AreNamedFaces pts ids named faces qs → IsStrangeFace pts named faces n → ⊥
 no_stranger pts ids named faces qs n d a s =
-    let same = distinct_ids_are_unique pts s.ids ids s.distinct d in
-    let (number, m, strange) = s.stranger in
-    let (k, l, at) = in_at (get_or faces n []) number m in
+    let (number, m, strange) = s.stranger in let (k, l, at) = in_at (get_or faces n []) number m in
     let (low, (there, e)) = (a.each n s.there).each k l in
     strange (subst (λ x. x < length named) at low) (get_or (get_or qs n []) k 0)
-    (subst (λ xs. Members xs (get_or (get_or qs n []) k 0)) (sym same) there) (e ∙ ap (place named) at)
+    (subst (λ xs. Members xs (get_or (get_or qs n []) k 0)) (sym (distinct_ids_are_unique pts s.ids ids s.distinct d)) there) (e ∙ ap (place named) at)
 
 -- only `Right` has the kind `QCONVEX_RIGHT`
 right_kind : (j : Judgement) → (verdict_of j).kind ≡ QCONVEX_RIGHT → j ≡ Told Right
@@ -82,8 +76,7 @@ module _ (pts : List Vector) (offsets corners : List ℕ) (v : Verdict) (is : Is
       let named : AreNamedFaces pts t.ids pts is.faces h.polygons =
       subst (λ xs. AreNamedFaces pts xs pts is.faces h.polygons) ids (subst (λ fs. AreNamedFaces pts h.ids pts fs h.polygons) faces h.named) in
       let polygons = one_list pts t.ids pts (distinct_apart pts t.ids t.distinct) is.faces h.polygons t.polygons named t.same in
-      ap Told (t.right.1 (subst (λ qs. IsHullSurface (place pts) (Members t.ids) qs) polygons
-      (subst (λ xs. IsHullSurface (place pts) (Members xs) h.polygons) ids h.surface)))
+      ap Told (t.right.1 (rw polygons at (subst (λ xs. IsHullSurface (place pts) (Members xs) h.polygons) ids h.surface)))
 
   pub right_verdict : (v.kind ≡ QCONVEX_RIGHT) ↔ AreHullFaces pts offsets corners
   right_verdict = (

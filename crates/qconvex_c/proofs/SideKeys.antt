@@ -1,12 +1,11 @@
 -- The keys of sides: one more, in another order, and joined to the reversed sides.
-use Rattle.qh_model.proofs.Common.{◌≡◌, ◌∙◌, ◌⊎◌, ◌↔◌, ℕ, ◌+◌, ◌*◌, ◌/◌, ◌%◌, ◌≤◌, ◌<◌, List, [], ◌∷◌, ◌++◌, length, slice_index, arith, ap, sym, subst, refl}
-use Rattle.qh_model.proofs.Common.{inl, inr, dite, dec_le, get_or_default_zero, All-push, All-weaker, All-permutation, Contains-permutation, All, Contains}
-use Rattle.qh_model.proofs.Common.{IsPermutation}
-use Rattle.std.proofs.{Math.Nat.eq-or-lt_of_le, lemmas.List.Elements.Contains-append_left, lemmas.List.Elements.Contains-append_right}
 use Rattle.qconvex_c.specs.contract.Neighbors.{AreNeighbors, AreReversed, IsNeighbor, side_from, side_to, sides_in}
 use Rattle.qconvex_c.specs.declared.side_keys.TheConstants.{SIDE_ROOM}
 use Rattle.qconvex_c.specs.steps.SideKeys.{IsKey, AreKeys, IsJoined, AreJoined}
-use Rattle.qh_model.specs.declared.limits.TheConstants.{POINT_LIMIT}
+use Rattle.qh_model.proofs.Common.{◌≡◌, ◌∙◌, ◌⊎◌, ◌↔◌, ℕ, ◌+◌, ◌*◌, ◌/◌, ◌%◌, ◌≤◌, ◌<◌, List, [], ◌∷◌, ◌++◌, length, slice_index, arith, ap, sym, subst, refl}
+use Rattle.qh_model.proofs.Common.{inl, inr, dite, dec_le, get_or_default_zero, All-push, All-weaker, All-permutation, Contains-permutation, All, Contains}
+use Rattle.{qh_model.proofs.Common.IsPermutation, qh_model.specs.declared.limits.TheConstants.POINT_LIMIT, std.proofs.Math.Nat.eq-or-lt_of_le}
+use Rattle.std.proofs.lemmas.List.Elements.{Contains-append_left, Contains-append_right}
 
 module _ (low high : ℕ → ℕ) where
   abbrev pub key_of : ℕ → ℕ
@@ -19,7 +18,9 @@ module _ (low high : ℕ → ℕ) where
   -- one more side
   pub one_more : (s : ℕ) (keys keys' : List ℕ) → s < SIDE_ROOM → AreKeys s low high keys
       → (low s ≤ high s → keys' ≡ keys ++ key_of s ∷ []) → (high s < low s → keys' ≡ keys) → AreKeys (s + 1) low high keys'
-  one_more s keys keys' h are up down = dite (dec_le (low s) (high s))
+  one_more s keys keys' h are up down =
+      let below : (t : ℕ) → t < s + 1 → (t ≡ s) ⊎ (t < s) = λ t l. eq-or-lt_of_le (omega arith) in
+      dite (dec_le (low s) (high s))
       (λ r. subst (AreKeys (s + 1) low high) (sym (up r)) (record {
         each = All-push (IsKey (s + 1) low high) keys (key_of s) longer (own r);
         all = λ t l q. elim (below t l) [
@@ -30,18 +31,12 @@ module _ (low high : ℕ → ℕ) where
       }))
       (λ n. subst (AreKeys (s + 1) low high) (sym (down (omega arith))) (record {
         each = longer;
-        all = λ t l q. elim (below t l) [
-          | inl e ↦ absurd (n (subst (λ x. low x ≤ high x) e q))
-          | inr m ↦ are.all t m q
-        ];
+        all = λ t l q. elim (below t l) [ inl e ↦ absurd (n (subst (λ x. low x ≤ high x) e q)) | inr m ↦ are.all t m q ];
       }))
     where
-      below : (t : ℕ) → t < s + 1 → (t ≡ s) ⊎ (t < s)
-      below t l = eq-or-lt_of_le (omega arith)
-
       longer : All (IsKey (s + 1) low high) keys
       longer = All-weaker (IsKey s low high) (IsKey (s + 1) low high)
-          (λ key k. (let l = k.side in record { side = omega (arith, l); rises = k.rises; ends = k.ends })) keys are.each
+          (λ key k. (record { side = omega (arith, k.side); rises = k.rises; ends = k.ends })) keys are.each
 
       own : low s ≤ high s → IsKey (s + 1) low high (key_of s)
       own r = let k = of_key s h in record {
@@ -85,8 +80,7 @@ module _ (corners : List ℕ) (few : length corners / 3 ≤ 2 * POINT_LIMIT) (wi
 
     first : (t : ℕ) → t < sides → AreReversed corners s t → n ≤ t / 3
     first t h r =
-        let (e, f) = (meet s t).0 r in
-        let rises = subst (λ x. low' t ≤ x) f (subst (λ x. x ≤ high s) e k.rises) in
+        let (e, f) = (meet s t).0 r in let rises = subst (λ x. low' t ≤ x) f (subst (λ x. x ≤ high s) e k.rises) in
         let (at, l, side, ends) = position_of low' high' sides back are (omega arith) t h rises in
         let same = ap (λ x. x * POINT_LIMIT + high s) e ∙ ap (λ x. low' t * POINT_LIMIT + x) f in
         subst (λ x. n ≤ x / 3) side (j.first at l (ends ∙ sym (k.ends ∙ same)))
@@ -94,13 +88,11 @@ module _ (corners : List ℕ) (few : length corners / 3 ≤ 2 * POINT_LIMIT) (wi
     neighbor : IsNeighbor corners s n
     neighbor = record {
       found = λ h. (let (at, l, e, f) = j.found h in
-          let t = slice_index back at % SIDE_ROOM in
-          let b = are.each at 0 l in
+          let t = slice_index back at % SIDE_ROOM in let b = are.each at 0 l in
           let ends : low s * POINT_LIMIT + high s ≡ low' t * POINT_LIMIT + high' t = sym k.ends ∙ sym e ∙ b.ends in
-          let one = own s k.side in
-          let two = other t b.side in
+          let one = own s k.side in let two = other t b.side in
           (t, b.side, f, (meet s t).1 (omega (arith, ends, one, two), omega (arith, ends, one, two))));
-      none = λ e t h r. (let low = first t h r in omega (arith, low));
+      none = λ e t h r. (omega (arith, first t h r));
       first = first;
     }
 
@@ -124,10 +116,7 @@ module _ (corners : List ℕ) (few : length corners / 3 ≤ 2 * POINT_LIMIT) (wi
         → AreNeighbors corners new
     both_joined old mid new a b s h = dite (dec_le (from s) (to s))
         (λ r. (let (k, l, side, _) = position_of from to sides up ups (omega arith) s h r in
-        elim (b.others s) [
-          | inl e ↦ subst (IsNeighbor corners s) (sym e) (by_up k l side)
-          | inr (m, i, f) ↦ by_down m i f
-        ]))
+        elim (b.others s) [ inl e ↦ subst (IsNeighbor corners s) (sym e) (by_up k l side) | inr (m, i, f) ↦ by_down m i f ]))
         (λ n. (let (k, l, side, _) = position_of to from sides down downs (omega arith) s h (omega arith) in by_down k l side))
       where
         by_up : (k : ℕ) → k < length up → slice_index up k % SIDE_ROOM ≡ s → IsNeighbor corners s (slice_index mid s)

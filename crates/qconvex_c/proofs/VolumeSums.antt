@@ -1,6 +1,6 @@
 -- Sums of volumes over triangles in one list, three corners at a time.
-use Rattle.qh_model.proofs.Common.{◌≡◌, ℕ, ◌+◌, ◌*◌, ◌/◌, ◌<◌, ℤ, pos, ◌+ℤ◌, suc, List, [], ◌∷◌, length, drop, get_or, refl, ap, sym, subst, ◌∙◌, arith, rules}
-use Rattle.qh_model.proofs.Common.{drop-cons, length-drop, +ℤ_assoc, w128, FitsSigned, vol, Vector}
+use Rattle.qh_model.proofs.Common.{◌≡◌, ℕ, ◌+◌, ◌*◌, ◌/◌, ◌<◌, ℤ, pos, ◌+ℤ◌, suc, List, [], ◌∷◌, length}
+use Rattle.qh_model.proofs.Common.{drop, get_or, refl, ap, sym, subst, ◌∙◌, arith, rules, drop-cons, length-drop, +ℤ_assoc, w128, FitsSigned, vol, Vector}
 use Rattle.qconvex_c.specs.contract.Volumes.{six_volumes, PartialSumsFit}
 
 -- the three corners of triangle k come before those of the next ones
@@ -11,8 +11,7 @@ next_three xs k h =
     let two : suc (suc (3 * k)) ≡ 3 * k + 2 = omega arith in
     let three : suc (suc (suc (3 * k))) ≡ 3 * (k + 1) = omega arith in
     let u = get_or xs (3 * k) 0 in
-    drop-cons xs (3 * k) 0 (omega arith)
-    ∙ ap (λ r. u ∷ r) (drop-cons xs (suc (3 * k)) 0 (omega arith))
+    drop-cons xs (3 * k) 0 (omega arith) ∙ ap (λ r. u ∷ r) (drop-cons xs (suc (3 * k)) 0 (omega arith))
     ∙ ap (λ r. u ∷ get_or xs (suc (3 * k)) 0 ∷ r) (drop-cons xs (suc (suc (3 * k))) 0 (omega arith))
     ∙ ap (λ i. u ∷ get_or xs i 0 ∷ get_or xs (suc (suc (3 * k))) 0 ∷ drop (suc (suc (suc (3 * k)))) xs) one
     ∙ ap (λ i. u ∷ get_or xs (3 * k + 1) 0 ∷ get_or xs i 0 ∷ drop (suc (suc (suc (3 * k)))) xs) two
@@ -34,8 +33,7 @@ module _ (at : ℕ → Vector) (o : Vector) (xs : List ℕ) where
       → total +ℤ six_volumes at o (drop (3 * k) xs) ≡ six_volumes at o xs
       → (total +ℤ volume_at k) +ℤ six_volumes at o (drop (3 * (k + 1)) xs) ≡ six_volumes at o xs
   sum_step k total h so_far =
-      +ℤ_assoc total (volume_at k) (six_volumes at o (drop (3 * (k + 1)) xs))
-      ∙ ap (λ r. total +ℤ six_volumes at o r) (sym (next_three xs k h)) ∙ so_far
+      +ℤ_assoc total (volume_at k) (six_volumes at o (drop (3 * (k + 1)) xs)) ∙ ap (λ r. total +ℤ six_volumes at o r) (sym (next_three xs k h)) ∙ so_far
 
   pub fits_step : (k : ℕ) (total : ℤ) → k < length xs / 3 → PartialSumsFit at o total (drop (3 * k) xs)
       → FitsSigned w128 (total +ℤ volume_at k) × PartialSumsFit at o (total +ℤ volume_at k) (drop (3 * (k + 1)) xs)
@@ -44,8 +42,5 @@ module _ (at : ℕ → Vector) (o : Vector) (xs : List ℕ) where
   pub sum_end : (k : ℕ) (total : ℤ) → k ≡ length xs / 3
       → total +ℤ six_volumes at o (drop (3 * k) xs) ≡ six_volumes at o xs → total ≡ six_volumes at o xs
   sum_end k total e so_far =
-      let left = length-drop (3 * k) xs in
-      sym (add_nothing total) ∙ ap (λ v. total +ℤ v) (sym (few_none at o (drop (3 * k) xs) (omega (arith, left, e)))) ∙ so_far
-    where
-      add_nothing : (x : ℤ) → x +ℤ pos 0 ≡ x
-      add_nothing x = search rules
+      let add_nothing : (x : ℤ) → x +ℤ pos 0 ≡ x = λ x. search rules in
+      sym (add_nothing total) ∙ ap (λ v. total +ℤ v) (sym (few_none at o (drop (3 * k) xs) (omega (arith, length-drop (3 * k) xs, e)))) ∙ so_far

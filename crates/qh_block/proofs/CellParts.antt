@@ -1,7 +1,6 @@
 -- Cells between planes: their parts, and the points that they hold.
 use Rattle.qh_model.proofs.Common.{◌≡◌, ◌⊎◌, ◌<◌, ⊎_elim, inl, inr, ℕ, List, [], ◌∷◌, ◌++◌, arith, length, subst, suc, sym, range_with_len, pos, ◌<ℤ◌, Vector}
-use Rattle.qh_model.proofs.Common.{In}
-use Rattle.qh_model.proofs.{Members.All-In, lists.Joined.in_append, lists.Ranges.range_has}
+use Rattle.qh_model.proofs.{Common.In, Members.All-In, lists.Joined.in_append, lists.Ranges.range_has}
 use Rattle.qh_pred.specs.contract.Planes.{PlaneValue, height}
 use Rattle.qh_block.specs.contract.Cells.{numbered, IsBelow, IsCellOf, IsHeld, IsWithin, AreNear}
 use Rattle.qh_block.specs.declared.regions.{bounds.Bounds.Bounds, cells.Cell.Cell}
@@ -55,12 +54,11 @@ lesser_is_cell planes whole b near within all k h = ⊎_elim (λ below. inl (λ 
 number_of : (planes : List PlaneValue) (plane : PlaneValue) → In plane planes → (k : ℕ) × (k < length planes) × (numbered planes k ≡ plane)
 number_of [] plane m = absurd m
 number_of (q ∷ qs) plane (inl e) = (0, omega arith, sym e)
-number_of (q ∷ qs) plane (inr m) = let r = number_of qs plane m in let h = r.1 in (suc r.0, omega (arith, h), r.2)
+number_of (q ∷ qs) plane (inr m) = let r = number_of qs plane m in (suc r.0, omega (arith, r.1), r.2)
 
 -- a point that a cell holds is strictly below each plane of the list
 pub held_is_below : (planes : List PlaneValue) (c : Cell) (p : Vector) → IsCellOf planes c → IsHeld planes c p → (plane : PlaneValue) → In plane planes
     → height plane p <ℤ pos 0
 held_is_below planes c p cell held plane i =
     let at = number_of planes plane i in
-    subst (λ q. height q p <ℤ pos 0) at.2
-    (⊎_elim (λ below. below p held.1) (λ near. All-In (λ k. height (numbered planes k) p <ℤ pos 0) c.near.items at.0 held.2 near) (cell at.0 at.1))
+    rw at.2 at (⊎_elim (λ below. below p held.1) (λ near. All-In (λ k. height (numbered planes k) p <ℤ pos 0) c.near.items at.0 held.2 near) (cell at.0 at.1))

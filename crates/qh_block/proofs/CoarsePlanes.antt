@@ -1,10 +1,8 @@
 -- A plane whose normal is divided by a step, with its offset lowered by the room for the rests, is under the original plane.
-use Rattle.qh_model.proofs.Common.{◌≡◌, arith, ◌∙◌, ap, ints, ℤ, pos, ◌+ℤ◌, ◌-ℤ◌, ◌*ℤ◌, ◌≤ℤ◌, ◌<ℤ◌, Vector, dot, IsCoordinate}
-use Rattle.qh_model.specs.declared.limits.TheConstants.{COORDINATE_LIMIT}
-use Rattle.qh_model.proofs.algebra.Order.{mul-le}
-use Rattle.qh_model.proofs.algebra.Integers.{add_mul, mul_add, mul_assoc, mul_comm, mul_one, mul_swap}
-use Rattle.qh_pred.specs.contract.Planes.{PlaneValue}
 use Rattle.qh_block.specs.{contract.CoarsePlanes.IsUnder, steps.CoarsePlanes.IsLowered, steps.CoarsePlanes.IsRest, steps.CoarsePlanes.IsRoomFor}
+use Rattle.qh_model.proofs.Common.{◌≡◌, arith, ◌∙◌, ap, ints, ℤ, pos, ◌+ℤ◌, ◌-ℤ◌, ◌*ℤ◌, ◌≤ℤ◌, ◌<ℤ◌, Vector, dot, IsCoordinate}
+use Rattle.qh_model.proofs.algebra.Integers.{add_mul, mul_add, mul_assoc, mul_comm, mul_one, mul_swap}
+use Rattle.{qh_model.proofs.algebra.Order.mul-le, qh_model.specs.declared.limits.TheConstants.COORDINATE_LIMIT, qh_pred.specs.contract.Planes.PlaneValue}
 
 -- the greatest coordinate
 abbrev limit : ℤ
@@ -13,13 +11,11 @@ limit = pos COORDINATE_LIMIT
 -- a product with a number is at most that with its steps, plus the rest times the greatest coordinate
 product_at_most : (n m q r p : ℤ) → IsRest n q m r → IsCoordinate p → (n *ℤ p) ≤ℤ (m *ℤ (q *ℤ p) +ℤ r *ℤ limit)
 product_at_most n m q r p d c =
+    let finish : (a b c d e : ℤ) → a ≡ b +ℤ d → b ≡ c → d ≤ℤ e → a ≤ℤ (c +ℤ e) = λ a b c d e p q r. omega (arith, ints) in
     let rest : (r *ℤ p) ≤ℤ (r *ℤ limit) = mul-le r p limit d.1 (omega (arith, ints)) in
     let steps : q *ℤ m *ℤ p ≡ m *ℤ (q *ℤ p) = mul_assoc q m p ∙ mul_swap q m p in
     let parts : n *ℤ p ≡ q *ℤ m *ℤ p +ℤ r *ℤ p = ap (λ v. v *ℤ p) d.0 ∙ add_mul (q *ℤ m) r p in
     finish (n *ℤ p) (q *ℤ m *ℤ p) (m *ℤ (q *ℤ p)) (r *ℤ p) (r *ℤ limit) parts steps rest
-  where
-    finish : (a b c d e : ℤ) → a ≡ b +ℤ d → b ≡ c → d ≤ℤ e → a ≤ℤ (c +ℤ e)
-    finish a b c d e p q r = omega (arith, ints)
 
 -- a factor of three products
 factor_of_three : (m a b c : ℤ) → m *ℤ (a +ℤ b +ℤ c) ≡ m *ℤ a +ℤ m *ℤ b +ℤ m *ℤ c
@@ -28,11 +24,9 @@ factor_of_three m a b c = mul_add m (a +ℤ b) c ∙ ap (λ v. v +ℤ m *ℤ c) 
 -- a step below a number of steps
 step_below : (m s e : ℤ) → pos 0 <ℤ m → s <ℤ e → (m *ℤ s +ℤ m) ≤ℤ (e *ℤ m)
 step_below m s e h k =
+    let finish : (a b c m f g : ℤ) → a ≤ℤ f → a ≡ b +ℤ c → c ≡ m → f ≡ g → (b +ℤ m) ≤ℤ g = λ a b c m f g p q r s. omega (arith, ints) in
     let more : (m *ℤ (s +ℤ pos 1)) ≤ℤ (m *ℤ e) = mul-le m (s +ℤ pos 1) e (omega (arith, ints)) (omega (arith, ints)) in
     finish (m *ℤ (s +ℤ pos 1)) (m *ℤ s) (m *ℤ pos 1) m (m *ℤ e) (e *ℤ m) more (mul_add m s (pos 1)) (mul_one m) (mul_comm m e)
-  where
-    finish : (a b c m f g : ℤ) → a ≤ℤ f → a ≡ b +ℤ c → c ≡ m → f ≡ g → (b +ℤ m) ≤ℤ g
-    finish a b c m f g p q r s = omega (arith, ints)
 
 -- the sum of the three bounds
 sum_below : (a b c d e f u v w s m g o : ℤ) → a ≤ℤ (d +ℤ u) → b ≤ℤ (e +ℤ v) → c ≤ℤ (f +ℤ w)
@@ -43,6 +37,7 @@ sum_below a b c d e f u v w s m g o ha hb hc hs hg hm ho = omega (arith, ints)
 pub steps_are_under : (plane coarse : PlaneValue) (m room : ℤ) → pos 0 <ℤ m → IsRoomFor plane.normal coarse.normal m room
     → IsLowered plane.offset room m coarse.offset → IsUnder plane coarse
 steps_are_under plane coarse m room some has low p at h =
+    let below : (s e : ℤ) → (s -ℤ e) <ℤ pos 0 → s <ℤ e = λ s e k. omega (arith, ints) in
     let q = coarse.normal in let n = plane.normal in let r = has.0 in let each = has.1 in
     let whole = factor_of_three m (q.x *ℤ p.x) (q.y *ℤ p.y) (q.z *ℤ p.z) in
     let step = step_below m (dot q p) coarse.offset some (below (dot q p) coarse.offset h) in
@@ -52,9 +47,6 @@ steps_are_under plane coarse m room some has low p at h =
     (product_at_most n.x m q.x r.x p.x each.x at.x) (product_at_most n.y m q.y r.y p.y each.y at.y) (product_at_most n.z m q.z r.z p.z each.z at.z)
     whole step some (rw is at low)
   where
-    below : (s e : ℤ) → (s -ℤ e) <ℤ pos 0 → s <ℤ e
-    below s e k = omega (arith, ints)
-
     over_three : (a b c : ℤ) → (a +ℤ b +ℤ c) *ℤ limit ≡ a *ℤ limit +ℤ b *ℤ limit +ℤ c *ℤ limit
     over_three a b c = add_mul (a +ℤ b) c limit ∙ ap (λ v. v +ℤ c *ℤ limit) (add_mul a b limit)
 

@@ -1,17 +1,16 @@
 -- If the octants of a box have points of a set, a point of the box that is not a corner is not extreme in the set.
-use Rattle.qh_model.proofs.Common.{ℕ, ◌≡◌, ⊎_elim, inl, inr, List, [], ◌∷◌, Bool, true, false, arith, refl, subst, sym, ints, by_lt_z, All-from_recursion, ℤ}
-use Rattle.qh_model.proofs.Common.{pos, ◌*ℤ◌, ◌≤ℤ◌, Vector, place, Members, Others, Separator}
+use Rattle.qh_model.proofs.Common.{ℕ, ◌≡◌, ⊎_elim, inl, inr, List, [], ◌∷◌, Bool, true, false}
+use Rattle.qh_model.proofs.Common.{arith, refl, subst, sym, ints, by_lt_z, All-from_recursion, ℤ, pos, ◌*ℤ◌, ◌≤ℤ◌, Vector, place, Members, Others, Separator}
 use Rattle.qh_model.proofs.{Members.All-In, combinations.Alternatives.combination_or_separator, extremes.ExtremeIds.combination_within}
-use Rattle.qh_block.specs.{contract.Cells.IsWithin, declared.regions.corner_box.Diagonals.Diagonals, steps.CornerBoxes.HasEndsOf, steps.CornerBoxes.AreOutward}
-use Rattle.qh_block.specs.{contract.KeptIds.HasNoExtreme, declared.regions.bounds.Bounds.Bounds}
+use Rattle.qh_block.specs.{contract.Cells.IsWithin, declared.regions.corner_box.Diagonals.Diagonals}
+use Rattle.qh_block.specs.{steps.CornerBoxes.HasEndsOf, steps.CornerBoxes.AreOutward, contract.KeptIds.HasNoExtreme, declared.regions.bounds.Bounds.Bounds}
 use Rattle.qh_block.specs.contract.CornerBoxes.{IsBeyond, IsOutward, HasOutward, IsEnd, IsCorner, IsHeldBy}
-use Rattle.qh_pred.specs.contract.{Corners.IsUnder, Ranges.IsBetween}
-use Rattle.qh_pred.proofs.Ranges.{beyond}
+use Rattle.qh_pred.{specs.contract.Corners.IsUnder, specs.contract.Ranges.IsBetween, proofs.Ranges.beyond}
 
 -- a number of a range that is at or beyond an end is that end
 at_end : (s : Bool) (l h n : ℤ) → IsBeyond s l h n → IsBetween l n h → IsEnd l n h
 at_end true l h n b w = inr (let p = w.1 in omega (arith, ints, b, p))
-at_end false l h n b w = inl (let p = w.0 in omega (arith, ints, b, p))
+at_end false l h n b w = inl (omega (arith, ints, b, w.0))
 
 -- so a point of the box in the octant of a corner is the corner
 at_corner : (x y z : Bool) (b : Bounds) (p : Vector) → IsOutward x y z b p → IsWithin b p → IsCorner b p
@@ -77,15 +76,12 @@ module _ (pts : List Vector) (ids : List ℕ) (b : Bounds) (out : HasOutward pts
     -- the point is beyond all of them along no direction
     not_beyond : ¬ (Separator (place pts) (Members eight) (place pts i))
     not_beyond s =
-        let x = way s.w.x in let y = way s.w.y in let z = way s.w.z in let w = held.0 in
-        let o = outward x.0 y.0 z.0 in let past = s.past (id_at x.0 y.0 z.0) (member x.0 y.0 z.0) in
-        let at_x = x.1 _ _ _ _ o.0 w.x in let at_y = y.1 _ _ _ _ o.1 w.y in let at_z = z.1 _ _ _ _ o.2 w.z in
-        omega (arith, ints, at_x, at_y, at_z, past)
+        let x = way s.w.x in let y = way s.w.y in let z = way s.w.z in let w = held.0 in let o = outward x.0 y.0 z.0 in
+        omega (arith, ints, x.1 _ _ _ _ o.0 w.x, y.1 _ _ _ _ o.1 w.y, z.1 _ _ _ _ o.2 w.z, s.past (id_at x.0 y.0 z.0) (member x.0 y.0 z.0))
 
 pub box_has_no_extreme : (pts : List Vector) (ids : List ℕ) (b : Bounds) → HasOutward pts ids b → HasNoExtreme pts ids (IsHeldBy b)
 box_has_no_extreme pts ids b out i m held extreme =
-    ⊎_elim
-    (λ combination. extreme.1 (combination_within (place pts) (Members (eight pts ids b out)) (Others (Members ids) i) (place pts i)
+    ⊎_elim (λ combination. extreme.1 (combination_within (place pts) (Members (eight pts ids b out)) (Others (Members ids) i) (place pts i)
     combination (others pts ids b out i held)))
     (λ separator. not_beyond pts ids b out i held separator) (combination_or_separator (place pts) (eight pts ids b out) (place pts i))
 
@@ -102,8 +98,8 @@ ends_are_outward pts ids d b e o false true true = (d.down_down.back, e.down_dow
 
 -- ---- the sides of the box
 under_all : {p q r : Vector} → IsUnder p q → IsUnder q r → IsUnder p r
-under_all a b = let x = a.x in let y = a.y in let z = a.z in let x' = b.x in let y' = b.y in let z' = b.z in
-    record { x = omega (arith, ints, x, x'); y = omega (arith, ints, y, y'); z = omega (arith, ints, z, z') }
+under_all a b = let x = a.x in let y = a.y in let z = a.z in
+    record { x = omega (arith, ints, x, b.x); y = omega (arith, ints, y, b.y); z = omega (arith, ints, z, b.z) }
 
 -- a point under four others
 pub record IsUnderFour (v p q r s : Vector) : Type 0 where
@@ -130,11 +126,9 @@ pub box_is_outward : (d : Diagonals) (b : Bounds) (east west north south top bot
     → b.high.x ≡ east.x → b.high.y ≡ north.y → b.high.z ≡ top.z → b.low.x ≡ west.x → b.low.y ≡ south.y → b.low.z ≡ bottom.z
     → IsUnderFour east d.up_up.front d.up_down.front d.down_up.front d.down_down.front
     → IsUnderFour north d.up_up.front d.up_down.front d.down_up.back d.down_down.back
-    → IsUnderFour top d.up_up.front d.up_down.back d.down_up.front d.down_down.back
-    → AreUnder west d.up_up.back d.up_down.back d.down_up.back d.down_down.back
+    → IsUnderFour top d.up_up.front d.up_down.back d.down_up.front d.down_down.back → AreUnder west d.up_up.back d.up_down.back d.down_up.back d.down_down.back
     → AreUnder south d.up_up.back d.up_down.back d.down_up.front d.down_down.front
-    → AreUnder bottom d.up_up.back d.up_down.front d.down_up.back d.down_down.front
-    → AreOutward d b
+    → AreUnder bottom d.up_up.back d.up_down.front d.down_up.back d.down_down.front → AreOutward d b
 box_is_outward d b east west north south top bottom hx hy hz lx ly lz e n t w s u =
     record {
       up_up = ((rw hx e.one.x, rw hy n.one.y, rw hz t.one.z), (rw lx w.one.x, rw ly s.one.y, rw lz u.one.z));

@@ -18,8 +18,8 @@ module _ (pts : List Vector) (ids : List ℕ) where
   -- there is a point at each position
   pub positions_in : AreIndices gathered positions
   positions_in k d h =
-      let count = length-range_with_len 0 (length ids) in let places = length-map ids (place pts) in
-      rw (get_or-range_with_len 0 (length ids) k d (omega (arith, count, h))) (omega (arith, count, places, h))
+      let count = length-range_with_len 0 (length ids) in
+      rw (get_or-range_with_len 0 (length ids) k d (omega (arith, count, h))) (omega (arith, count, length-map ids (place pts), h))
 
   -- the point at a position is that of the id at the position
   point_of : (k : ℕ) → k < length ids → place gathered k ≡ place pts (name_in ids k)

@@ -1,14 +1,11 @@
 -- Points inside the hull of a sample: its planes, and the parts of a set without the points that columns between the planes hold.
 use Rattle.qh_model.proofs.Common.{ℕ, ◌≡◌, ◌⊎◌, ⊎_elim, inl, inr, List, [], ◌∷◌, ◌++◌, All, refl, subst, IsFinished, StoredFacet, surface_of, Vector, place, In}
-use Rattle.qh_model.proofs.Common.{Members, Extreme, Others}
-use Rattle.qh_model.proofs.{Members.All-In, extremes.ExtremeIds.combination_within, surfaces.Inside.inner_is_not_extreme, surfaces.Stored.live_is_marked}
-use Rattle.qh_model.proofs.lists.Joined.{in_append}
-use Rattle.qh_pred.specs.contract.Planes.{PlaneValue}
-use Rattle.qh_mesh.specs.contract.Replacement.{IsLive}
+use Rattle.qh_model.proofs.{Common.Members, Common.Extreme, Common.Others, Members.All-In, extremes.ExtremeIds.combination_within}
+use Rattle.qh_model.proofs.{surfaces.Inside.inner_is_not_extreme, surfaces.Stored.live_is_marked, lists.Joined.in_append}
+use Rattle.{qh_pred.specs.contract.Planes.PlaneValue, qh_mesh.specs.contract.Replacement.IsLive}
 use Rattle.qh_block.specs.{contract.Cells.IsCellOf, contract.KeptIds.HasNoExtreme, contract.KeptIds.KeepsExtremes, declared.regions.columns.Columns.Columns}
 use Rattle.qh_block.specs.steps.InnerPoints.{HasPlane, HasPlanes, IsUnderFacet, AreInner, IsOuterPart}
-use Rattle.qh_block.proofs.CellParts.{held_is_below}
-use Rattle.qh_surface.proofs.LiveFacets.{all_live, rest_live}
+use Rattle.{qh_block.proofs.CellParts.held_is_below, qh_surface.proofs.LiveFacets.all_live, qh_surface.proofs.LiveFacets.rest_live}
 
 -- ---- the planes of the live facets
 -- facets whose planes are not listed remain
@@ -18,10 +15,7 @@ pub record AreListed (pts : List Vector) (fs : List StoredFacet) (left : List �
 
 -- at the start all facets remain
 pub none_listed : (pts : List Vector) (fs : List StoredFacet) → AreListed pts fs (surface_of fs).live []
-none_listed pts fs = record {
-  live = all_live fs (surface_of fs).live refl;
-  rest = λ g l. inr ((live_is_marked fs g).1 l);
-}
+none_listed pts fs = record { live = all_live fs (surface_of fs).live refl; rest = λ g l. inr ((live_is_marked fs g).1 l) }
 
 module _ {pts : List Vector} {fs : List StoredFacet} {all left : List ℕ} {f : ℕ} {planes : List PlaneValue}
     (old : AreListed pts fs all planes) where
@@ -30,8 +24,7 @@ module _ {pts : List Vector} {fs : List StoredFacet} {all left : List ℕ} {f : 
   next_listed is plane own = record {
     live = rest_live fs all left f old.live is;
     rest = λ g l. ⊎_elim (λ h. inl (h.0, in_append planes (plane ∷ []) h.0 (inl h.1), h.2))
-        (λ i. ⊎_elim (λ e. inl (plane, in_append planes (plane ∷ []) plane (inr (inl refl)), rw e own)) (λ m. inr m) (subst (In g) is i))
-        (old.rest g l);
+        (λ i. ⊎_elim (λ e. inl (plane, in_append planes (plane ∷ []) plane (inr (inl refl)), rw e own)) (λ m. inr m) (subst (In g) is i)) (old.rest g l);
   }
 
 -- if no facet remains, all planes are listed
@@ -45,8 +38,7 @@ pub columns_are_inner : (pts : List Vector) (sample : List ℕ) (fs : List Store
     → IsFinished (place pts) sample (surface_of fs) → HasPlanes pts fs columns.planes.items → All (IsCellOf columns.planes.items) columns.cells.items
     → AreInner pts sample columns
 columns_are_inner pts sample fs columns z has cells ids sub l member held =
-    inner_is_not_extreme (place pts) sample (surface_of fs) z l
-    (λ f live. (let h = has f ((live_is_marked fs f).0 live) in h.2 (place pts l) held.2.0
+    inner_is_not_extreme (place pts) sample (surface_of fs) z l (λ f live. (let h = has f ((live_is_marked fs f).0 live) in h.2 (place pts l) held.2.0
     (held_is_below columns.planes.items held.0 (place pts l) (All-In (IsCellOf columns.planes.items) columns.cells.items held.0 cells held.1) held.2 h.0 h.1)))
     ids sub
 
@@ -64,10 +56,7 @@ pub part_of_part : (pts : List Vector) (ids first second : List ℕ) → IsOuter
     → IsOuterPart pts ids second
 part_of_part pts ids first second one two = record {
   rising = λ r. two.rising (one.rising r);
-  extremes = record {
-    within = λ i m. one.extremes.within i (two.extremes.within i m);
-    extremes = λ i e. two.extremes.extremes i (still i e);
-  };
+  extremes = record { within = λ i m. one.extremes.within i (two.extremes.within i m); extremes = λ i e. two.extremes.extremes i (still i e) };
 }
   where
     still : (i : ℕ) → Extreme (place pts) (Members ids) i → Extreme (place pts) (Members first) i

@@ -30,8 +30,7 @@ inner_goes pts all ids kept rest x inner h = record {
   rising = λ r. rising_without kept x rest (h.rising r);
   within = λ i m. h.within i (wider kept x rest i m);
   extremes = λ i m e. in_append kept rest i (⊎_elim (λ k. inl k)
-      (λ k. ⊎_elim (λ q. absurd (inner (subst (Extreme (place pts) (Members all)) q e))) (λ n. inr n) k)
-      (of_append kept (x ∷ rest) i (h.extremes i m e)));
+      (λ k. ⊎_elim (λ q. absurd (inner (subst (Extreme (place pts) (Members all)) q e))) (λ n. inr n) k) (of_append kept (x ∷ rest) i (h.extremes i m e)));
 }
 
 -- all ids are kept if no id was tested

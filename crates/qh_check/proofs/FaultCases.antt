@@ -1,9 +1,8 @@
 -- The faults of a polygon that the plane of its first three corners shows.
-use Rattle.qh_model.proofs.Common.{ℕ, List, Option, Some, None, MatchOption, Vector, place, AreInLine, In}
-use Rattle.qh_check.specs.declared.{faces.FirstThree.FirstThree, fault.FaceFault.FaceFault}
-use Rattle.qh_check.specs.declared.fault.FaceFault.TheVariants.{NoPlane, Above, OtherFace}
+use Rattle.qh_check.{proofs.Pieces.one_beginning, specs.declared.faces.FirstThree.FirstThree}
+use Rattle.qh_check.specs.declared.fault.FaceFault.{FaceFault, TheVariants.NoPlane, TheVariants.Above, TheVariants.OtherFace}
 use Rattle.qh_check.specs.steps.Faces.{BeginsWithThree, IsFaceAt, IsFaultAt, IsFaceOf, IsFaultOf}
-use Rattle.qh_check.proofs.Pieces.{one_beginning}
+use Rattle.qh_model.proofs.Common.{ℕ, List, Option, Some, None, MatchOption, Vector, place, AreInLine, In}
 
 module _ (pts : List Vector) (ids : List ℕ) (q : List ℕ) (t : FirstThree) (b : BeginsWithThree pts q t) where
   fault : (f : FaceFault) → IsFaultAt pts ids t q f → IsFaultOf pts ids q f

@@ -1,11 +1,8 @@
 -- The first three corners of a face are a supporting triple with this face.
-use Rattle.qh_model.proofs.Common.{ℕ, ◌≡◌, ◌≢◌, inl, inr, refl, sym, subst, List, [], ◌∷◌, pos, ◌<ℤ◌, IsFace, HasDistinctPoints, Vector, cross, vol, In}
-use Rattle.qh_model.proofs.Common.{Members, IsSupportingTriple, IsFacePolygon}
-use Rattle.qh_model.specs.headline.Predicates.{left}
-use Rattle.qh_model.proofs.{algebra.VectorIdentities.left-turn, polygons.Fans.corners_support, polygons.Fans.face_fan, polygons.PlaneTurns.level_along}
-use Rattle.qh_model.proofs.polygons.Edges.{seen_from}
-use Rattle.qh_check.proofs.Pieces.{one_beginning}
-use Rattle.qh_check.specs.contract.Pieces.{BeginsWith}
+use Rattle.qh_model.proofs.Common.{ℕ, ◌≡◌, ◌≢◌, inl, inr, refl, List, [], ◌∷◌, pos, ◌<ℤ◌, IsFace, HasDistinctPoints, Vector, cross, vol, In, Members}
+use Rattle.qh_model.{proofs.Common.IsSupportingTriple, proofs.Common.IsFacePolygon, specs.headline.Predicates.left, proofs.algebra.VectorIdentities.left-turn}
+use Rattle.qh_model.proofs.polygons.{Fans.corners_support, Fans.face_fan, PlaneTurns.level_along, Edges.seen_from}
+use Rattle.qh_check.{proofs.Pieces.one_beginning, specs.contract.Pieces.BeginsWith}
 
 -- the three are a supporting triple whose polygon is q
 abbrev pub HasFace : (ℕ → Vector) → (ℕ → Type 0) → List ℕ → (i j k : ℕ) → Type 0
@@ -35,28 +32,24 @@ module _ (at : ℕ → Vector) (ids : List ℕ) (d : HasDistinctPoints at (Membe
       not_k e = p.once.0 (inr (inl e))
 
       triple : IsSupportingTriple at (Members ids) i j k
-      triple =
-          corners_support at ids u v w (i ∷ j ∷ k ∷ r) plane p j k i (inr (inl (refl, refl))) (inl refl) not_j not_k
+      triple = corners_support at ids u v w (i ∷ j ∷ k ∷ r) plane p j k i (inr (inl (refl, refl))) (inl refl) not_j not_k
 
       on : (l : ℕ) → In l (i ∷ j ∷ k ∷ r) → vol (at u) (at v) (at w) (at l) ≡ pos 0
       on l m = ((p.members l).0 m).1
 
       turn : pos 0 <ℤ left (cross (at u) (at v) (at w)) (at i) (at j) (at k)
-      turn =
-          subst (λ x. pos 0 <ℤ x) (sym (left-turn (cross (at u) (at v) (at w)) (at i) (at j) (at k)))
-          (p.round j k (inr (inl (refl, refl))) i (inl refl) not_j not_k)
+      turn = rw (left-turn (cross (at u) (at v) (at w)) (at i) (at j) (at k)) (p.round j k (inr (inl (refl, refl))) i (inl refl) not_j not_k)
 
       own : IsFacePolygon at (Members ids) i j k (i ∷ j ∷ k ∷ r)
       own =
-          let on_i = on i (inl refl) in let on_j = on j (inr (inl refl)) in let on_k = on k (inr (inr (inl refl))) in
-          let along = level_along (at u) (at v) (at w) (at i) (at j) (at k) plane.area on_i on_j on_k turn in
+          let on_i = on i (inl refl) in
+          let along = level_along (at u) (at v) (at w) (at i) (at j) (at k) plane.area on_i (on j (inr (inl refl))) (on k (inr (inr (inl refl)))) turn in
           seen_from at (Members ids) u v w i j k (i ∷ j ∷ k ∷ r) p along on_i
 
 -- a face begins with three corners
 pub some_corners : (at : ℕ → Vector) (ids : List ℕ) → HasDistinctPoints at (Members ids) → (q : List ℕ)
     → IsFace at (Members ids) q → (i j k : ℕ) × BeginsWith q i j k × HasFace at (Members ids) q i j k
-some_corners at ids d q (u, v, w, plane, p) =
-    let f = corners_of at ids d u v w plane q p in (f.i, f.j, f.k, (f.rest, f.is), f.face)
+some_corners at ids d q (u, v, w, plane, p) = let f = corners_of at ids d u v w plane q p in (f.i, f.j, f.k, (f.rest, f.is), f.face)
 
 -- any three corners with which a face begins are a supporting triple with this face
 pub corners_at : (at : ℕ → Vector) (ids : List ℕ) → HasDistinctPoints at (Members ids) → (q : List ℕ)

@@ -1,17 +1,15 @@
 -- A polygon that goes round corners of a face, and turns as the face does, is a piece of it.
-use Rattle.qh_model.proofs.Common.{ℕ, ◌≡◌, ◌≢◌, ap, inl, inr, refl, sym, subst, ◌∙◌, List, [], get_or, All, pos, ◌<ℤ◌, ◌≤ℤ◌, Option, Some, None, MatchOption}
-use Rattle.qh_model.proofs.Common.{is_gt, IsFace, HasDistinctPoints, IsIdSet, BodyValue, IsBody, IsDimension, Vector, origin, dot, cross, place, vol, In}
-use Rattle.qh_model.proofs.Common.{Members, IsSupportingTriple, AreFaces, ArePolygons, IsFacePolygon}
-use Rattle.qh_model.specs.headline.Predicates.{left}
-use Rattle.qh_model.proofs.{Members.All-In, Members.All-of, Members.In-get_or, extremes.Directions.from_plane, extremes.Directions.square-positive}
-use Rattle.qh_model.proofs.algebra.{Order.cancel-nonpos, Order.mul-nonneg_nonpos, Order.positive_le, VectorIdentities.in_line-left}
-use Rattle.qh_model.proofs.{algebra.Signs.less_differ, polygons.Edges.seen_from, polygons.PlaneTurns.level_along, polygons.PlaneTurns.level_volume}
-use Rattle.qh_pred.specs.contract.Turns.{IsAcross}
-use Rattle.qh_pred.proofs.Turns.{turn_sign}
-use Rattle.qh_polygon.proofs.polygons.Chain.{is_left-yes}
-use Rattle.qh_check.specs.{contract.Pieces.IsMetRound, contract.Pieces.IsPiece, steps.HullFaces.IsPieceAmong, steps.HullFaces.TurnsAlike, steps.Faces.IsFaceOf}
-use Rattle.qh_check.specs.{declared.findings.Finding.Finding, steps.Findings.IsFound, steps.Findings.IsSeen}
 use Rattle.qh_check.proofs.{FirstCorners.HasFace, FirstCorners.corners_at, MetBehind.round_has, Verdicts.faces_of}
+use Rattle.qh_check.specs.{contract.Pieces.IsMetRound, contract.Pieces.IsPiece, declared.findings.Finding.Finding}
+use Rattle.qh_check.specs.steps.{Faces.IsFaceOf, Findings.IsFound, Findings.IsSeen, HullFaces.IsPieceAmong, HullFaces.TurnsAlike}
+use Rattle.qh_model.proofs.Common.{ℕ, ◌≡◌, ◌≢◌, ap, inl, inr, refl, sym, subst, ◌∙◌, List}
+use Rattle.qh_model.proofs.Common.{[], get_or, All, pos, ◌<ℤ◌, Option, Some, None, MatchOption, is_gt, IsFace, HasDistinctPoints, IsIdSet, BodyValue, IsBody}
+use Rattle.qh_model.proofs.Common.{IsDimension, Vector, origin, dot, cross, place, vol, In, Members, IsSupportingTriple, AreFaces, ArePolygons, IsFacePolygon}
+use Rattle.qh_model.proofs.Members.{All-In, All-of, In-get_or}
+use Rattle.qh_model.proofs.algebra.{Order.cancel-nonpos, Order.mul-nonneg_nonpos, Order.positive_le, Signs.less_differ, VectorIdentities.in_line-left}
+use Rattle.qh_model.proofs.{extremes.Directions.from_plane, extremes.Directions.square-positive, polygons.Edges.seen_from, polygons.PlaneTurns.level_along}
+use Rattle.qh_model.{proofs.polygons.PlaneTurns.level_volume, specs.headline.Predicates.left}
+use Rattle.{qh_polygon.proofs.polygons.Chain.is_left-yes, qh_pred.proofs.Turns.turn_sign, qh_pred.specs.contract.Turns.IsAcross}
 
 module _ (pts : List Vector) (ids : List ℕ) (d : HasDistinctPoints (place pts) (Members ids)) (face q : List ℕ)
     (own : IsFace (place pts) (Members ids) face) (met : IsMetRound q face) (t : TurnsAlike pts face q) where
@@ -60,8 +58,7 @@ module _ (pts : List Vector) (ids : List ℕ) (d : HasDistinctPoints (place pts)
     has_k = (corner t.k has_k).0;
     area = λ e. less_differ (pos 0) (left n (at t.i) (at t.j) (at t.k)) turn (sym (in_line-left n (at t.i) (at t.j) (at t.k) e));
     supports = λ l a. cancel-nonpos (dot n n) (vol (at t.i) (at t.j) (at t.k) (at l)) (square-positive n plane.0.area)
-        (subst (λ x. x ≤ℤ pos 0)
-        (sym (level_volume (at t.u) (at t.v) (at t.w) (at t.i) (at t.j) (at t.k) (at l) (corner t.i has_i).1 (corner t.j has_j).1 (corner t.k has_k).1))
+        (rw (level_volume (at t.u) (at t.v) (at t.w) (at t.i) (at t.j) (at t.k) (at l) (corner t.i has_i).1 (corner t.j has_j).1 (corner t.k has_k).1)
         (mul-nonneg_nonpos (left n (at t.i) (at t.j) (at t.k)) (vol (at t.u) (at t.v) (at t.w) (at l)) (positive_le _ turn) (plane.0.supports l a)));
   }
 
@@ -83,8 +80,7 @@ piece_among pts ids faces q are (k, (l, met, t)) =
 
 -- the polygons of the hull of a solid set are its faces
 pub faces_of_body : (pts : List Vector) (ids : List ℕ) → IsIdSet pts ids → IsDimension (place pts) (Members ids) 3
-    → (b : BodyValue) → IsBody (place pts) (Members ids) b → (faces : List (List ℕ)) → b.polygons ≡ faces
-    → AreFaces (place pts) (Members ids) faces
+    → (b : BodyValue) → IsBody (place pts) (Members ids) b → (faces : List (List ℕ)) → b.polygons ≡ faces → AreFaces (place pts) (Members ids) faces
 faces_of_body pts ids set solid b body faces e =
     faces_of pts ids faces set solid (b.dim, body.dim, subst (ArePolygons (place pts) (Members ids) b.dim) e body.polygons)
 

@@ -1,15 +1,13 @@
 -- The verdict on polygons of images is that on polygons of the points.
-use Rattle.qh_model.proofs.Common.{ℕ, ◌≡◌, arith, List, [], ◌∷◌, get_or, inl, inr, refl, sym, subst, ◌∙◌, get_or_default, AreIndices, IsIdSet, IsDimension}
-use Rattle.qh_model.proofs.Common.{place, In, Members, Vector}
-use Rattle.qh_model.proofs.Members.{In-get_or, in_at, to_contains}
-use Rattle.qh_lattice.specs.contract.LatticeMaps.{IsReduced}
-use Rattle.qh_lattice.proofs.{Hulls.Keeps, Hulls.back, Hulls.dimension, Hulls.face, Hulls.triple, SameHulls.image_keeps, SameHulls.image_set}
-use Rattle.qh_check.specs.{contract.Claims.IsFaceFault, contract.Naming.AreNamed, contract.Naming.AreNamedFaces, declared.fault.FaceFault.FaceFault}
-use Rattle.qh_check.specs.{contract.Pieces.BeginsWith, contract.Pieces.IsOfPlane, contract.Pieces.IsPiece, declared.verdict.SurfaceVerdict.SurfaceVerdict}
+use Rattle.qh_check.specs.contract.{Claims.IsFaceFault, Naming.AreNamed, Naming.AreNamedFaces, Pieces.BeginsWith, Pieces.IsOfPlane, Pieces.IsPiece}
 use Rattle.qh_check.specs.contract.Surfaces.{IsHullSurface, IsSurfaceReason, IsSurfaceVerdictOf}
-use Rattle.qh_check.specs.declared.fault.FaceFault.TheVariants.{NoPlane, Above, OtherFace}
-use Rattle.qh_check.specs.declared.verdict.SurfaceVerdict.TheVariants.{Right, OtherPolygons, NoPiece, Open, Twice}
-use Rattle.qh_check.specs.steps.Corners.{HaveCornersIn}
+use Rattle.qh_check.specs.declared.fault.FaceFault.{FaceFault, TheVariants.NoPlane, TheVariants.Above, TheVariants.OtherFace}
+use Rattle.qh_check.specs.declared.verdict.SurfaceVerdict.{SurfaceVerdict, TheVariants.Right, TheVariants.OtherPolygons, TheVariants.NoPiece, TheVariants.Open}
+use Rattle.qh_check.specs.{declared.verdict.SurfaceVerdict.TheVariants.Twice, steps.Corners.HaveCornersIn}
+use Rattle.qh_lattice.proofs.Hulls.{Keeps, back, dimension, face, triple}
+use Rattle.qh_lattice.{proofs.SameHulls.image_keeps, proofs.SameHulls.image_set, specs.contract.LatticeMaps.IsReduced}
+use Rattle.qh_model.proofs.Common.{ℕ, ◌≡◌, arith, List, [], ◌∷◌, get_or, inl, inr, refl, sym, subst, ◌∙◌, get_or_default, AreIndices, IsIdSet, IsDimension}
+use Rattle.qh_model.proofs.{Common.place, Common.In, Common.Members, Common.Vector, Members.In-get_or, Members.in_at, Members.to_contains}
 
 -- ---- polygons of members
 -- the corners of renamed polygons are ids
@@ -19,7 +17,7 @@ named_corners pts ids named faces qs s q m i n =
     let c = to_contains qs q m in let at : get_or qs c.0 [] ≡ q = get_or_default qs c.0 [] q c.1 ∙ c.2 in
     let same = s.each c.0 (let e = s.count in omega (arith, e, c.1)) in let d = in_at q i n in
     let polygon = subst (λ (p : List ℕ). AreNamed pts ids named (get_or faces c.0 []) p) at same in
-    subst (λ (k : ℕ). In k ids) d.2 (polygon.each d.0 (let e = polygon.count in omega (arith, e, d.1))).1.0
+    subst (λ (k : ℕ). In k ids) d.2 (polygon.each d.0 (omega (arith, polygon.count, d.1))).1.0
 
 module _ (at up : ℕ → Vector) (ids : List ℕ) (h : Keeps at up (Members ids)) where
   -- a polygon that goes round corners of the face of a plane

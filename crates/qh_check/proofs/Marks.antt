@@ -1,9 +1,8 @@
 -- Marks of ids and of corners.
-use Rattle.qh_model.proofs.Common.{◌≡◌, ◌≢◌, ℕ, ◌+◌, ◌<◌, ◌⊎◌, arith, sym, ap, subst, ◌∙◌, inl, inr, Bool, true, false, List, [], ◌∷◌, get_or, length, take}
-use Rattle.qh_model.proofs.Common.{set, cases_Bool, cases_lt, get_or-set_other, filter, not, Triple, In, IsCornerOf}
-use Rattle.qh_model.proofs.{Members.each_of_three, lists.Filters.in_filter}
-use Rattle.qh_check.specs.steps.CornerMarks.{IsMarked, is_unmarked}
-use Rattle.qh_check.proofs.Prefixes.{each_more, in_more, last_more}
+use Rattle.qh_model.proofs.Common.{◌≡◌, ◌≢◌, ℕ, ◌+◌, ◌<◌, ◌⊎◌, arith, sym, ap, subst, ◌∙◌, inl, inr, Bool, true}
+use Rattle.qh_model.proofs.Common.{false, List, [], ◌∷◌, get_or, length, take, set, cases_Bool, cases_lt, get_or-set_other, filter, not, Triple, In, IsCornerOf}
+use Rattle.{qh_model.proofs.Members.each_of_three, qh_model.proofs.lists.Filters.in_filter, qh_check.specs.steps.CornerMarks.IsMarked}
+use Rattle.qh_check.{specs.steps.CornerMarks.is_unmarked, proofs.Prefixes.each_more, proofs.Prefixes.in_more, proofs.Prefixes.last_more}
 
 -- a mark after one more was set before, or is the new one
 pub marked_more : (marks : List Bool) (i k : ℕ) → IsMarked (set marks i true) k → IsMarked marks k ⊎ (k ≡ i)
@@ -22,8 +21,7 @@ corner_more ts i d k l (t, m, h) = (t, in_more ts i d t l m, h)
 -- a corner of the current triangle is a corner
 pub corner_last : (ts : List Triple) (i : ℕ) (own : Triple) (k : ℕ) → i < length ts → own ≡ get_or ts i own
     → In k (own.i ∷ own.j ∷ own.k ∷ []) → IsCornerOf (take (i + 1) ts) k
-corner_last ts i own k l is h =
-    (own, subst (λ (t : Triple). In t (take (i + 1) ts)) (sym is) (last_more ts i own l), h)
+corner_last ts i own k l is h = (own, subst (λ (t : Triple). In t (take (i + 1) ts)) (sym is) (last_more ts i own l), h)
 
 -- a fact about corners so far and about those of the current triangle holds for all
 pub corners_more : (P : ℕ → Type 0) (ts : List Triple) (i : ℕ) (own : Triple) → i < length ts → own ≡ get_or ts i own

@@ -1,8 +1,7 @@
 -- Lists that are met behind a position of a polygon, by the positions of their members.
 use Rattle.std.proofs.Common.{ℕ, zero, suc, ◌≡◌, ◌+◌, ◌-◌, ◌<◌, ◌≤◌, arith, ap, sym, subst, ◌∙◌, inl, inr, List, [], ◌∷◌, ◌++◌, length, get_or, drop, take}
 use Rattle.std.proofs.lemmas.List.{get_or-append_right, get_or_append_left, get_or-take, get_or-drop, length-append, length-drop, length-take, drop_more}
-use Rattle.qh_model.specs.headline.Sets.{In}
-use Rattle.qh_model.proofs.{Members.In-get_or, lists.Joined.of_append}
+use Rattle.{std.proofs.lemmas.List.drop-drop, qh_model.specs.headline.Sets.In, qh_model.proofs.Members.In-get_or, qh_model.proofs.lists.Joined.of_append}
 use Rattle.qh_places.proofs.ListMembers.{in_back, in_front}
 use Rattle.qh_check.specs.{contract.Pieces.IsMetAlong, contract.Pieces.IsMetRound, steps.Rounds.IsBehind, steps.Rounds.way_behind}
 
@@ -20,10 +19,7 @@ met_from_first p (v ∷ q) (suc n) h = met_more p q v (met_from_first p q n h)
 
 -- a list that is met from a position is met from any earlier position
 pub met_earlier : (p q : List ℕ) (m n : ℕ) → m ≤ n → IsMetAlong p (drop n q) → IsMetAlong p (drop m q)
-met_earlier p q zero n le h = met_from_first p q n h
-met_earlier p q (suc m) zero le h = absurd (omega (arith, le))
-met_earlier p [] (suc m) (suc n) le h = h
-met_earlier p (v ∷ q) (suc m) (suc n) le h = met_earlier p q m n (omega (arith, le)) h
+met_earlier p q m n le h = met_from_first p (drop m q) (n - m) (rw (drop-drop (n - m) m q) (subst (λ k. IsMetAlong p (drop k q)) (omega (arith, le)) h))
 
 -- one more member, at a position before that of the next
 pub met_before : (p q : List ℕ) (k m n : ℕ) → k < length p → m < length q → m < n → get_or p k 0 ≡ get_or q m 0
@@ -34,26 +30,18 @@ met_before p q k m n in_p in_q less e h =
 -- ---- the way round from behind a position
 module _ (face : List ℕ) (from : ℕ) (there : from < length face) where
   pub length-way : length (way_behind face from) + 1 ≡ length face
-  length-way =
-      let e = length-append (drop (from + 1) face) (take from face) in
-      let d = length-drop (from + 1) face in
-      let t = length-take from face in
-      omega (arith, e, d, t, there)
+  length-way = omega (arith, length-append (drop (from + 1) face) (take from face), length-drop (from + 1) face, length-take from face, there)
 
   -- the corner at the other position comes after this number of steps
   pub behind : (to steps : ℕ) → to < length face → steps + 1 < length face → IsBehind from to (length face) steps
       → get_or (way_behind face from) steps 0 ≡ get_or face to 0
   behind to steps l short (inl (less, e)) =
-      get_or_append_left (drop (from + 1) face) (take from face) 0 steps
-      (let d = length-drop (from + 1) face in omega (arith, d, e, l, there))
+      get_or_append_left (drop (from + 1) face) (take from face) 0 steps (omega (arith, length-drop (from + 1) face, e, l, there))
       ∙ get_or-drop (from + 1) face steps 0 ∙ ap (λ k. get_or face k 0) e
   behind to steps l short (inr (le, e)) =
-      get_or-append_right (drop (from + 1) face) (take from face) (length face - (from + 1)) steps 0
-      (length-drop (from + 1) face) (omega (arith, e, l, there))
+      let same : steps - (length face - (from + 1)) ≡ to = omega (arith, e, le, there) in
+      get_or-append_right (drop (from + 1) face) (take from face) (length face - (from + 1)) steps 0 (length-drop (from + 1) face) (omega (arith, e, l, there))
       ∙ ap (λ k. get_or (take from face) k 0) (same) ∙ get_or-take from face to 0 (omega (arith, le, e, short))
-    where
-      same : steps - (length face - (from + 1)) ≡ to
-      same = omega (arith, e, le, there)
 
 -- ---- members
 along_has : (p q : List ℕ) → IsMetAlong p q → (x : ℕ) → In x p → In x q

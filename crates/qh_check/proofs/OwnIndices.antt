@@ -1,8 +1,7 @@
 -- Faces whose corners are distinct ids name themselves.
 use Rattle.qh_model.proofs.Common.{ℕ, ◌<◌, arith, All, List, [], get_or, length, refl, subst, Vector, In}
-use Rattle.qh_model.proofs.Members.{All-In, In-get_or}
-use Rattle.qh_check.specs.contract.Naming.{AreNamed, AreNamedFaces, IsNamed}
-use Rattle.qh_check.specs.steps.OwnIndices.{AreAllIndices, AreSamePoints}
+use Rattle.{qh_model.proofs.Members.All-In, qh_model.proofs.Members.In-get_or, qh_check.specs.contract.Naming.AreNamed}
+use Rattle.qh_check.specs.{contract.Naming.AreNamedFaces, contract.Naming.IsNamed, steps.OwnIndices.AreAllIndices, steps.OwnIndices.AreSamePoints}
 
 -- each face is its own renamed face
 pub own_faces : (pts : List Vector) (ids : List ℕ) (named : List Vector) (faces : List (List ℕ)) → AreAllIndices ids (length pts) → AreSamePoints pts named
@@ -12,7 +11,7 @@ own_faces pts ids named faces all same low = record { count = refl; each = λ k 
     itself : (i : ℕ) → i < length pts → IsNamed pts ids named i i
     itself i l = (
       let e = same.size in omega (arith, e, l),
-      (subst (λ (x : ℕ). In x ids) (all.each i l) (In-get_or ids i 0 (let e = all.size in omega (arith, e, l))), same.each i l),
+      (subst (λ (x : ℕ). In x ids) (all.each i l) (In-get_or ids i 0 (omega (arith, all.size, l))), same.each i l),
     )
 
     own : (face : List ℕ) → All (λ i. i < length pts) face → AreNamed pts ids named face face

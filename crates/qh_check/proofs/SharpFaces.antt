@@ -84,7 +84,7 @@ module _ (at : ℕ → Vector) (ids : List ℕ) (ts : List Triple) (s : AreSharp
 
   -- there is a triangle
   some : 0 < length ts
-  some = let le = count_by-le-length (is_met at s.z s.d) ts in let e = s.met.once in omega (arith, le, e)
+  some = omega (arith, count_by-le-length (is_met at s.z s.d) ts, s.met.once)
 
   -- the triangle and its neighbour span the space
   solid : IsDimension at (Members ids) 3

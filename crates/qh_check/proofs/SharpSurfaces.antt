@@ -1,8 +1,8 @@
 -- A sharp surface is the surface of the hull: each triangle goes round all corners of a face.
 use Rattle.qh_model.proofs.Common.{ℕ, List, [], ◌∷◌, arith, refl, sym, subst, inl, inr, Triple, Vector, place, Members}
 use Rattle.qh_laws.specs.contract.LocallyConvex.{IsRound}
-use Rattle.qh_check.specs.contract.{SharpSurface.IsSharpSurface, SharpSurface.IsTriangleFace, Pieces.IsMetRound, Pieces.IsPiece}
-use Rattle.qh_check.specs.{contract.Surfaces.IsHullSurface, contract.Surfaces.IsSurfaceVerdictOf, declared.verdict.SurfaceVerdict.TheVariants.Right}
+use Rattle.qh_check.specs.contract.{SharpSurface.IsSharpSurface, SharpSurface.IsTriangleFace, Pieces.IsMetRound, Pieces.IsPiece, Surfaces.IsHullSurface}
+use Rattle.qh_check.specs.{contract.Surfaces.IsSurfaceVerdictOf, declared.verdict.SurfaceVerdict.TheVariants.Right}
 
 -- a walk round a triangle from any of its corners meets all corners
 met_round : (t : Triple) (u v w : ℕ) → IsRound t u v w → IsMetRound (t.i ∷ t.j ∷ t.k ∷ []) (u ∷ v ∷ w ∷ [])
@@ -28,7 +28,4 @@ pub sharp_is_right : (pts : List Vector) (ids : List ℕ) (qs : List (List ℕ))
 sharp_is_right pts ids qs s = record { right = (λ e. claim, λ p. refl); reason = claim }
   where
     claim : IsHullSurface (place pts) (Members ids) qs
-    claim = inl (
-      s.solid,
-      record { some = s.some; pieces = λ q m. piece (place pts) (Members ids) q (s.faces q m); closed = s.closed; once = s.once },
-    )
+    claim = inl (s.solid, record { some = s.some; pieces = λ q m. piece (place pts) (Members ids) q (s.faces q m); closed = s.closed; once = s.once })

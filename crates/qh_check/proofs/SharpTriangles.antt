@@ -1,19 +1,18 @@
 -- Triangles whose steps pair off with an angle at each edge: the neighbours of each.
-use Rattle.qh_model.proofs.Common.{◌≡◌, ◌≢◌, ℕ, ◌<◌, arith, List, get_or, length, refl, sym, ap, subst, ◌∙◌, inl, inr, cases_lt, nat_tests, ints, pos, ◌<ℤ◌}
-use Rattle.qh_model.proofs.Common.{flat_map, Vector, vol, In, Triple}
-use Rattle.qh_model.proofs.{Members.In-get_or, lists.Images.in_map, lists.Joined.in_flat_map}
-use Rattle.qh_model.proofs.algebra.{Signs.equal_negative, Signs.less_le, VectorIdentities.vol-flip, VectorIdentities.vol-third_last}
+use Rattle.qh_model.proofs.Common.{◌≡◌, ◌≢◌, ℕ, ◌<◌, arith, List}
+use Rattle.qh_model.proofs.Common.{get_or, length, refl, sym, ap, subst, ◌∙◌, inl, inr, cases_lt, nat_tests, ints, pos, ◌<ℤ◌, flat_map, Vector, vol, In, Triple}
+use Rattle.qh_model.proofs.{Members.In-get_or, lists.Images.in_map, lists.Joined.in_flat_map, algebra.Signs.equal_negative, algebra.Signs.less_le}
+use Rattle.qh_model.proofs.algebra.VectorIdentities.{vol-flip, vol-third_last}
 use Rattle.qh_laws.specs.contract.LocallyConvex.{IsRound, HasLowNeighbour, IsSharpAround}
-use Rattle.qh_laws.proofs.Highest.{rise_round}
-use Rattle.qh_check.specs.steps.Rays.{IsInside}
+use Rattle.{qh_laws.proofs.Highest.rise_round, qh_check.specs.steps.Rays.IsInside}
 use Rattle.qh_check.specs.steps.StepKeys.{step_in, turns, back, AreSteps, AreSharpPairs, IsSharpPair}
 use Rattle.qh_check.proofs.StepLists.{at_position, of_turns, of_ups, in_ups, of_downs, in_downs}
 
 -- a triangle with a place strictly below it has three corners
 pub ends_differ : (at : ℕ → Vector) (z : Vector) (u v w : ℕ) → vol (at u) (at v) (at w) z <ℤ pos 0 → u ≢ v
 ends_differ at z u v w h e =
-    let own = vol-flip (at u) (at u) (at w) z in let below = subst (λ (x : ℕ). vol (at u) (at x) (at w) z <ℤ pos 0) (sym e) h in
-    omega (arith, ints, own, below)
+    let below = subst (λ (x : ℕ). vol (at u) (at x) (at w) z <ℤ pos 0) (sym e) h in
+    omega (arith, ints, vol-flip (at u) (at u) (at w) z, below)
 
 module _ (at : ℕ → Vector) (ts : List Triple) (up down : List ℕ) (steps : AreSteps ts up down) (pairs : AreSharpPairs at up down) where
   abbrev all : List Triple
@@ -44,7 +43,7 @@ module _ (at : ℕ → Vector) (ts : List Triple) (up down : List ℕ) (steps : 
           pair = pairs.each k h
 
           behind : k < length down
-          behind = let c = pairs.count in omega (arith, c, h)
+          behind = omega (arith, pairs.count, h)
 
   -- the step back of a step to a lower id
   partner_down : (s : Triple) → In s all → s.j < s.i → HasPartner s
@@ -60,7 +59,7 @@ module _ (at : ℕ → Vector) (ts : List Triple) (up down : List ℕ) (steps : 
       }
         where
           ahead : k < length up
-          ahead = let c = pairs.count in omega (arith, c, h)
+          ahead = omega (arith, pairs.count, h)
 
           pair : IsSharpPair at (step_in (get_or up k 0)) (step_in (get_or down k 0))
           pair = pairs.each k ahead

@@ -1,10 +1,9 @@
 -- Steps along edges pair off, and each is taken once.
-use Rattle.qh_model.proofs.Common.{◌≡◌, ℕ, suc, ◌+◌, ◌*◌, ◌/◌, ◌%◌, ◌<◌, ◌≤◌, arith, refl, sym, ap, subst, ◌∙◌, inl, inr, Bool, true, false, cond, List, []}
-use Rattle.qh_model.proofs.Common.{◌∷◌, get_or, length, map, cases_lt, nat_tests, sum_by-IsPermutation, count_by, filter, nat_lt, flat_map, Triple, edges}
-use Rattle.qh_model.proofs.Common.{is_edge, steps_round, Vector}
-use Rattle.qh_model.proofs.closed_surfaces.SignedVolume.{edge_tests, is_edge-back}
-use Rattle.qh_model.proofs.{closed_surfaces.Sums.count, closed_surfaces.Sums.count-is, closed_surfaces.Sums.count_kept, lists.Counts.count-map}
-use Rattle.qh_check.specs.{declared.convex.steps.TheConstants.ROOM, steps.Triangles.corners}
+use Rattle.qh_model.proofs.Common.{◌≡◌, ℕ, suc, ◌+◌, ◌*◌}
+use Rattle.qh_model.proofs.Common.{◌/◌, ◌%◌, ◌<◌, ◌≤◌, arith, refl, sym, ap, subst, ◌∙◌, inl, inr, Bool, true, false, cond, List, [], ◌∷◌, get_or, length, map}
+use Rattle.qh_model.proofs.Common.{cases_lt, nat_tests, sum_by-IsPermutation, count_by, filter, nat_lt, flat_map, Triple, edges, is_edge, steps_round, Vector}
+use Rattle.qh_model.proofs.closed_surfaces.{SignedVolume.edge_tests, SignedVolume.is_edge-back, Sums.count, Sums.count-is, Sums.count_kept}
+use Rattle.{qh_model.proofs.lists.Counts.count-map, qh_check.specs.declared.convex.steps.TheConstants.ROOM, qh_check.specs.steps.Triangles.corners}
 use Rattle.qh_check.specs.steps.StepKeys.{step_in, turns, goes_up, goes_down, back, AreSteps, AreSharpPairs, EdgesRise}
 
 -- the ends of a step
@@ -37,17 +36,13 @@ down_by u v l s e = ap (λ (p : ℕ × ℕ). nat_lt p.1 p.0) (sym (edge_tests.sa
 
 -- lists whose steps have the same ends at each position
 same_ends : (xs ys : List ℕ) → length xs ≡ length ys
-    → ((k : ℕ) → k < length xs → ends (step_in (get_or xs k 0)) ≡ ends (step_in (get_or ys k 0)))
-    → map ends (map step_in xs) ≡ map ends (map step_in ys)
+    → ((k : ℕ) → k < length xs → ends (step_in (get_or xs k 0)) ≡ ends (step_in (get_or ys k 0))) → map ends (map step_in xs) ≡ map ends (map step_in ys)
 same_ends [] [] e h = refl
 same_ends [] (y ∷ ys) e h = absurd (omega (arith, e))
 same_ends (x ∷ xs) [] e h = absurd (omega (arith, e))
 same_ends (x ∷ xs) (y ∷ ys) e h =
-    join (h 0 (omega arith)) (same_ends xs ys (omega (arith, e)) (λ k l. h (suc k) (omega (arith, l))))
-  where
-    join : ends (step_in x) ≡ ends (step_in y) → map ends (map step_in xs) ≡ map ends (map step_in ys)
-        → map ends (map step_in (x ∷ xs)) ≡ map ends (map step_in (y ∷ ys))
-    join p q = cc (p, q)
+    let first : ends (step_in x) ≡ ends (step_in y) = h 0 (omega arith) in
+    let others = same_ends xs ys (omega (arith, e)) (λ k l. h (suc k) (omega (arith, l))) in cc (first, others)
 
 -- ---- keys of edges that rise
 -- a rising list without its first element rises
@@ -64,7 +59,7 @@ none_above : (f : ℕ → Bool) (e : ℕ) → ((key : ℕ) → f key ≡ true �
     → EdgesRise (x ∷ xs) → e < x / ROOM → count f (x ∷ xs) ≡ 0
 none_above f e tells x [] rise l = not_counted (f x) 0 (λ t. (let same = tells x t in omega (arith, same, l))) refl
 none_above f e tells x (y ∷ ys) rise l =
-    not_counted (f x) (count f (y ∷ ys)) (λ t. (let same = tells x t in omega (arith, same, l)))
+    not_counted (f x) (count f (y ∷ ys)) (λ t. (omega (arith, tells x t, l)))
     (none_above f e tells y ys (rises_on x (y ∷ ys) rise) (let n : x / ROOM < y / ROOM = rise 0 1 (omega arith) (omega arith) in omega (arith, n, l)))
 
 -- no key is counted behind the edge itself
@@ -81,7 +76,7 @@ once_rising f e tells (x ∷ xs) rise =
     first (f x) (count f xs) (λ t. none_behind f e tells x xs rise (tells x t)) (once_rising f e tells xs (rises_on x xs rise))
   where
     first : (b : Bool) (n : ℕ) → (b ≡ true → n ≡ 0) → n ≤ 1 → cond b 1 0 + n ≤ 1
-    first true n g l = let none = g refl in omega (arith, none)
+    first true n g l = omega (arith, g refl)
     first false n g l = omega (arith, l)
 
 -- ---- steps of triangles in two lists that pair off
@@ -114,26 +109,20 @@ module _ (ts : List Triple) (up down : List ℕ) (steps : AreSteps ts up down) w
     pub closes : (u v : ℕ) → count_by (is_edge (u, v)) (map ends all) ≡ count_by (is_edge (v, u)) (map ends all)
     closes u v = elim (cases_lt u v) [
       | inl l ↦ ahead u v l
-      | inr r ↦ elim (cases_lt v u) [ inl l ↦ sym (ahead v u l) | inr s ↦ level r s ]
+      | inr r ↦ elim (cases_lt v u) [ inl l ↦ sym (ahead v u l) | inr s ↦ (let e : u ≡ v = omega (arith, r, s) in rw e refl) ]
     ]
       where
         ahead : (u v : ℕ) → u < v → count_by (is_edge (u, v)) (map ends all) ≡ count_by (is_edge (v, u)) (map ends all)
         ahead u v l = count_up u v l ∙ ap (count_by (is_edge (u, v))) same ∙ sym (count_down u v l)
 
-        level : v ≤ u → u ≤ v → count_by (is_edge (u, v)) (map ends all) ≡ count_by (is_edge (v, u)) (map ends all)
-        level r s =
-            let e : u ≡ v = omega (arith, r, s) in
-            subst (λ w. count_by (is_edge (u, w)) (map ends all) ≡ count_by (is_edge (w, u)) (map ends all)) e refl
-
   -- each step is taken at most once
   pub once : EdgesRise up → (u v : ℕ) → u < v → count_by (is_edge (u, v)) (map ends all) ≤ 1
   once rise u v l = subst (λ (n : ℕ). n ≤ 1) (sym told) (once_rising (λ key. on u v (step_in key)) (u * ROOM + v) tells up rise)
     where
-      whole : (n : ℕ) → n / ROOM * ROOM + n % ROOM ≡ n
-      whole n = omega arith
-
       tells : (key : ℕ) → on u v (step_in key) ≡ true → key / ROOM ≡ u * ROOM + v
-      tells key e = sym (whole (key / ROOM)) ∙ ap (λ (p : ℕ × ℕ). p.0 * ROOM + p.1) (sym (edge_tests.same (u, v) (ends (step_in key)) e))
+      tells key e =
+          let whole : key / ROOM / ROOM * ROOM + key / ROOM % ROOM ≡ key / ROOM = omega arith in
+          sym whole ∙ ap (λ (p : ℕ × ℕ). p.0 * ROOM + p.1) (sym (edge_tests.same (u, v) (ends (step_in key)) e))
 
       told : count_by (is_edge (u, v)) (map ends all) ≡ count (λ key. on u v (step_in key)) up
       told = count_up u v l ∙ count-map ends (is_edge (u, v)) (map step_in up) ∙ count-map step_in (on u v) up

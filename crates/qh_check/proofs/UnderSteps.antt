@@ -1,7 +1,6 @@
 -- Points under the triangle of a step.
 use Rattle.qh_model.proofs.Common.{◌≡◌, ℕ, Bool, arith, false, true, sym, ints, ℤ, pos, not, ◌<ℤ◌, ◌≤ℤ◌, Vector, vol, Triple}
-use Rattle.qh_model.proofs.algebra.Signs.{at_most_zero}
-use Rattle.qh_check.specs.steps.Hidden.{IsUnderStep}
+use Rattle.{qh_model.proofs.algebra.Signs.at_most_zero, qh_check.specs.steps.Hidden.IsUnderStep}
 
 -- a test and its opposite are not both true
 pub not_both : (b : Bool) → not b ≡ true → b ≡ true → ⊥

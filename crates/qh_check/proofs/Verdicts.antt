@@ -1,8 +1,7 @@
 -- The polygons of a set and those of its hull.
-use Rattle.qh_model.proofs.Common.{ℕ, ◌≡◌, ◌≢◌, arith, refl, subst, inl, inr, List, ◌↔◌, Bool, true, false, IsTrue, IsIdSet, Vector, place, Members}
-use Rattle.qh_model.proofs.Common.{IsDimension, BodyValue, IsBody, ArePolygons, AreFaces}
-use Rattle.qh_model.proofs.{extremes.Dimensions.one_dimension, hulls.Unique.one_polygon_list}
-use Rattle.qh_check.specs.contract.Claims.{ArePolygonsOf}
+use Rattle.qh_model.proofs.Common.{ℕ, ◌≡◌, ◌≢◌, arith, refl, subst, inl, inr}
+use Rattle.qh_model.proofs.Common.{List, ◌↔◌, Bool, true, false, IsTrue, IsIdSet, Vector, place, Members, IsDimension, BodyValue, IsBody, ArePolygons, AreFaces}
+use Rattle.{qh_model.proofs.extremes.Dimensions.one_dimension, qh_model.proofs.hulls.Unique.one_polygon_list, qh_check.specs.contract.Claims.ArePolygonsOf}
 
 -- ---- solid sets
 module _ (pts : List Vector) (ids : List ℕ) (qs : List (List ℕ)) (set : IsIdSet pts ids)

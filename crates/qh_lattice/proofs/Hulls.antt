@@ -1,13 +1,11 @@
 -- Hulls of mapped points.
-use Rattle.qh_model.proofs.Common.{◌≡◌, ◌≢◌, ℕ, inl, inr, List, refl, subst, sym, ℤ, pos, ◌<ℤ◌, ◌↔◌, Combination, HasTetrahedron, HasTriangle, IsDimension}
-use Rattle.qh_model.proofs.Common.{Extreme, Others, BodyValue, IsBody, IsFacePolygon, AreFaces, IsSegmentFace, ArePolygons, Members, IsSupportingTriple, cross}
-use Rattle.qh_model.proofs.Common.{vol, AreInLine, Vector, origin}
-use Rattle.qh_model.specs.headline.Predicates.{left}
-use Rattle.qh_model.proofs.{algebra.Signs.at_most_zero, algebra.Signs.not_less, combinations.OtherNames.combination_by_names}
-use Rattle.qh_model.proofs.polygons.Neighbours.{follows_members}
+use Rattle.qh_lattice.proofs.Images.{positive_nonzero, moved_volume_sign, moved_line, moved_turn, extreme_moved}
 use Rattle.qh_lattice.specs.contract.LatticeMaps.{Matrix, determinant, moved}
 use Rattle.qh_lattice.specs.laws.MapLaws.{SameSign, at_moved, MovedDimension, MovedFaces, MovedBody}
-use Rattle.qh_lattice.proofs.Images.{positive_nonzero, moved_volume_sign, moved_line, moved_turn, extreme_moved}
+use Rattle.qh_model.proofs.Common.{◌≡◌, ◌≢◌, ℕ, inl, inr, List, refl, subst, sym, ℤ, pos, ◌<ℤ◌, ◌↔◌, Combination, HasTetrahedron, HasTriangle, IsDimension}
+use Rattle.qh_model.proofs.Common.{Extreme, Others, BodyValue, IsBody, IsFacePolygon, AreFaces, IsSegmentFace, ArePolygons, Members, IsSupportingTriple, cross}
+use Rattle.qh_model.proofs.{Common.vol, Common.AreInLine, Common.Vector, Common.origin, algebra.Signs.at_most_zero, algebra.Signs.not_less}
+use Rattle.qh_model.{proofs.combinations.OtherNames.combination_by_names, proofs.polygons.Neighbours.follows_members, specs.headline.Predicates.left}
 
 -- the properties on which a hull depends are the same if the members have other points
 pub record Keeps (at up : ℕ → Vector) (A : ℕ → Type 0) : Type 0 where

@@ -71,23 +71,20 @@ row_minus r p q s =
 -- a difference of images is the image of the difference
 pub moved-minus : (m : Matrix) (s p q : Vector) → minus (moved m s p) (moved m s q) ≡ apply m (minus p q)
 moved-minus m s p q =
-    vector_path (minus (moved m s p) (moved m s q)) (apply m (minus p q))
-    (row_minus m.first p q s.x) (row_minus m.second p q s.y) (row_minus m.third p q s.z)
+    vector_path (minus (moved m s p) (moved m s q)) (apply m (minus p q)) (row_minus m.first p q s.x) (row_minus m.second p q s.y) (row_minus m.third p q s.z)
 
 -- ---- volumes
 -- the determinant of three images
 triple_product : (m : Matrix) (u v w : Vector) → dot (cross_product (apply m u) (apply m v)) (apply m w) ≡ determinant m *ℤ dot (cross_product u v) w
 triple_product m u v w =
     let M = mapE in let U = vec 3 in let V = vec 4 in let W = vec 5 in
-    ring (put_map m (put u (put v (put w [])))) (dotE (crossE (applyE M U) (applyE M V)) (applyE M W))
-    (mul (determinantE M) (dotE (crossE U V) W)) refl
+    ring (put_map m (put u (put v (put w [])))) (dotE (crossE (applyE M U) (applyE M V)) (applyE M W)) (mul (determinantE M) (dotE (crossE U V) W)) refl
 
 -- the law of volumes, with a shift
 pub moved_volume : MovedVolume
 unfolding vol cross
 moved_volume m s a b c d =
-    (λ t. dot (cross_product (moved-minus m s b a t) (moved-minus m s c a t)) (moved-minus m s d a t))
-    ∙ triple_product m (minus b a) (minus c a) (minus d a)
+    (λ t. dot (cross_product (moved-minus m s b a t) (moved-minus m s c a t)) (moved-minus m s d a t)) ∙ triple_product m (minus b a) (minus c a) (minus d a)
 
 -- ---- normals
 -- the normal of two images
@@ -128,10 +125,9 @@ moved_back m s v =
 
 -- the image of the origin
 pub apply-origin : (m : Matrix) → apply m origin ≡ origin
-apply-origin m = vector_path (apply m origin) origin (none m.first) (none m.second) (none m.third)
-  where
-    none : (r : Vector) → dot r origin ≡ pos 0
-    none r = dot_comm r origin ∙ dot-origin r
+apply-origin m =
+    let none : (r : Vector) → dot r origin ≡ pos 0 = λ r. dot_comm r origin ∙ dot-origin r in
+    vector_path (apply m origin) origin (none m.first) (none m.second) (none m.third)
 
 -- ---- scalar products
 -- a factor of a vector is a factor of its image

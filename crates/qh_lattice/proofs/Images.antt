@@ -1,18 +1,17 @@
 -- Signs, lines, turns and combinations of mapped points.
-use Rattle.qh_model.proofs.Common.{◌≡◌, ◌≢◌, ℕ, ◌+◌, ◌⊎◌, inl, inr, ⊎_elim, refl, sym, ap, subst, ◌∙◌, [], ◌∷◌, arith, ints, by_lt_z, ℤ, pos, ◌+ℤ◌, ◌-ℤ◌, ◌*ℤ◌}
-use Rattle.qh_model.proofs.Common.{◌<ℤ◌, ◌↔◌, Combination, IsBalanced, Extreme, Others, Members, cross, vol, Vector, origin, dot}
-use Rattle.qh_model.specs.headline.Predicates.{left}
-use Rattle.qh_model.proofs.{algebra.Signs.less_le, algebra.Signs.not_less, extremes.Directions.Parallel, extremes.Directions.square-positive}
-use Rattle.qh_model.proofs.algebra.Order.{mul-pos, mul-nonneg, mul-pos_neg, cancel-pos, cancel-zero, zero_product, product_zero, zero_or_not}
-use Rattle.qh_model.proofs.algebra.Integers.{mul_sub, mul_swap, mul_comm, one_mul}
-use Rattle.qh_model.proofs.algebra.VectorIdentities.{vec, put, dotE, combine3, vector_path, left-dot, dot_comm, dot-origin}
-use Rattle.qh_model.proofs.{closed_surfaces.Beyond.scaled, polygons.PlaneTurns.level_parallel}
-use Rattle.qh_laws.proofs.{ScaledPoints.weigh, Scales.combination_moved}
-use Rattle.qh_model.proofs.algebra.Ring.{Expr, ring, Expr.var, Expr.add, Expr.sub as less, Expr.mul}
+use Rattle.qh_lattice.proofs.Identities.{apply, cofactors}
+use Rattle.qh_lattice.proofs.Identities.{transposed, adjugate, moved_volume, cross-moved, normal_back, shift_back, moved_back, apply-origin, dot-factor}
 use Rattle.qh_lattice.specs.contract.LatticeMaps.{Matrix, determinant, moved}
 use Rattle.qh_lattice.specs.laws.MapLaws.{SameSign, at_moved, MovedVolumeSign, MovedLine, MovedTurn, MovedExtreme}
-use Rattle.qh_lattice.proofs.Identities.{apply, cofactors, transposed, adjugate, moved_volume, cross-moved, normal_back, shift_back, moved_back, apply-origin}
-use Rattle.qh_lattice.proofs.Identities.{dot-factor}
+use Rattle.qh_laws.proofs.{ScaledPoints.weigh, Scales.combination_moved}
+use Rattle.qh_model.proofs.Common.{◌≡◌, ◌≢◌, ℕ, ◌+◌, ◌⊎◌, inl, inr, ⊎_elim, refl, sym, ap, subst, ◌∙◌, [], ◌∷◌, arith, ints, by_lt_z}
+use Rattle.qh_model.proofs.Common.{ℤ, pos, ◌+ℤ◌, ◌-ℤ◌, ◌*ℤ◌, ◌<ℤ◌, ◌↔◌, Combination, IsBalanced, Extreme, Others, Members, cross, vol, Vector, origin, dot}
+use Rattle.qh_model.proofs.algebra.Integers.{mul_sub, mul_swap, mul_comm, one_mul}
+use Rattle.qh_model.proofs.algebra.Order.{mul-pos, mul-nonneg, mul-pos_neg, cancel-pos, cancel-zero, zero_product, product_zero, zero_or_not}
+use Rattle.qh_model.proofs.algebra.{Ring.Expr, Ring.ring, Ring.Expr.var, Ring.Expr.add, Ring.Expr.sub as less, Ring.Expr.mul, Signs.less_le, Signs.not_less}
+use Rattle.qh_model.proofs.algebra.VectorIdentities.{vec, put, dotE, combine3, vector_path, left-dot, dot_comm, dot-origin}
+use Rattle.qh_model.proofs.{closed_surfaces.Beyond.scaled, extremes.Directions.Parallel, extremes.Directions.square-positive}
+use Rattle.qh_model.{proofs.polygons.PlaneTurns.level_parallel, specs.headline.Predicates.left}
 
 -- ---- signs
 -- a product below 0
@@ -61,8 +60,8 @@ nonzero_scale k n h e =
 -- the law of signs
 pub moved_volume_sign : MovedVolumeSign
 moved_volume_sign m h s a b c d =
-    let v = vol a b c d in let w = vol (moved m s a) (moved m s b) (moved m s c) (moved m s d) in
-    same_by (pos 1) (determinant m) v w (omega (arith, ints)) h (one_mul w ∙ moved_volume m s a b c d)
+    let w = vol (moved m s a) (moved m s b) (moved m s c) (moved m s d) in
+    same_by (pos 1) (determinant m) (vol a b c d) w (omega (arith, ints)) h (one_mul w ∙ moved_volume m s a b c d)
 
 -- ---- lines
 -- a normal whose image is 0 is 0
@@ -81,8 +80,7 @@ moved_line m h s a b c = (
 parallel_images : (c : Matrix) (n r : Vector) → Parallel n r → dot n n *ℤ dot (apply c r) (apply c n) ≡ dot (apply c n) (apply c n) *ℤ dot r n
 parallel_images c n r p =
     let q = apply c n in
-    sym (dot-factor c (dot n n) r q)
-    ∙ ap (λ v. dot (apply c v) q) (vector_path (scaled (dot n n) r) (scaled (dot n r) n) p.x p.y p.z)
+    sym (dot-factor c (dot n n) r q) ∙ ap (λ v. dot (apply c v) q) (vector_path (scaled (dot n n) r) (scaled (dot n r) n) p.x p.y p.z)
     ∙ dot-factor c (dot n r) n q ∙ mul_comm (dot n r) (dot q q) ∙ ap (λ x. dot q q *ℤ x) (dot_comm n r)
 
 -- a turn of images, from normals
@@ -95,7 +93,9 @@ left-moved m s i j k u v w =
 
 -- the law of turns
 pub moved_turn : MovedTurn
-moved_turn m h s i j k u v w hu hv hw = ⊎_elim (λ e. same_zero a b (first e) (second e)) (λ e. sign e) (vector_zero_or_not n)
+moved_turn m h s i j k u v w hu hv hw =
+    let first : n ≡ origin → a ≡ pos 0 = λ e. left-dot n u v w ∙ dot_comm r n ∙ ap (λ x. dot x r) e ∙ dot-origin r in
+    ⊎_elim (λ e. same_zero a b (first e) (second e)) (λ e. sign e) (vector_zero_or_not n)
   where
     n : Vector
     n = cross i j k
@@ -112,9 +112,6 @@ moved_turn m h s i j k u v w hu hv hw = ⊎_elim (λ e. same_zero a b (first e) 
     b : ℤ
     b = left (cross (moved m s i) (moved m s j) (moved m s k)) (moved m s u) (moved m s v) (moved m s w)
 
-    first : n ≡ origin → a ≡ pos 0
-    first e = left-dot n u v w ∙ dot_comm r n ∙ ap (λ x. dot x r) e ∙ dot-origin r
-
     second : n ≡ origin → b ≡ pos 0
     second e =
         left-moved m s i j k u v w ∙ dot_comm (apply c r) (apply c n) ∙ ap (λ x. dot (apply c x) (apply c r)) e
@@ -122,8 +119,7 @@ moved_turn m h s i j k u v w hu hv hw = ⊎_elim (λ e. same_zero a b (first e) 
 
     sign : n ≢ origin → SameSign a b
     sign e =
-        same_by (dot n n) (dot (apply c n) (apply c n)) a b (square-positive n e)
-        (square-positive (apply c n) (λ z. e (normal_nonzero m n h z)))
+        same_by (dot n n) (dot (apply c n) (apply c n)) a b (square-positive n e) (square-positive (apply c n) (λ z. e (normal_nonzero m n h z)))
         (ap (λ x. dot n n *ℤ x) (left-moved m s i j k u v w) ∙ parallel_images c n r (level_parallel i j k u v w hu hv hw)
         ∙ ap (λ x. dot (apply c n) (apply c n) *ℤ x) (sym (left-dot n u v w)))
 
@@ -143,8 +139,7 @@ weigh_row w p₁ p₂ p₃ p₄ s r p a b c d e =
     let one = var 18 in let two = var 19 in let three = var 20 in let four = var 21 in let S = var 22 in
     let W = add (add (add one two) three) four in
     let sum = λ (i j k l : Expr). add (add (add (mul one i) (mul two j)) (mul three k)) (mul four l) in
-    rw e
-    (ring (put r (put p (put a (put b (put c (put d (p₁ ∷ p₂ ∷ p₃ ∷ p₄ ∷ s ∷ [])))))))
+    rw e (ring (put r (put p (put a (put b (put c (put d (p₁ ∷ p₂ ∷ p₃ ∷ p₄ ∷ s ∷ [])))))))
     (less (mul W (add (dotE R P) S)) (sum (add (dotE R A) S) (add (dotE R B) S) (add (dotE R C) S) (add (dotE R D) S)))
     (add (add (mul R.x (less (mul W P.x) (sum A.x B.x C.x D.x))) (mul R.y (less (mul W P.y) (sum A.y B.y C.y D.y))))
     (mul R.z (less (mul W P.z) (sum A.z B.z C.z D.z)))) refl)
@@ -158,8 +153,7 @@ balanced_row r s w₁ w₂ w₃ w₄ p a b c d x y z =
     combine3 (w *ℤ (dot r p +ℤ s)) (p₁ *ℤ (dot r a +ℤ s) +ℤ p₂ *ℤ (dot r b +ℤ s) +ℤ p₃ *ℤ (dot r c +ℤ s) +ℤ p₄ *ℤ (dot r d +ℤ s))
     r.x (w *ℤ p.x) (p₁ *ℤ a.x +ℤ p₂ *ℤ b.x +ℤ p₃ *ℤ c.x +ℤ p₄ *ℤ d.x)
     r.y (w *ℤ p.y) (p₁ *ℤ a.y +ℤ p₂ *ℤ b.y +ℤ p₃ *ℤ c.y +ℤ p₄ *ℤ d.y)
-    r.z (w *ℤ p.z) (p₁ *ℤ a.z +ℤ p₂ *ℤ b.z +ℤ p₃ *ℤ c.z +ℤ p₄ *ℤ d.z)
-    (weigh_row w p₁ p₂ p₃ p₄ s r p a b c d (weights w₁ w₂ w₃ w₄)) x y z
+    r.z (w *ℤ p.z) (p₁ *ℤ a.z +ℤ p₂ *ℤ b.z +ℤ p₃ *ℤ c.z +ℤ p₄ *ℤ d.z) (weigh_row w p₁ p₂ p₃ p₄ s r p a b c d (weights w₁ w₂ w₃ w₄)) x y z
 
 -- the image of a combination is a combination of the images
 image_combination : (m : Matrix) (s : Vector) (at : ℕ → Vector) (A : ℕ → Type 0) (p : Vector)
@@ -194,14 +188,12 @@ combination_down k h at A p c = combination_moved (scaled_at k at) at A (scaled 
 combination_back : (m : Matrix) → determinant m ≢ pos 0 → (s : Vector) (at : ℕ → Vector) (A : ℕ → Type 0) (p : Vector)
     → Combination (at_moved m s at) A (moved m s p) → Combination at A p
 combination_back m h s at A p c =
-    combination_down (determinant m) h at A p
-    (there (image_combination (adjugate m) (shift_back m s) (at_moved m s at) A (moved m s p) c))
+    combination_down (determinant m) h at A p (there (image_combination (adjugate m) (shift_back m s) (at_moved m s at) A (moved m s p) c))
   where
     there : Combination (at_moved (adjugate m) (shift_back m s) (at_moved m s at)) A (moved (adjugate m) (shift_back m s) (moved m s p))
         → Combination (scaled_at (determinant m) at) A (scaled (determinant m) p)
     there k = combination_moved (at_moved (adjugate m) (shift_back m s) (at_moved m s at)) (scaled_at (determinant m) at) A
-        (moved (adjugate m) (shift_back m s) (moved m s p)) (scaled (determinant m) p) k
-        (even k (λ v. v.x) k.x) (even k (λ v. v.y) k.y) (even k (λ v. v.z) k.z)
+        (moved (adjugate m) (shift_back m s) (moved m s p)) (scaled (determinant m) p) k (even k (λ v. v.x) k.x) (even k (λ v. v.y) k.y) (even k (λ v. v.z) k.z)
       where
         back : Vector → Vector
         back v = moved (adjugate m) (shift_back m s) (moved m s v)
@@ -229,8 +221,7 @@ moved_extreme m h s at ids l = extreme_moved m h s at (Members ids) l
 
 -- different points have different images
 pub moved_apart : (m : Matrix) → determinant m ≢ pos 0 → (s p q : Vector) → moved m s p ≡ moved m s q → p ≡ q
-moved_apart m h s p q e = vector_path p q (cancel-both (determinant m) p.x q.x h (ap (λ v. v.x) same))
+moved_apart m h s p q e =
+    let same : scaled (determinant m) p ≡ scaled (determinant m) q = sym (moved_back m s p) ∙ ap (moved (adjugate m) (shift_back m s)) e ∙ moved_back m s q in
+    vector_path p q (cancel-both (determinant m) p.x q.x h (ap (λ v. v.x) same))
     (cancel-both (determinant m) p.y q.y h (ap (λ v. v.y) same)) (cancel-both (determinant m) p.z q.z h (ap (λ v. v.z) same))
-  where
-    same : scaled (determinant m) p ≡ scaled (determinant m) q
-    same = sym (moved_back m s p) ∙ ap (moved (adjugate m) (shift_back m s)) e ∙ moved_back m s q

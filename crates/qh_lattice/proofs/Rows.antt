@@ -1,16 +1,13 @@
 -- Rows of a map as rows of its matrix.
-use Rattle.qh_model.proofs.Common.{ℕ, ◌≡◌, ◌∙◌, ◌<◌, ◌≤◌, ◌+◌, ◌*◌, ◌^◌, refl, subst, sym, ap, arith, below_more, FitsSigned, true, List, [], ◌∷◌, ◌++◌, get_or}
-use Rattle.qh_model.proofs.Common.{length, get_or-append_seam, get_or_append_left, get_or_default, to_z-of_z, ints, fits_signed_from_abs, ℤ, pos, ◌+ℤ◌, ◌-ℤ◌}
-use Rattle.qh_model.proofs.Common.{◌*ℤ◌, ◌<ℤ◌, unsigned_abs, IsCoordinate, cross, vol, place, Vector, origin, dot, lt_z, mag, w32, w128, w64, to_z, of_z}
-use Rattle.qh_model.specs.declared.limits.TheConstants.{COORDINATE_LIMIT}
-use Rattle.qh_model.proofs.{algebra.Order.mul-pos, closed_surfaces.Beyond.scaledE}
-use Rattle.qh_model.proofs.algebra.VectorIdentities.{vec, put, dotE, crossE, subE, VE, vector_path}
-use Rattle.qh_model.proofs.algebra.Ring.{ring, Expr.var, Expr.con, Expr.add, Expr.sub as less, Expr.mul}
-use Rattle.qh_pred.proofs.Coordinates.{read_is}
-use Rattle.qh_lattice.specs.{contract.LatticeMaps.Matrix, contract.LatticeMaps.determinant, contract.LatticeMaps.moved, declared.row.Row.Row}
-use Rattle.qh_lattice.specs.declared.row.TheConstants.{PRODUCT_LIMIT, CENTRE_LIMIT}
+use Rattle.qh_lattice.{proofs.Sums.through, specs.contract.LatticeMaps.Matrix, specs.contract.LatticeMaps.determinant, specs.contract.LatticeMaps.moved}
+use Rattle.qh_lattice.specs.declared.row.{Row.Row, TheConstants.PRODUCT_LIMIT, TheConstants.CENTRE_LIMIT}
 use Rattle.qh_lattice.specs.steps.Rows.{along_row, matrix_of, shift_of, times}
-use Rattle.qh_lattice.proofs.Sums.{through}
+use Rattle.qh_model.proofs.Common.{ℕ, ◌≡◌, ◌∙◌, ◌<◌, ◌≤◌, ◌+◌, ◌*◌, ◌^◌, refl, sym, ap, arith, below_more, FitsSigned, true, List, [], ◌∷◌, ◌++◌}
+use Rattle.qh_model.proofs.Common.{get_or, length, get_or-append_seam, get_or_append_left, get_or_default, to_z-of_z, ints, fits_signed_from_abs, ℤ, pos, ◌+ℤ◌}
+use Rattle.qh_model.proofs.Common.{◌-ℤ◌, ◌*ℤ◌, ◌<ℤ◌, unsigned_abs, IsCoordinate, cross, vol, place, Vector, origin, dot, lt_z, mag, w32, w128, w64, to_z, of_z}
+use Rattle.qh_model.proofs.algebra.{Order.mul-pos, Ring.ring, Ring.Expr.var, Ring.Expr.con, Ring.Expr.add, Ring.Expr.sub as less, Ring.Expr.mul}
+use Rattle.qh_model.proofs.algebra.VectorIdentities.{vec, put, dotE, crossE, subE, VE, vector_path}
+use Rattle.{qh_model.proofs.closed_surfaces.Beyond.scaledE, qh_model.specs.declared.limits.TheConstants.COORDINATE_LIMIT, qh_pred.proofs.Coordinates.read_is}
 
 -- the product of two coordinates that were read
 pub as_product : (p x y a b : ℤ) → mag x < 2 ^ 31 → mag y < 2 ^ 31 → p ≡ to_z w32 (of_z w32 x) *ℤ to_z w32 (of_z w32 y) → x ≡ a → y ≡ b → p ≡ a *ℤ b
@@ -56,15 +53,13 @@ unfolding vol cross
 scaled-determinant k l m a b c =
     let O : VE = record { x = con (pos 0); y = con (pos 0); z = con (pos 0) } in
     let A = vec 0 in let B = vec 1 in let C = vec 2 in let K = var 9 in let L = var 10 in let M = var 11 in
-    ring (put a (put b (put c (k ∷ l ∷ m ∷ []))))
-    (dotE (crossE (scaledE K A) (scaledE L B)) (scaledE M C))
+    ring (put a (put b (put c (k ∷ l ∷ m ∷ [])))) (dotE (crossE (scaledE K A) (scaledE L B)) (scaledE M C))
     (mul K (mul L (mul M (dotE (crossE (subE A O) (subE B O)) (subE C O))))) refl
 
 -- rows with a determinant above 0 have one above 0 at their scales
 pub rows_oriented : (a b c : Row) → pos 0 <ℤ vol origin a.by b.by c.by → pos 0 <ℤ determinant (matrix_of a b c)
 rows_oriented a b c h =
-    subst (λ v. pos 0 <ℤ v) (sym (scaled-determinant a.scale b.scale c.scale a.by b.by c.by))
-    (mul-pos a.scale _ a.above (mul-pos b.scale _ b.above (mul-pos c.scale _ c.above h)))
+    rw (scaled-determinant a.scale b.scale c.scale a.by b.by c.by) (mul-pos a.scale _ a.above (mul-pos b.scale _ b.above (mul-pos c.scale _ c.above h)))
 
 -- the images of the points so far, and one more
 pub one_more : (m : Matrix) (s : Vector) (pts images : List Vector) (n : ℕ) (q : Vector) → length images ≡ n

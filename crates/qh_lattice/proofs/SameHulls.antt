@@ -1,8 +1,8 @@
 -- The points of a solid and their images have the same ids and the same hulls.
-use Rattle.qh_model.proofs.Common.{◌≡◌, ◌≢◌, ℕ, ◌<◌, List, All, length, sym, ap, subst, ◌∙◌, arith, AreDistinctIds, IsDistinctId, BodyValue, HullValue, IsBody}
-use Rattle.qh_model.proofs.Common.{IsHull, place, In, Members, Vector, AreIndices, HasDistinctPoints, IsIdSet}
-use Rattle.qh_model.proofs.{DistinctIds.distinct_apart, DistinctIds.ids_within, extremes.Dimensions.one_dimension, hulls.Unique.distinct_ids_are_unique}
-use Rattle.qh_model.proofs.Members.{All-In}
+use Rattle.qh_model.proofs.Common.{◌≡◌, ℕ, ◌<◌, List, All, length, sym, ap, subst, ◌∙◌, arith, AreDistinctIds}
+use Rattle.qh_model.proofs.Common.{IsDistinctId, BodyValue, HullValue, IsBody, IsHull, place, In, Members, Vector, AreIndices, HasDistinctPoints, IsIdSet}
+use Rattle.qh_model.proofs.DistinctIds.{distinct_apart, ids_within}
+use Rattle.qh_model.proofs.{extremes.Dimensions.one_dimension, hulls.Unique.distinct_ids_are_unique, Members.All-In}
 use Rattle.qh_lattice.specs.contract.LatticeMaps.{IsMapped, IsReduced, determinant, moved}
 use Rattle.qh_lattice.proofs.{Images.moved_apart, Images.positive_nonzero, Hulls.Keeps, Hulls.back, Hulls.body, Hulls.dimension, Hulls.keeps}
 
@@ -52,16 +52,14 @@ module _ (pts images : List Vector) (m : IsMapped pts images) where
 -- the hull of the images is that of the points
 pub image_body : (pts : List Vector) (ids : List ℕ) (images : List Vector) (b : BodyValue) → IsReduced pts ids images → AreIndices pts ids → IsIdSet pts ids
     → IsBody (place images) (Members ids) b → IsBody (place pts) (Members ids) b
-image_body pts ids images b r h d is = body (place images) (place pts) (Members ids) keep b not_flat is
+image_body pts ids images b r h d is =
+    body (place images) (place pts) (Members ids) keep b (λ e. omega (arith, solid, e)) is
   where
     keep : Keeps (place images) (place pts) (Members ids)
     keep = back (place pts) (place images) (Members ids) (image_keeps pts images r.mapped ids h)
 
     solid : b.dim ≡ 3
     solid = one_dimension (place pts) (Members ids) b.dim 3 (dimension (place images) (place pts) (Members ids) keep b.dim is.dim) (r.solid d)
-
-    not_flat : b.dim ≢ 2
-    not_flat e = omega (arith, solid, e)
 
 -- the hull of the list of images is that of the list of points
 pub image_hull : (pts : List Vector) (ids : List ℕ) (images : List Vector) (h : HullValue) → IsReduced pts ids images → AreDistinctIds pts ids

@@ -1,23 +1,16 @@
 -- A settled point has a witness.
+use Rattle.{qh_laws.proofs.Between.between_four_is_below, qh_laws.specs.contract.Between.IsBetweenFour, qh_mesh.specs.contract.Replacement.IsLive}
 use Rattle.qh_model.proofs.Common.{◌≡◌, ℕ, ◌⊎◌, inl, inr, List, Bool, false, sym, ◌∙◌, pos, ◌+ℤ◌, ◌≤ℤ◌, ◌<ℤ◌, facet_at, surface_of, Side, Surface, end, first}
-use Rattle.qh_model.proofs.Common.{second, third, Vector, place, vol, In}
-use Rattle.qh_model.specs.contract.Surface.{start}
-use Rattle.qh_model.proofs.{algebra.Order.negative_le, surfaces.Stored.live_is_marked}
-use Rattle.qh_mesh.specs.contract.Replacement.{IsLive}
+use Rattle.qh_model.proofs.{Common.second, Common.third, Common.Vector, Common.place, Common.vol, Common.In, algebra.Order.negative_le}
+use Rattle.{qh_model.proofs.surfaces.Stored.live_is_marked, qh_model.specs.contract.Surface.start, qh_parts.specs.declared.seam.triangles.Four.Four}
+use Rattle.qh_parts.specs.steps.{Apart.IsApart, Triangles.four_vols, Triangles.IsFourOf, Triangles.IsInCone, Witnesses.IsAnswered, Witnesses.IsRingOver}
+use Rattle.{qh_parts_join.specs.contract.Parts.IsPartOf, qh_parts_join.specs.declared.parts.Part.Part, qh_surface.proofs.NamedFacets.named_live}
 use Rattle.qh_surface.specs.{contract.NamedMeshes.named, contract.Walks.mark_at, declared.named_mesh.NamedMesh.NamedMesh}
-use Rattle.qh_surface.proofs.NamedFacets.{named_live}
-use Rattle.qh_laws.specs.contract.Between.{IsBetweenFour}
-use Rattle.qh_laws.proofs.Between.{between_four_is_below}
-use Rattle.qh_parts_join.specs.{contract.Parts.IsPartOf, declared.parts.Part.Part}
-use Rattle.qh_parts.specs.{declared.seam.triangles.Four.Four, steps.Triangles.four_vols, steps.Triangles.IsFourOf, steps.Triangles.IsInCone}
-use Rattle.qh_parts.specs.steps.{Apart.IsApart, Witnesses.IsAnswered, Witnesses.IsRingOver}
 
 -- a live facet that settles a point is its witness
 pub answered : (pts : List Vector) (s : NamedMesh) (stay : List Bool) (o : Four) (f : ℕ) → IsLive s.mesh f
-    → (stays : Bool) → stays ≡ mark_at stay f
-    → (a b c p : Vector) → a ≡ place pts (facet_at (named s) f).i → b ≡ place pts (facet_at (named s) f).j
-    → c ≡ place pts (facet_at (named s) f).k
-    → ((stays ≡ false) × (pos 0 <ℤ vol a b c p)) ⊎ IsInCone a b c o p
+    → (stays : Bool) → stays ≡ mark_at stay f → (a b c p : Vector) → a ≡ place pts (facet_at (named s) f).i → b ≡ place pts (facet_at (named s) f).j
+    → c ≡ place pts (facet_at (named s) f).k → ((stays ≡ false) × (pos 0 <ℤ vol a b c p)) ⊎ IsInCone a b c o p
     → IsAnswered (place pts) (surface_of (named s)) (mark_at stay) o p
 answered pts s stay o f live stays is a b c p ea eb ec settled = by_cases settled
   where

@@ -1,12 +1,9 @@
 -- The faces that parts of a set contribute, and those between them, are those of its hull.
 use Rattle.qh_model.proofs.Common.{ℕ, ◌<◌, List, All, length, map, IsPermutation-append_left, IsPermutation-sym, IsPermutation, IsIdSet, Vector, BodyValue}
-use Rattle.qh_model.proofs.Common.{IsBody, place, Members}
-use Rattle.qh_model.proofs.Members.{in_permutation}
-use Rattle.qh_bodies.proofs.StepCounts.{closed_permuted}
-use Rattle.qh_parts_join.specs.{contract.Parts.IsPartOf, contract.Kept.places_of, contract.Joined.IsBodyOfJoined, declared.parts.Part.Part}
-use Rattle.qh_parts_join.proofs.OwnCorners.{corners_held}
-use Rattle.qh_parts.specs.steps.{Given.AreGivenOf, Kept.HaveKept}
-use Rattle.qh_parts.proofs.Divided.{is_solid}
+use Rattle.qh_model.proofs.{Common.IsBody, Common.place, Common.Members, Members.in_permutation}
+use Rattle.{qh_bodies.proofs.StepCounts.closed_permuted, qh_parts_join.specs.contract.Parts.IsPartOf}
+use Rattle.qh_parts_join.{specs.contract.Kept.places_of, specs.contract.Joined.IsBodyOfJoined, specs.declared.parts.Part.Part, proofs.OwnCorners.corners_held}
+use Rattle.qh_parts.{specs.steps.Given.AreGivenOf, specs.steps.Kept.HaveKept, proofs.Divided.is_solid}
 
 module _ (pts : List Vector) (shared : List ℕ) (parts : List Part) (gone : List (List ℕ)) where
   -- the contributions of parts are the same in any order
@@ -22,5 +19,4 @@ module _ (pts : List Vector) (shared : List ℕ) (parts : List Part) (gone : Lis
       → IsIdSet pts ids → IsBody (place pts) (Members ids) b
   body_of_parts ids faces b are some k given joined set =
       joined ids k.kept set.distinct (is_solid pts shared ids parts are some k.inside) (k.stand pts are)
-      (corners_held pts shared parts are k.kept k.corners) (given.0 ids k.kept set.distinct k.inside k.corners)
-      (given.1 ids set.distinct k.inside)
+      (corners_held pts shared parts are k.kept k.corners) (given.0 ids k.kept set.distinct k.inside k.corners) (given.1 ids set.distinct k.inside)

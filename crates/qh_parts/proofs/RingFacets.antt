@@ -1,7 +1,6 @@
 -- The facets of a ring, gathered one by one, and the planes of facets.
 use Rattle.qh_model.proofs.Common.{◌≡◌, ℕ, ◌⊎◌, inl, inr, List, [], ◌∷◌, ◌++◌, map, sym, subst, refl, Surface, Vector, In}
-use Rattle.qh_model.proofs.lists.Joined.{in_append, of_append}
-use Rattle.qh_pred.specs.contract.Planes.{PlaneValue}
+use Rattle.{qh_model.proofs.lists.Joined.in_append, qh_model.proofs.lists.Joined.of_append, qh_pred.specs.contract.Planes.PlaneValue}
 use Rattle.qh_parts.specs.steps.Witnesses.{IsPlaneOf, HasPlane}
 use Rattle.qh_parts_join.proofs.Asked.{AreAsked, asking_starts, asking_goes, next_live}
 
@@ -12,10 +11,7 @@ pub record AreRing (Q : ℕ → Type 0) (live left found : List ℕ) : Type 0 wh
 
 -- at the start there is no facet
 pub ring_starts : (Q : ℕ → Type 0) (live left found : List ℕ) → left ≡ live → found ≡ [] → AreRing Q live left found
-ring_starts Q live left found e none = record {
-  all = asking_starts _ live left e;
-  only = λ f i. absurd (subst (In f) none i);
-}
+ring_starts Q live left found e none = record { all = asking_starts _ live left e; only = λ f i. absurd (subst (In f) none i) }
 
 module _ (Q : ℕ → Type 0) (live all left found : List ℕ) (f : ℕ) (a : AreRing Q live all found) (is : all ≡ f ∷ left) where
   -- one more facet of the ring
@@ -37,16 +33,12 @@ module _ (Q : ℕ → Type 0) (live all left found : List ℕ) (f : ℕ) (a : Ar
 
   -- one more facet that is not in the ring
   pub none_found : (Q f → ⊥) → AreRing Q live left found
-  none_found out = record {
-    all = asking_goes _ live all left f a.all is (λ q. absurd (out q));
-    only = a.only;
-  }
+  none_found out = record { all = asking_goes _ live all left f a.all is (λ q. absurd (out q)); only = a.only }
 
 -- one more facet, by its key
 pub ring_goes : (Q : ℕ → Type 0) (live all left : List ℕ) (g : ℕ → ℕ) (keys more : List ℕ) (f : ℕ) → AreRing Q live all (map g keys)
     → all ≡ f ∷ left → (map g more ≡ map g keys ++ f ∷ []) ⊎ ((Q f → ⊥) × (more ≡ keys)) → AreRing Q live left (map g more)
-ring_goes Q live all left g keys more f a is (inl new) =
-    subst (AreRing Q live left) (sym new) (one_found Q live all left (map g keys) f a is)
+ring_goes Q live all left g keys more f a is (inl new) = subst (AreRing Q live left) (sym new) (one_found Q live all left (map g keys) f a is)
 ring_goes Q live all left g keys more f a is (inr (out, same)) =
     subst (λ v. AreRing Q live left (map g v)) (sym same) (none_found Q live all left (map g keys) f a is out)
 

@@ -1,7 +1,6 @@
 -- The ring of a mesh over positions is that of the mesh over ids.
 use Rattle.qh_model.proofs.Common.{ℕ, Bool, sym, ap, ◌∙◌, subst, surface_of, In}
-use Rattle.qh_surface.specs.{contract.NamedMeshes.named, declared.named_mesh.NamedMesh.NamedMesh}
-use Rattle.qh_surface.proofs.NamedFacets.{names}
+use Rattle.qh_surface.{specs.contract.NamedMeshes.named, specs.declared.named_mesh.NamedMesh.NamedMesh, proofs.NamedFacets.names}
 use Rattle.qh_laws.specs.contract.Seam.{IsRing}
 
 -- a facet of the ring over ids is a facet of the ring over positions

@@ -1,15 +1,11 @@
 -- A part that was tested against each other part stays, and contributes its faces.
-use Rattle.qh_model.proofs.Common.{◌≡◌, ℕ, ◌<◌, ◌⊎◌, inl, inr, List, All, Bool, true, length, get_or, sym, subst, ap, ◌∙◌, get_or_default, flat_map}
-use Rattle.qh_model.proofs.Common.{HasDistinctPoints, IsIdSet, IsFinished, surface_of, Vector, place, In, Members}
+use Rattle.qh_model.proofs.Common.{◌≡◌, ℕ, ◌<◌, ◌⊎◌, inl, inr, List, All, Bool, true, length, get_or, sym}
+use Rattle.qh_model.proofs.Common.{subst, ap, ◌∙◌, get_or_default, flat_map, HasDistinctPoints, IsIdSet, IsFinished, surface_of, Vector, place, In, Members}
 use Rattle.qh_model.proofs.{Members.All-of, Members.In-get_or, Members.to_contains, lists.Joined.in_flat_map, lists.Joined.of_flat_map}
-use Rattle.qh_model.proofs.surfaces.Stored.{live_is_marked}
-use Rattle.qh_mesh.specs.contract.Replacement.{IsLive}
-use Rattle.qh_surface.specs.contract.NamedMeshes.{named}
-use Rattle.qh_block.specs.steps.Faces.{IsFacetPolygon}
-use Rattle.qh_laws.specs.contract.Parts.{IsPartFace}
-use Rattle.qh_laws.proofs.Parts.{strict_is_clear}
-use Rattle.qh_parts_join.specs.{contract.Parts.ids_in, contract.Parts.own_in, contract.Parts.KeepsCorners, contract.Parts.IsPartOf, declared.parts.Part.Part}
-use Rattle.qh_parts.specs.{contract.Staying.IsStayingPart, steps.Apart.IsApart}
+use Rattle.{qh_model.proofs.surfaces.Stored.live_is_marked, qh_mesh.specs.contract.Replacement.IsLive, qh_surface.specs.contract.NamedMeshes.named}
+use Rattle.{qh_block.specs.steps.Faces.IsFacetPolygon, qh_laws.specs.contract.Parts.IsPartFace, qh_laws.proofs.Parts.strict_is_clear}
+use Rattle.qh_parts_join.specs.contract.Parts.{ids_in, own_in, KeepsCorners, IsPartOf}
+use Rattle.{qh_parts_join.specs.declared.parts.Part.Part, qh_parts.specs.contract.Staying.IsStayingPart, qh_parts.specs.steps.Apart.IsApart}
 
 -- the id at a place of a list is one of the list
 pub named_there : (xs : List ℕ) (k x : ℕ) → x ≡ get_or xs k x → k < length xs → In x xs
@@ -27,8 +23,7 @@ shared_indices {pts} {shared} {p} z = All-of (λ i. i < length pts) shared (λ l
 pub apart_at : (pts : List Vector) (parts : List Part) (stay : ℕ → Bool) (k j : ℕ) (p q d e : Part) → k < length parts → j < length parts
     → IsApart pts (get_or parts k p) stay (own_in (get_or parts j q)) → IsApart pts (get_or parts k d) stay (own_in (get_or parts j e))
 apart_at pts parts stay k j p q d e hk hj apart =
-    subst (λ x. IsApart pts x stay (own_in (get_or parts j e))) (get_or_default parts k p d hk)
-    (subst (λ x. IsApart pts (get_or parts k p) stay (own_in x)) (get_or_default parts j q e hj) apart)
+    rw (get_or_default parts k p d hk) at (subst (λ x. IsApart pts (get_or parts k p) stay (own_in x)) (get_or_default parts j q e hj) apart)
 
 module _ (pts : List Vector) (shared : List ℕ) (parts : List Part) (number : ℕ) (d : Part) (stay : ℕ → Bool)
     (are : All (IsPartOf pts shared) parts) (within : number < length parts) where
@@ -71,10 +66,7 @@ module _ (pts : List Vector) (shared : List ℕ) (parts : List Part) (number : �
           | inr (others, m, apart) ↦ apart.seam.ring f r l m
         ];
       };
-      ring = λ kept keeps g r l i. elim (split kept keeps l i) [
-        | inl own ↦ inl own
-        | inr (others, m, apart) ↦ inr (apart.ring g r l m)
-      ];
+      ring = λ kept keeps g r l i. elim (split kept keeps l i) [ inl own ↦ inl own | inr (others, m, apart) ↦ inr (apart.ring g r l m) ];
     }
 
   -- the set of a part, with the ids of all parts in a set of distinct points

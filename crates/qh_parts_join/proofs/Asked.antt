@@ -19,10 +19,7 @@ module _ (P : ℕ → Type 0) (live all left : List ℕ) (f : ℕ) (a : AreAsked
   pub asking_goes : P f → AreAsked P live left
   asking_goes p = record {
     live_left = λ g i. a.live_left g (subst (In g) (sym is) (inr i));
-    asked = λ g i. elim (a.asked g i) [
-      | inr q ↦ inr q
-      | inl m ↦ elim (subst (In g) is m) [ inl e ↦ inr (subst P (sym e) p) | inr r ↦ inl r ]
-    ];
+    asked = λ g i. elim (a.asked g i) [ inr q ↦ inr q | inl m ↦ elim (subst (In g) is m) [ inl e ↦ inr (subst P (sym e) p) | inr r ↦ inl r ] ];
   }
 
 -- at the end all facets were tested

@@ -1,8 +1,7 @@
 -- The kept ids of a set, as the places of its parts hold them.
 use Rattle.qh_model.proofs.Common.{ℕ, ◌<◌, List, ◌++◌, All, length, All-append, ◌↔◌, flat_map, AreIndices, Vector, In}
 use Rattle.qh_model.proofs.{Members.All-In, Members.All-of, lists.Joined.in_append, lists.Joined.of_append, lists.Joined.of_flat_map}
-use Rattle.qh_pred.specs.contract.Planes.{PlaneValue}
-use Rattle.qh_places.specs.{contract.Places.AreLevel, declared.places.Places.Places}
+use Rattle.{qh_pred.specs.contract.Planes.PlaneValue, qh_places.specs.contract.Places.AreLevel, qh_places.specs.declared.places.Places.Places}
 use Rattle.qh_parts_join.specs.contract.Kept.{held_in, ArePlaced, AreHeld}
 
 module _ (corners : List Places) (shared : List ℕ) where

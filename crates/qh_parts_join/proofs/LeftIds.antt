@@ -23,13 +23,9 @@ one_more P ids left more n x a within is (inl (over, e)) = record {
 }
 one_more P ids left more n x a within is (inr e) = record {
   each = λ k h. elim (cases_lt k n) [
-    | inl l ↦ elim (a.each k l) [
-      | inl i ↦ inl (subst (In (slice_index ids k)) (sym e) (in_append left (x ∷ []) _ (inl i)))
-      | inr over ↦ inr over
-    ]
+    | inl l ↦ elim (a.each k l) [ inl i ↦ inl (subst (In (slice_index ids k)) (sym e) (in_append left (x ∷ []) _ (inl i))) | inr over ↦ inr over ]
     | inr g ↦ (let same : n ≡ k = omega arith in
-        inl (subst (λ i. In (slice_index ids i) more) same
-        (subst (In (slice_index ids n)) (sym e) (in_append left (x ∷ []) _ (inr (inl (sym is)))))))
+        inl (subst (λ i. In (slice_index ids i) more) same (subst (In (slice_index ids n)) (sym e) (in_append left (x ∷ []) _ (inr (inl (sym is)))))))
   ];
   only = λ l i. elim (of_append left (x ∷ []) l (subst (In l) e i)) [
     | inl o ↦ a.only l o

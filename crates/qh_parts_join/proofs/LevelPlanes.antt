@@ -1,10 +1,9 @@
 -- Ids in a plane with no id above it, list by list.
-use Rattle.qh_model.proofs.Common.{◌≡◌, ℕ, ◌+◌, ◌<◌, inl, inr, List, [], ◌∷◌, ◌++◌, length, get_or, map, take, ap, sym, subst, ◌∙◌, flat_map-append, by_lt_z}
-use Rattle.qh_model.proofs.Common.{append_assoc, append-nil, map-append, take_more, flat_map, ◌↔◌, ℤ, pos, ◌≤ℤ◌, ◌<ℤ◌, Vector, place, In}
-use Rattle.qh_model.proofs.algebra.Order.{le_less}
-use Rattle.qh_model.proofs.{algebra.Signs.less_le, algebra.Signs.less_differ, algebra.Signs.equal_le, lists.Joined.in_append, lists.Joined.of_append}
+use Rattle.qh_model.proofs.Common.{◌≡◌, ℕ, ◌+◌, ◌<◌, inl, inr, List, [], ◌∷◌, ◌++◌, length, get_or, map, take, ap, sym, subst, ◌∙◌, flat_map-append}
+use Rattle.qh_model.proofs.Common.{by_lt_z, append_assoc, append-nil, map-append, take_more, flat_map, ◌↔◌, ℤ, pos, ◌≤ℤ◌, ◌<ℤ◌, Vector, place, In}
+use Rattle.qh_model.proofs.algebra.{Order.le_less, Signs.less_le, Signs.less_differ, Signs.equal_le}
+use Rattle.{qh_model.proofs.lists.Joined.in_append, qh_model.proofs.lists.Joined.of_append, qh_places.specs.contract.Places.AreLevel}
 use Rattle.qh_pred.specs.contract.Planes.{PlaneValue, height}
-use Rattle.qh_places.specs.contract.Places.{AreLevel}
 
 module _ (pts : List Vector) (plane : PlaneValue) where
   -- the empty list has no id
@@ -25,10 +24,7 @@ module _ (pts : List Vector) (plane : PlaneValue) where
       ]
 
       back : (l : ℕ) → In l (a ++ b) × (height plane (place pts l) ≡ pos 0) → In l (f ++ g)
-      back l m = in_append f g l (elim (of_append a b l m.0) [
-        | inl i ↦ inl ((x.members l).1 (i, m.1))
-        | inr i ↦ inr ((y.members l).1 (i, m.1))
-      ])
+      back l m = in_append f g l (elim (of_append a b l m.0) [ inl i ↦ inl ((x.members l).1 (i, m.1)) | inr i ↦ inr ((y.members l).1 (i, m.1)) ])
 
   -- one more id is in the plane
   pub level_on : (a f : List ℕ) (l : ℕ) → AreLevel pts a plane f → height plane (place pts l) ≡ pos 0
@@ -62,10 +58,7 @@ module _ (pts : List Vector) (plane : PlaneValue) where
       there k m = let h = (x.members k).0 m in (in_append a (l ∷ []) k (inl h.0), h.1)
 
       back : (k : ℕ) → In k (a ++ l ∷ []) × (height plane (place pts k) ≡ pos 0) → In k f
-      back k m = elim (of_append a (l ∷ []) k m.0) [
-        | inl i ↦ (x.members k).1 (i, m.1)
-        | inr i ↦ absurd (less_differ _ _ (under k i) m.1)
-      ]
+      back k m = elim (of_append a (l ∷ []) k m.0) [ inl i ↦ (x.members k).1 (i, m.1) | inr i ↦ absurd (less_differ _ _ (under k i) m.1) ]
 
   -- the same ids in another list
   pub level_for : (a b f g : List ℕ) → AreLevel pts a plane f → ((l : ℕ) → In l a ↔ In l b) → ((l : ℕ) → In l g ↔ In l f)
@@ -84,8 +77,7 @@ below_rest z up on = by_lt_z (pos 0) z (λ x. absurd (up x)) (λ x. le_less _ _ 
 
 -- ---- a loop over lists: one more list
 pub one_next : (ids xs : List ℕ) (k x : ℕ) → k < length xs → x ≡ get_or xs k x → ids ++ take (k + 1) xs ≡ (ids ++ take k xs) ++ x ∷ []
-one_next ids xs k x h e =
-    ap (λ t. ids ++ t) (take_more xs k x h ∙ ap (λ y. take k xs ++ y ∷ []) (sym e)) ∙ sym (append_assoc ids (take k xs) (x ∷ []))
+one_next ids xs k x h e = ap (λ t. ids ++ t) (take_more xs k x h ∙ ap (λ y. take k xs ++ y ∷ []) (sym e)) ∙ sym (append_assoc ids (take k xs) (x ∷ []))
 
 pub flat_next : {X Y : Type 0} (f : Y → List ℕ) (g : X → Y) (ids : List ℕ) (xs : List X) (k : ℕ) (x : X) → k < length xs
     → x ≡ get_or xs k x → ids ++ flat_map f (map g (take (k + 1) xs)) ≡ (ids ++ flat_map f (map g (take k xs))) ++ f (g x)

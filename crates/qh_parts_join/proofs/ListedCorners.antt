@@ -10,10 +10,7 @@ pub record AreListed (m : Surface) (left corners : List ℕ) : Type 0 where
 
 -- at the start there is no corner
 pub none_listed : (m : Surface) (left corners : List ℕ) → left ≡ m.live → corners ≡ [] → AreListed m left corners
-none_listed m left corners e none = record {
-  all = asking_starts _ m.live left e;
-  only = λ l i. absurd (subst (In l) none i);
-}
+none_listed m left corners e none = record { all = asking_starts _ m.live left e; only = λ l i. absurd (subst (In l) none i) }
 
 -- three more corners
 pub three_more : (m : Surface) (all left corners : List ℕ) (f : ℕ) → AreListed m all corners → all ≡ f ∷ left

@@ -1,7 +1,6 @@
 -- A list whose different ids are at least the number of its items has each once.
 use Rattle.qh_model.proofs.Common.{ℕ, ◌+◌, ◌≤◌, inl, inr, List, [], ◌∷◌, ◌++◌, length, arith, sym, subst, length-append, ◌↔◌, IsFinished, Surface, Vector, In}
-use Rattle.qh_model.proofs.Common.{Once}
-use Rattle.qh_model.proofs.{lists.Joined.in_append, lists.Joined.of_append, lists.OnceEach.once_within, surfaces.Inside.finished_over}
+use Rattle.qh_model.proofs.{Common.Once, lists.Joined.in_append, lists.Joined.of_append, lists.OnceEach.once_within, surfaces.Inside.finished_over}
 
 module _ {X : Type 0} (each : List X) (once : Once each) where
   -- if the members of `each` are in two lists that together are no longer, the second list has each of its members once
@@ -12,9 +11,7 @@ module _ {X : Type 0} (each : List X) (once : Once each) where
       -- if x occurred twice, it could be omitted
       again : In x xs → ⊥
       again m =
-          let most = once_within each (before ++ xs) once left_out in
-          let long = length-append before xs in
-          omega (arith, most, long, short)
+          omega (arith, once_within each (before ++ xs) once left_out, length-append before xs, short)
         where
           left_out : (y : X) → In y each → In y (before ++ xs)
           left_out y h = in_append before xs y (elim (of_append before (x ∷ xs) y (all y h)) [

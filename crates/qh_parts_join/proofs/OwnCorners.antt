@@ -8,8 +8,7 @@ module _ (pts : List Vector) (shared : List ℕ) (parts : List Part) (are : All 
   -- the places of parts have the points of their ids
   pub all_placed : All (ArePlaced pts) (map places_of parts)
   all_placed = All-of (ArePlaced pts) (map places_of parts) (λ h m.
-      let (p, i, e) = of_map places_of parts h m in
-      let z = All-In (IsPartOf pts shared) parts p are i in
+      let (p, i, e) = of_map places_of parts h m in let z = All-In (IsPartOf pts shared) parts p are i in
       subst (ArePlaced pts) (sym e) (record { indices = λ l j. z.indices l (z.inside l ((z.places.same l).0 j)); points = z.places.points }))
 
   -- the kept ids of the parts are those that their places hold
@@ -26,7 +25,6 @@ module _ (pts : List Vector) (shared : List ℕ) (parts : List Part) (are : All 
       back : In l (flat_map held_in (map places_of parts)) ⊎ In l shared → In l (flat_map own_in parts) ⊎ In l shared
       back (inr s) = inr s
       back (inl o) =
-          let (h, i, j) = of_flat_map held_in (map places_of parts) l o in
-          let (p, k, e) = of_map places_of parts h i in
+          let (h, i, j) = of_flat_map held_in (map places_of parts) l o in let (p, k, e) = of_map places_of parts h i in
           let own = ((All-In (IsPartOf pts shared) parts p are k).places.same l).0 (subst (λ q. In l (held_in q)) e j) in
           inl (in_flat_map own_in parts p l k own)

@@ -1,9 +1,7 @@
 -- The corners of parts include all extreme ids.
 use Rattle.qh_model.proofs.Common.{ℕ, ◌⊎◌, inl, inr, List, All, ◌↔◌, flat_map, surface_of, Vector, place, In, Members, Extreme}
 use Rattle.qh_model.proofs.{Members.All-In, lists.Joined.in_flat_map, lists.Joined.of_flat_map}
-use Rattle.qh_surface.specs.contract.NamedMeshes.{named}
-use Rattle.qh_laws.specs.contract.Parts.{AreKept}
-use Rattle.qh_laws.proofs.Parts.{extremes_are_kept}
+use Rattle.{qh_surface.specs.contract.NamedMeshes.named, qh_laws.specs.contract.Parts.AreKept, qh_laws.proofs.Parts.extremes_are_kept}
 use Rattle.qh_parts_join.specs.{contract.Parts.ids_in, contract.Parts.own_in, contract.Parts.IsPartOf, declared.parts.Part.Part}
 
 module _ (pts : List Vector) (ids shared kept : List ℕ) (parts : List Part) (are : All (IsPartOf pts shared) parts)
@@ -25,12 +23,8 @@ module _ (pts : List Vector) (ids shared kept : List ℕ) (parts : List Part) (a
   extremes : (l : ℕ) → Extreme (place pts) (Members ids) l → In l kept
   extremes l x =
       let (p, i, h) = of_flat_map ids_in parts l ((all l).1 x.0) in
-      let m = surface_of (named p.surface) in
-      let (f, live, k) = extremes_are_kept (place pts) ids p.ids.items m (part p i).finished (part_inside p i) l x h in
-      (members l).1 (elim ((part p i).corners f live l k) [
-        | inl o ↦ inl (in_flat_map own_in parts p l i o)
-        | inr s ↦ inr s
-      ])
+      let (f, live, k) = extremes_are_kept (place pts) ids p.ids.items (surface_of (named p.surface)) (part p i).finished (part_inside p i) l x h in
+      (members l).1 (elim ((part p i).corners f live l k) [ inl o ↦ inl (in_flat_map own_in parts p l i o) | inr s ↦ inr s ])
 
   pub are_kept : AreKept (place pts) ids kept
   are_kept = record { inside = inside; extremes = extremes }

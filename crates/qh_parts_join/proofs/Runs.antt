@@ -24,10 +24,7 @@ module _ {X : Type 0} (P : X → Type 0) (ids left front back : List X) (n : ℕ
     inside = λ l i. a.inside l (in_back n left l (subst (In l) is_back i));
     done = λ l i. elim (a.done l i) [
       | inr p ↦ inr p
-      | inl m ↦ elim (in_either n left l m) [
-        | inl f ↦ inr (own l (subst (In l) (sym is_front) f))
-        | inr b ↦ inl (subst (In l) (sym is_back) b)
-      ]
+      | inl m ↦ elim (in_either n left l m) [ inl f ↦ inr (own l (subst (In l) (sym is_front) f)) | inr b ↦ inl (subst (In l) (sym is_back) b) ]
     ];
   }
 

@@ -1,8 +1,8 @@
 -- Blocks of points over consecutive blocks of positions.
 use Rattle.qh_model.proofs.Common.{◌≡◌, ℕ, ◌+◌, ◌-◌, ◌*◌, ◌<◌, ◌≤◌, arith, sym, ap, subst, ◌∙◌, inl, inr, List, [], ◌∷◌, ◌++◌, length, get_or, take, drop, min}
 use Rattle.qh_model.proofs.Common.{length-append, length-drop, get_or-append_seam, length-take, get_or-take, get_or-drop, get_or_append_left, cases_lt, Vector}
-use Rattle.qh_model.proofs.Common.{origin}
-use Rattle.qh_places.specs.{declared.slabs.Block.Block, steps.Slabs.IsInBlock, steps.Slabs.IsBlockOf, steps.Levels.AreBlocks, steps.Levels.HasBlocks}
+use Rattle.{qh_model.proofs.Common.origin, qh_places.specs.declared.slabs.Block.Block}
+use Rattle.qh_places.specs.steps.{Slabs.IsInBlock, Slabs.IsBlockOf, Levels.AreBlocks, Levels.HasBlocks}
 
 -- no blocks yet
 pub blocks_start : (points : List Vector) (size : ℕ) → HasBlocks points points size []
@@ -35,8 +35,7 @@ module _ (points rest : List Vector) (size m : ℕ) (bs : List Block) (b : Block
   same k l =
       let inside : k < length rest - m = subst (λ n. k < n) back l in
       let r : length bs * size + (m + k) ≡ (length bs + 1) * size + k = omega arith in
-      get_or-drop m rest k origin ∙ h.same (m + k) (omega arith)
-      ∙ ap (λ n. get_or points n origin) (r ∙ ap (λ n. n * size + k) (sym more))
+      get_or-drop m rest k origin ∙ h.same (m + k) (omega arith) ∙ ap (λ n. get_or points n origin) (r ∙ ap (λ n. n * size + k) (sym more))
 
   -- the points of the new block
   own : (k : ℕ) → length bs * size ≤ k → k < length bs * size + size → k < length points
@@ -47,9 +46,7 @@ module _ (points rest : List Vector) (size m : ℕ) (bs : List Block) (b : Block
       let here : j < length rest = omega arith in
       let there : length bs * size + j ≡ k = omega arith in
       let l : j < length (take m rest) = subst (λ n. j < n) (sym front) inside in
-      subst (IsInBlock b)
-      (get_or-take m rest j origin inside ∙ h.same j here ∙ ap (λ n. get_or points n origin) there)
-      (box j (omega arith) l l)
+      subst (IsInBlock b) (get_or-take m rest j origin inside ∙ h.same j here ∙ ap (λ n. get_or points n origin) there) (box j (omega arith) l l)
 
   each : AreBlocks points size (bs ++ b ∷ [])
   each n c l e k from to inside = elim (cases_lt n (length bs)) [
@@ -57,8 +54,7 @@ module _ (points rest : List Vector) (size m : ℕ) (bs : List Block) (b : Block
     | inr x ↦ (
         let last : length bs ≡ n = omega (arith, more, l, x) in
         let is : c ≡ b = e ∙ ap (λ i. get_or (bs ++ b ∷ []) i c) (sym last) ∙ get_or-append_seam bs b [] c in
-        subst (λ d. IsInBlock d (get_or points k origin)) (sym is)
-        (own k (subst (λ i. i * size ≤ k) (sym last) from) (subst (λ i. k < i * size + size) (sym last) to) inside)
+        rw is (own k (subst (λ i. i * size ≤ k) (sym last) from) (subst (λ i. k < i * size + size) (sym last) to) inside)
         )
   ]
 

@@ -19,13 +19,11 @@ chunk_of i n size s l = elim (cases_lt (i / size) (n / size)) [
 ]
 
 pub chunk_all : {X : Type 0} (P : X → Type 0) (xs : List X) (size : ℕ) → 0 < size
-    → ((n : ℕ) → n < length xs / size + min 1 (length xs % size) → (ys : List X) × IsChunk xs size (n * size) ys × All P ys)
-    → All P xs
+    → ((n : ℕ) → n < length xs / size + min 1 (length xs % size) → (ys : List X) × IsChunk xs size (n * size) ys × All P ys) → All P xs
 chunk_all {X} P xs size s f i d l = go (f (i / size) (chunk_of i (length xs) size s l))
   where
     go : (ys : List X) × IsChunk xs size (i / size * size) ys × All P ys → P (get_or xs i d)
     go (ys, c, all) =
         let split : i / size * size + i % size ≡ i = omega (arith, s) in
-        let len = c.len in
-        let here : i % size < length ys = omega (arith, s, split, len, l) in
+        let here : i % size < length ys = omega (arith, s, split, c.len, l) in
         subst P (c.elements (i % size) d here ∙ ap (λ k. get_or xs k d) split) (all (i % size) d here)

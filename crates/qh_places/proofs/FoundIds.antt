@@ -1,25 +1,17 @@
 -- The ids that a plane finds, position by position and in a set.
 use Rattle.qh_model.proofs.Common.{◌≡◌, ℕ, ◌+◌, ◌<◌, ◌≤◌, arith, refl, sym, ap, subst, ◌∙◌, inl, inr, List, [], ◌∷◌, ◌++◌, length, get_or, get_or_default}
 use Rattle.qh_model.proofs.Common.{length-map, get_or-map, ints, by_lt_z, cases_lt, ℤ, pos, ◌<ℤ◌, ◌≤ℤ◌, Option, Some, None, MatchOption, Vector, origin, place}
-use Rattle.qh_model.proofs.Common.{In}
-use Rattle.qh_model.proofs.{Members.In-get_or, Members.in_at, algebra.Signs.less_le, algebra.Signs.less_differ, lists.Joined.in_append, lists.Joined.of_append}
-use Rattle.qh_model.proofs.algebra.Order.{le_less}
-use Rattle.qh_pred.specs.contract.Planes.{PlaneValue, height}
-use Rattle.qh_places.specs.{contract.Bundles.IsOfBundle, declared.places.Near.Near}
-use Rattle.qh_places.specs.contract.{Near.rise_at, Near.IsNear, Places.ArePlaces, Places.IsAbove, Places.AreLevel}
-use Rattle.qh_places.specs.{declared.places.Places.Places, steps.Levels.AreOn, steps.Levels.IsAboveAt, steps.Levels.HasLooked, steps.Levels.HasSeen}
-use Rattle.qh_places.proofs.NearPositions.{begun}
+use Rattle.qh_model.proofs.{Common.In, Members.In-get_or, Members.in_at, algebra.Order.le_less, algebra.Signs.less_le, algebra.Signs.less_differ}
+use Rattle.{qh_model.proofs.lists.Joined.in_append, qh_model.proofs.lists.Joined.of_append, qh_places.proofs.NearPositions.begun}
+use Rattle.qh_places.specs.contract.{Bundles.IsOfBundle, Near.rise_at, Near.IsNear, Places.ArePlaces, Places.IsAbove, Places.AreLevel}
+use Rattle.qh_places.specs.{declared.places.Near.Near, declared.places.Places.Places, steps.Levels.AreOn, steps.Levels.IsAboveAt, steps.Levels.HasLooked}
+use Rattle.{qh_places.specs.steps.Levels.HasSeen, qh_pred.specs.contract.Planes.PlaneValue, qh_pred.specs.contract.Planes.height}
 
 -- ---- position by position
 module _ (points : List Vector) (ids : List ℕ) (plane : PlaneValue) where
   -- no position is tested
   pub look_start : (from : ℕ) (old : List ℕ) → HasLooked points ids plane from from old old
-  look_start from old = record {
-    below = λ k f h l. absurd (omega arith);
-    lists = λ k f h l e. absurd (omega arith);
-    kept = λ i m. m;
-    only = λ o. o;
-  }
+  look_start from old = record { below = λ k f h l. absurd (omega arith); lists = λ k f h l e. absurd (omega arith); kept = λ i m. m; only = λ o. o }
 
   -- a point in the plane
   found_on : (from k : ℕ) (old found : List ℕ) → HasLooked points ids plane from k old found → k < length points
@@ -45,8 +37,7 @@ module _ (points : List Vector) (ids : List ℕ) (plane : PlaneValue) where
 
       last : (j : ℕ) → j < k + 1 → k ≤ j → In (get_or ids j 0) (found ++ get_or ids k 0 ∷ [])
       last j m x =
-          subst (λ i. In (get_or ids i 0) (found ++ get_or ids k 0 ∷ [])) (same j m x)
-          (in_append found (get_or ids k 0 ∷ []) (get_or ids k 0) (inr (inl refl)))
+          subst (λ i. In (get_or ids i 0) (found ++ get_or ids k 0 ∷ [])) (same j m x) (in_append found (get_or ids k 0 ∷ []) (get_or ids k 0) (inr (inl refl)))
 
       own : (i : ℕ) → In i (get_or ids k 0 ∷ [])
           → (j : ℕ) × (j < length points) × (get_or ids j 0 ≡ i) × (rise_at points plane j ≡ pos 0)
@@ -58,10 +49,7 @@ module _ (points : List Vector) (ids : List ℕ) (plane : PlaneValue) where
       → rise_at points plane k <ℤ pos 0 → HasLooked points ids plane from (k + 1) old found
   found_under from k old found h u = record {
     below = λ j f m n. elim (cases_lt j k) [ inl x ↦ h.below j f x n | inr x ↦ less_le _ _ (under j m x) ];
-    lists = λ j f m n z. elim (cases_lt j k) [
-      | inl x ↦ h.lists j f x n z
-      | inr x ↦ absurd (less_differ _ _ (under j m x) z)
-    ];
+    lists = λ j f m n z. elim (cases_lt j k) [ inl x ↦ h.lists j f x n z | inr x ↦ absurd (less_differ _ _ (under j m x) z) ];
     kept = h.kept;
     only = h.only;
   }
@@ -74,12 +62,10 @@ module _ (points : List Vector) (ids : List ℕ) (plane : PlaneValue) where
       → k < length points → k < length ids → p ≡ get_or points k p → i ≡ get_or ids k i → height plane p ≡ pos 0
       → HasLooked points ids plane from (k + 1) old (found ++ i ∷ [])
   look_on from k p i old found h l m e f z =
-      subst (λ j. HasLooked points ids plane from (k + 1) old (found ++ j ∷ [])) (sym (f ∙ get_or_default ids k i 0 m))
-      (found_on from k old found h l (subst (λ q. height plane q ≡ pos 0) (e ∙ get_or_default points k p origin l) z))
+      rw (f ∙ get_or_default ids k i 0 m) (found_on from k old found h l (subst (λ q. height plane q ≡ pos 0) (e ∙ get_or_default points k p origin l) z))
 
   pub look_under : (from k : ℕ) (p : Vector) (old found : List ℕ) → HasLooked points ids plane from k old found
-      → k < length points → p ≡ get_or points k p → ¬ (pos 0 <ℤ height plane p) → ¬ (height plane p ≡ pos 0)
-      → HasLooked points ids plane from (k + 1) old found
+      → k < length points → p ≡ get_or points k p → ¬ (pos 0 <ℤ height plane p) → ¬ (height plane p ≡ pos 0) → HasLooked points ids plane from (k + 1) old found
   look_under from k p old found h l e up on =
       found_under from k old found h (subst (λ q. height plane q <ℤ pos 0) (e ∙ get_or_default points k p origin l)
       (by_lt_z (pos 0) (height plane p) (λ x. absurd (up x)) (λ x. le_less _ _ x on)))
@@ -103,13 +89,11 @@ module _ (pts : List Vector) (ids : List ℕ) (p : Places) (are : ArePlaces pts 
   rise_of : (n l : ℕ) → n < length p.ids.items → get_or p.ids.items n 0 ≡ l
       → rise_at p.points.items plane n ≡ height plane (place pts l)
   rise_of n l m e =
-      ap (λ ps. height plane (get_or ps n origin)) are.points
-      ∙ ap (height plane) (get_or-map (place pts) p.ids.items n 0 origin m ∙ ap (place pts) e)
+      ap (λ ps. height plane (get_or ps n origin)) are.points ∙ ap (height plane) (get_or-map (place pts) p.ids.items n 0 origin m ∙ ap (place pts) e)
 
   -- the id at a position is one of the set
   id_at : (n l : ℕ) → n < length p.points.items → get_or p.ids.items n 0 ≡ l → In l ids
-  id_at n l m e =
-      (are.same l).0 (subst (λ i. In i p.ids.items) e (In-get_or p.ids.items n 0 (subst (λ k. n < k) long m)))
+  id_at n l m e = (are.same l).0 (subst (λ i. In i p.ids.items) e (In-get_or p.ids.items n 0 (subst (λ k. n < k) long m)))
 
   inside : (n : ℕ) → n < length p.points.items → n < length p.ids.items
   inside n m = subst (λ k. n < k) long m
@@ -136,8 +120,7 @@ module _ (pts : List Vector) (ids : List ℕ) (p : Places) (are : ArePlaces pts 
 
       again : (l : ℕ) → In l ids × (height plane (place pts l) ≡ pos 0) → In l found
       again l o = let a = in_at p.ids.items l ((are.same l).1 o.0) in
-          subst (λ x. In x found) a.2
-          (lists a.0 (back a.0 a.1) (rise_of a.0 l a.1 a.2 ∙ o.1))
+          subst (λ x. In x found) a.2 (lists a.0 (back a.0 a.1) (rise_of a.0 l a.1 a.2 ∙ o.1))
 
   -- the result if all positions were tested
   pub level_of_all : (found : List ℕ) → HasLooked p.points.items p.ids.items plane 0 (length p.points.items) [] found
@@ -147,13 +130,9 @@ module _ (pts : List Vector) (ids : List ℕ) (p : Places) (are : ArePlaces pts 
 
   -- the result if the near ones were tested, and the plane is in the bundle
   pub level_of_near : (near : Near) (found : List ℕ) → IsNear p.points.items near → IsOfBundle near.bundle plane
-      → HasSeen p.points.items p.ids.items plane near.starts.items (length near.starts.items) found
-      → AreLevel pts ids plane found
+      → HasSeen p.points.items p.ids.items plane near.starts.items (length near.starts.items) found → AreLevel pts ids plane found
   level_of_near near found n o h = level_of found
-      (λ k l. elim (begun near.starts.items (length near.starts.items) k) [
-        | inl b ↦ h.below k b l
-        | inr b ↦ less_le _ _ (n plane o k l l b)
-      ])
+      (λ k l. elim (begun near.starts.items (length near.starts.items) k) [ inl b ↦ h.below k b l | inr b ↦ less_le _ _ (n plane o k l l b) ])
       (λ k l e. elim (begun near.starts.items (length near.starts.items) k) [
         | inl b ↦ h.lists k b l e
         | inr b ↦ absurd (less_differ _ _ (n plane o k l l b) e)
@@ -163,8 +142,7 @@ module _ (pts : List Vector) (ids : List ℕ) (p : Places) (are : ArePlaces pts 
   -- the result of testing all positions
   pub all_looked : (o : Option ℕ) (found : List ℕ)
       → MatchOption o (0 ≤ length p.points.items → HasLooked p.points.items p.ids.items plane 0 (length p.points.items) [] found)
-      (IsAboveAt p.points.items p.ids.items plane)
-      → MatchOption o (AreLevel pts ids plane found) (IsAbove pts ids plane)
+      (IsAboveAt p.points.items p.ids.items plane) → MatchOption o (AreLevel pts ids plane found) (IsAbove pts ids plane)
   all_looked None found h = level_of_all found (h (omega arith))
   all_looked (Some i) found h = above_of i h
 

@@ -1,9 +1,8 @@
 -- The positions that starts cover, and the results there.
-use Rattle.qh_model.proofs.Common.{◌≡◌, ℕ, zero, suc, ◌+◌, ◌<◌, ◌≤◌, arith, sym, ap, subst, ◌∙◌, ◌⊎◌, inl, inr, List, [], ◌∷◌, ◌++◌, length, get_or}
-use Rattle.qh_model.proofs.Common.{length-append, get_or-append_seam, get_or_default, get_or_append_left, cases_lt, Vector}
-use Rattle.qh_pred.specs.contract.Planes.{PlaneValue}
+use Rattle.{qh_pred.specs.contract.Planes.PlaneValue, qh_places.specs.declared.bundles.Bundle.Bundle, qh_places.specs.declared.places.TheConstants.LEAF}
 use Rattle.qh_places.specs.{contract.Near.IsBegun, contract.Near.IsNearUpTo, steps.Levels.AreBelowAll, steps.Levels.HasLooked, steps.Levels.HasSeen}
-use Rattle.qh_places.specs.declared.{bundles.Bundle.Bundle, places.TheConstants.LEAF}
+use Rattle.qh_model.proofs.Common.{◌≡◌, ℕ, zero, suc, ◌+◌, ◌<◌, ◌≤◌, arith, sym, ap, subst, ◌∙◌, ◌⊎◌, inl, inr}
+use Rattle.qh_model.proofs.Common.{List, [], ◌∷◌, ◌++◌, length, get_or, length-append, get_or-append_seam, get_or_default, get_or_append_left, cases_lt, Vector}
 
 -- a position that is covered by the first starts is covered by more starts
 more : (starts : List ℕ) (n m k : ℕ) → n ≤ m → IsBegun starts n k → IsBegun starts m k
@@ -26,7 +25,7 @@ begun starts (suc n) k = elim (begun starts n k) [
     earlier : (b : IsBegun starts (suc n) k) → (b.0 ≡ n → ⊥) → IsBegun starts n k
     earlier b other = elim (cases_lt b.0 n) [
       | inl l ↦ (b.0, l, b.2, b.3)
-      | inr l ↦ (let m = b.1 in let same : b.0 ≡ n = omega (arith, m, l) in absurd (other same))
+      | inr l ↦ (let same : b.0 ≡ n = omega (arith, b.1, l) in absurd (other same))
     ]
 
 -- ---- the positions where planes of a bundle have to be tested
@@ -55,10 +54,9 @@ module _ (points : List Vector) (b : Bundle) where
 
       kept : IsBegun starts (length starts) k → IsBegun (starts ++ from ∷ []) (length (starts ++ from ∷ [])) k
       kept g =
-          let e = get_or_append_left starts (from ∷ []) 0 g.0 g.1 in
-          let l = g.1 in (
+          let e = get_or_append_left starts (from ∷ []) 0 g.0 g.1 in (
             g.0,
-            omega (arith, l, long),
+            omega (arith, g.1, long),
             subst (λ s. s ≤ k) (sym e) g.2,
             subst (λ s. k < s + LEAF) (sym e) g.3,
           )
@@ -82,8 +80,7 @@ module _ (points : List Vector) (ids : List ℕ) (plane : PlaneValue) (starts : 
   }
 
   pub seen_goes : (n start : ℕ) (old found : List ℕ) → HasSeen points ids plane starts n old → n < length starts
-      → start ≡ get_or starts n start → HasLooked points ids plane start (start + LEAF) old found
-      → HasSeen points ids plane starts (n + 1) found
+      → start ≡ get_or starts n start → HasLooked points ids plane start (start + LEAF) old found → HasSeen points ids plane starts (n + 1) found
   seen_goes n start old found h l e look = record {
     below = λ k b m. elim (which k b) [ inl x ↦ h.below k x m | inr x ↦ look.below k x.0 x.1 m ];
     lists = λ k b m z. elim (which k b) [ inl x ↦ look.kept _ (h.lists k x m z) | inr x ↦ look.lists k x.0 x.1 m z ];
@@ -96,7 +93,7 @@ module _ (points : List Vector) (ids : List ℕ) (plane : PlaneValue) (starts : 
       which : (k : ℕ) → IsBegun starts (n + 1) k → IsBegun starts n k ⊎ ((start ≤ k) × (k < start + LEAF))
       which k b = elim (cases_lt b.0 n) [
         | inl x ↦ inl (b.0, x, b.2, b.3)
-        | inr x ↦ (let m = b.1 in let same : b.0 ≡ n = omega (arith, m, x) in
+        | inr x ↦ (let same : b.0 ≡ n = omega (arith, b.1, x) in
             let is = ap (λ j. get_or starts j 0) same ∙ sym here in
             inr (subst (λ s. s ≤ k) is b.2, subst (λ s. k < s + LEAF) is b.3))
       ]

@@ -23,6 +23,7 @@ pub(crate) struct Level {
 }
 
 /// Returns the number of positions of a block with this binary logarithm.
+#[tactic(auto, using(std::proofs::lemmas::Nat::one_shl))]
 fn positions(shift: u32) -> usize
     requires { shift < 63 }
     ensures { result ≡ 2 ^ shift }

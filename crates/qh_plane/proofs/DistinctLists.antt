@@ -1,13 +1,12 @@
 -- The distinct ids by marks, and the repeats among sorted keys of points, for any numbers that determine the places.
-use Rattle.qh_model.proofs.Common.{◌≡◌, ℕ, ◌+◌, ◌-◌, ◌*◌, ◌%◌, ◌/◌, ◌<◌, ◌≤◌, List, length, get_or, map, arith, ap, sym, subst, ◌∙◌, ◌↔◌, ◌⊎◌, inl, inr, ⊎_elim}
-use Rattle.qh_model.proofs.Common.{true, false, Bool, cases_lt, nat_tests, div-add-mod', mod-mul-add, All, IsStrictlyIncreasing, IsNonDecreasing, IsPermutation}
-use Rattle.qh_model.proofs.Common.{IsIdSet, IsDistinctId, AreDistinctIds, place, In, Vector}
-use Rattle.std.proofs.lemmas.Nat.{div-mul-add}
+use Rattle.qh_model.proofs.Common.{◌≡◌, ℕ, ◌+◌, ◌-◌, ◌*◌, ◌%◌, ◌/◌, ◌<◌, ◌≤◌, List, length, get_or, map}
+use Rattle.qh_model.proofs.Common.{arith, ap, sym, subst, ◌∙◌, ◌↔◌, ◌⊎◌, inl, inr, ⊎_elim, true, false, Bool, cases_lt, nat_tests, div-add-mod', mod-mul-add}
+use Rattle.qh_model.proofs.Common.{All, IsStrictlyIncreasing, IsNonDecreasing, IsPermutation, IsIdSet, IsDistinctId, AreDistinctIds, place, In, Vector}
 use Rattle.qh_model.proofs.Members.{In-get_or, All-of, in_at}
+use Rattle.qh_plane.specs.steps.{PlaceKeys.AllIds, PlaceKeys.ArePlaceRepeats, Repeats.IsRepeatedId, Repeats.AreAllRepeats, SortedPoints.AllDiffer}
 use Rattle.qh_polygon.proofs.KeyOrder.{IsKeyIn, TellIds, code_le, key_told, key_listed, keys_rise}
 use Rattle.qh_polygon.proofs.MarkedIds.{IsMarked, in_marked_ids, of_marked_ids, marked_ids-rise}
-use Rattle.qh_polygon.specs.contract.Marks.{marked_ids}
-use Rattle.qh_plane.specs.steps.{PlaceKeys.AllIds, PlaceKeys.ArePlaceRepeats, Repeats.IsRepeatedId, Repeats.AreAllRepeats, SortedPoints.AllDiffer}
+use Rattle.{qh_polygon.specs.contract.Marks.marked_ids, std.proofs.lemmas.Nat.div-mul-add}
 
 -- the ids below a count rise
 pub rises_each : (n : ℕ) (all : List ℕ) → AllIds n all → IsStrictlyIncreasing all
@@ -20,8 +19,7 @@ all_in n all a i h = subst (λ v. In v all) (a.each i h) (In-get_or all i 0 (let
 -- no other number is listed
 pub in_all : (n : ℕ) (all : List ℕ) → AllIds n all → (i : ℕ) → In i all → i < n
 in_all n all a i m =
-    let r = in_at all i m in
-    let lt : r.0 < n = subst (λ v. r.0 < v) a.len r.1 in
+    let r = in_at all i m in let lt : r.0 < n = subst (λ v. r.0 < v) a.len r.1 in
     subst (λ v. v < n) (sym (a.each r.0 lt) ∙ r.2) lt
 
 -- if all points differ, all ids are distinct
@@ -58,10 +56,10 @@ pub record AreSortedKeys (pts : List Vector) (room : ℕ) (code : ℕ → ℕ) (
 
 -- of two keys of one place, the lower one has the lower id
 id_up : (room x y : ℕ) → x / room ≡ y / room → x ≤ y → x % room ≤ y % room
-id_up room x y e h = let a = div-add-mod' x room in let b = div-add-mod' y room in let q = ap (λ v. v * room) e in omega (arith, a, b, q, h)
+id_up room x y e h = omega (arith, div-add-mod' x room, div-add-mod' y room, ap (λ v. v * room) e, h)
 
 id_less : (room x y : ℕ) → x / room ≡ y / room → x < y → x % room < y % room
-id_less room x y e h = let a = div-add-mod' x room in let b = div-add-mod' y room in let q = ap (λ v. v * room) e in omega (arith, a, b, q, h)
+id_less room x y e h = omega (arith, div-add-mod' x room, div-add-mod' y room, ap (λ v. v * room) e, h)
 
 -- the key of id i is at n, and determines the id and its place
 pub record StandsAt (room : ℕ) (code : ℕ → ℕ) (keys : List ℕ) (i n : ℕ) : Type 0 where
@@ -116,11 +114,10 @@ module _ (pts : List Vector) (room : ℕ) (code : ℕ → ℕ) (keys : List ℕ)
 
   -- of two ids with one number, the key of the lower one comes first
   pub stands_before : (i j p q : ℕ) → i < j → code i ≡ code j → StandsAt room code keys i p → StandsAt room code keys j q → p < q
-  stands_before i j p q l e s t = ⊎_elim (λ h. h) (λ h. absurd (back (id_up room (get_or keys q 0) (get_or keys p 0)
+  stands_before i j p q l e s t =
+      let back : get_or keys q 0 % room ≤ get_or keys p 0 % room → ⊥ = λ h. omega (arith, l, h, s.id_told, t.id_told) in
+      ⊎_elim (λ h. h) (λ h. absurd (back (id_up room (get_or keys q 0) (get_or keys p 0)
       (t.place_told ∙ sym e ∙ sym s.place_told) (k.rising q p 0 h s.within)))) (cases_lt p q)
-    where
-      back : get_or keys q 0 % room ≤ get_or keys p 0 % room → ⊥
-      back h = let a = s.id_told in let b = t.id_told in omega (arith, l, h, a, b)
 
   -- ---- the repeats, if the keys are those of all ids
   module _ (every : (i : ℕ) → i < length pts → In i k.ids) (apart : (i j : ℕ) → i < j → j < length pts → code i ≡ code j → place pts i ≡ place pts j)
@@ -133,7 +130,7 @@ module _ (pts : List Vector) (room : ℕ) (code : ℕ → ℕ) (keys : List ℕ)
         codes = k.equal r.1 i r.3
 
         p : (n : ℕ) × StandsAt room code keys r.1 n
-        p = position r.1 (every r.1 (let h = r.2 in let l = r.0 in omega (arith, h, l)))
+        p = position r.1 (every r.1 (omega (arith, r.2, r.0)))
 
         q : (n : ℕ) × StandsAt room code keys i n
         q = position i (every i r.0)
@@ -145,8 +142,8 @@ module _ (pts : List Vector) (room : ℕ) (code : ℕ → ℕ) (keys : List ℕ)
         squeeze a b c g h e = omega (arith, g, h, e)
 
         from_last : (n : ℕ) → n + 1 ≡ q.0 → In (get_or keys q.0 0 % room) ids
-        from_last n e = subst (λ m. In (get_or keys m 0 % room) ids) e (told.has n within within (subst (λ m. get_or keys n 0 / room ≡ get_or keys m 0 / room)
-            (sym e) (squeeze _ _ _ (code_le room _ _ (k.rising p.0 n 0 (omega (arith, before, e)) (omega (arith, within))))
+        from_last n e = rw e at (told.has n within within (rw e (squeeze _ _ _
+            (code_le room _ _ (k.rising p.0 n 0 (omega (arith, before, e)) (omega (arith, within))))
             (code_le room _ _ (k.rising n q.0 0 (omega (arith, e)) q.1.within)) (p.1.place_told ∙ codes ∙ sym q.1.place_told))))
           where
             within : n + 1 < length keys
@@ -154,31 +151,17 @@ module _ (pts : List Vector) (room : ℕ) (code : ℕ → ℕ) (keys : List ℕ)
 
     -- a key that has the place of the key before belongs to a repeated id
     repeated : (i : ℕ) → In i ids → IsRepeatedId pts i
-    repeated i m = subst (IsRepeatedId pts) (sym r.3) (inside, low, less, apart low high less inside codes)
+    repeated i m =
+        let here : In (get_or keys r.0 0) keys = In-get_or keys r.0 0 (omega (arith, r.1)) in
+        let next : In (get_or keys (r.0 + 1) 0) keys = In-get_or keys (r.0 + 1) 0 r.1 in
+        let low : ℕ = get_or keys r.0 0 % room in let high : ℕ = get_or keys (r.0 + 1) 0 % room in
+        let inside : high < length pts = index_in (get_or keys (r.0 + 1) 0) next in
+        let codes : code low ≡ code high = sym (code_told (get_or keys r.0 0) here) ∙ r.2 ∙ code_told (get_or keys (r.0 + 1) 0) next in
+        let less : low < high = id_less room (get_or keys r.0 0) (get_or keys (r.0 + 1) 0) r.2 (up r.0 r.1) in
+        subst (IsRepeatedId pts) (sym r.3) (inside, low, less, apart low high less inside codes)
       where
         r : (n : ℕ) × (n + 1 < length keys) × (get_or keys n 0 / room ≡ get_or keys (n + 1) 0 / room) × (i ≡ get_or keys (n + 1) 0 % room)
         r = told.only i m
-
-        here : In (get_or keys r.0 0) keys
-        here = In-get_or keys r.0 0 (let h = r.1 in omega (arith, h))
-
-        next : In (get_or keys (r.0 + 1) 0) keys
-        next = In-get_or keys (r.0 + 1) 0 r.1
-
-        low : ℕ
-        low = get_or keys r.0 0 % room
-
-        high : ℕ
-        high = get_or keys (r.0 + 1) 0 % room
-
-        inside : high < length pts
-        inside = index_in (get_or keys (r.0 + 1) 0) next
-
-        codes : code low ≡ code high
-        codes = sym (code_told (get_or keys r.0 0) here) ∙ r.2 ∙ code_told (get_or keys (r.0 + 1) 0) next
-
-        less : low < high
-        less = id_less room (get_or keys r.0 0) (get_or keys (r.0 + 1) 0) r.2 (up r.0 r.1)
 
     -- so these are the ids of the points that are equal to an earlier one
     pub all_repeats : AreAllRepeats pts ids
@@ -186,11 +169,10 @@ module _ (pts : List Vector) (room : ℕ) (code : ℕ → ℕ) (keys : List ℕ)
 
 -- the distinct ids are rising ids of distinct points
 pub id_set : (pts : List Vector) (ids : List ℕ) → AreDistinctIds pts ids → IsIdSet pts ids
-id_set pts ids d = record { rising = d.rising; distinct = λ i j mi mj e. same i j mi mj e (by_order i j) }
+id_set pts ids d =
+    let by_order : (i j : ℕ) → (i < j) ⊎ ((j < i) ⊎ (i ≡ j)) = λ i j. grind (arith, nat_tests) in
+    record { rising = d.rising; distinct = λ i j mi mj e. same i j mi mj e (by_order i j) }
   where
-    by_order : (i j : ℕ) → (i < j) ⊎ ((j < i) ⊎ (i ≡ j))
-    by_order i j = grind (arith, nat_tests)
-
     same : (i j : ℕ) → In i ids → In j ids → place pts i ≡ place pts j → (i < j) ⊎ ((j < i) ⊎ (i ≡ j)) → i ≡ j
     same i j mi mj e (inl h) = absurd (((d.members j).0 mj).1 i h e)
     same i j mi mj e (inr (inl h)) = absurd (((d.members i).0 mi).1 j h (sym e))

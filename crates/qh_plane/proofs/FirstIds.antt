@@ -1,12 +1,11 @@
 -- Pieces of a list: the points between the first ones of a piece are repeats, and the distinct points of a piece are its first ones.
-use Rattle.qh_model.proofs.Common.{◌≡◌, ◌∙◌, ℕ, zero, suc, ◌+◌, ◌-◌, ◌*◌, ◌/◌, ◌%◌, ◌<◌, ◌≤◌, ◌⊎◌, inl, inr, List, length, get_or, min, arith, sym, subst}
-use Rattle.qh_model.proofs.Common.{cases_lt, get_or_default, get_or_past, div-add-mod', IsChunk, AreDistinctIds, place, In, Vector, origin}
+use Rattle.qh_model.proofs.Common.{◌≡◌, ◌∙◌, ℕ, zero, suc, ◌+◌, ◌-◌, ◌*◌, ◌/◌, ◌%◌, ◌<◌, ◌≤◌, ◌⊎◌, inl, inr, List, length, get_or, min}
+use Rattle.qh_model.proofs.Common.{arith, sym, subst, cases_lt, get_or_default, get_or_past, div-add-mod', IsChunk, AreDistinctIds, place, In, Vector, origin}
 use native.Mathlib.Nat.{add-mul, one-mul, mod-lt}
 use Rattle.qh_model.proofs.{Decisions.Decided, Decisions.same_vector, Members.in_at, Members.All-of, lists.Rising.rising_between}
 use Rattle.qh_model.specs.declared.limits.TheConstants.{POINT_LIMIT}
-use Rattle.qh_plane.proofs.SeenPlaces.{repeats_seen}
-use Rattle.qh_plane.specs.{declared.close_points.CloseBox.CloseBox, steps.FirstIds.HaveFirsts, steps.FirstIds.AreFirstIds, steps.Repeats.IsRepeatedId}
-use Rattle.qh_plane.specs.steps.Pieces.{end_of}
+use Rattle.qh_plane.{proofs.SeenPlaces.repeats_seen, specs.declared.close_points.CloseBox.CloseBox}
+use Rattle.qh_plane.specs.steps.{FirstIds.HaveFirsts, FirstIds.AreFirstIds, Repeats.IsRepeatedId, Pieces.end_of}
 
 module _ (pts : List Vector) (begin end : ℕ) (firsts : List ℕ) (order : begin ≤ end) (f : AreFirstIds pts begin end firsts) where
   -- the id of the first point with a number, or the end of the piece
@@ -18,14 +17,14 @@ module _ (pts : List Vector) (begin end : ℕ) (firsts : List ℕ) (order : begi
     where
       by_decision : (i < length firsts) ⊎ (length firsts ≤ i) → first_at i ≤ end
       by_decision (inl l) = let h = f.below i (end - begin) l in omega (arith, h)
-      by_decision (inr g) = let h = get_or_past firsts i (end - begin) g in omega (arith, h, order)
+      by_decision (inr g) = omega (arith, get_or_past firsts i (end - begin) g, order)
 
   -- the first ones rise
   at_most : (i q : ℕ) → i ≤ q → q < length firsts → get_or firsts i 0 ≤ get_or firsts q 0
   at_most i q g l = by_order (cases_lt i q)
     where
       by_order : (i < q) ⊎ (q ≤ i) → get_or firsts i 0 ≤ get_or firsts q 0
-      by_order (inl h) = let r = rising_between firsts i q f.rising h l in omega (arith, r)
+      by_order (inl h) = omega (arith, rising_between firsts i q f.rising h l)
       by_order (inr h) = let e : i ≡ q = omega (arith, g, h) in subst (λ k. get_or firsts i 0 ≤ get_or firsts k 0) e (omega arith)
 
   -- none of them lies between two consecutive ones
@@ -33,12 +32,11 @@ module _ (pts : List Vector) (begin end : ℕ) (firsts : List ℕ) (order : begi
   between i m above before = told (f.others m (let h = first_within i in omega (arith, before, h)))
     where
       none_there : (q : ℕ) → q < length firsts → get_or firsts q 0 ≡ m → (q < i) ⊎ (i ≤ q) → ⊥
-      none_there q l e (inl h) = let c = above q h l in omega (arith, c, e)
+      none_there q l e (inl h) = omega (arith, above q h l, e)
       none_there q l e (inr g) =
           let here : i < length firsts = omega (arith, g, l) in
           let read : get_or firsts i (end - begin) ≡ get_or firsts i 0 = get_or_default firsts i (end - begin) 0 here in
-          let rises = at_most i q g l in
-          omega (arith, before, read, rises, e)
+          omega (arith, before, read, at_most i q g l, e)
 
       told : In m firsts ⊎ IsRepeatedId pts (begin + m) → IsRepeatedId pts (begin + m)
       told (inr r) = r
@@ -51,7 +49,7 @@ module _ (pts : List Vector) (begin end : ℕ) (firsts : List ℕ) (order : begi
       subst (λ n. HaveFirsts pts b slots n ids) {x = begin + k + (first_at i - (begin + k))} {y = first_at i} (omega (arith, l))
       (repeats_seen pts b slots (begin + k) (first_at i - (begin + k)) ids old few
       (λ m h. subst (IsRepeatedId pts) {x = begin + (k + m)} {y = begin + k + m} (omega arith)
-      (between i (k + m) (λ q g n. let a = above q g n in omega (arith, a)) (omega (arith, h, l)))))
+      (between i (k + m) (λ q g n. omega (arith, above q g n)) (omega (arith, h, l)))))
 
   -- in the beginning those before the first one
   pub first_begun : (b : CloseBox) (slots ids : List ℕ) → length pts ≤ POINT_LIMIT → HaveFirsts pts b slots begin ids → HaveFirsts pts b slots (first_at 0) ids
@@ -71,19 +69,16 @@ module _ (pts : List Vector) (begin end : ℕ) (firsts : List ℕ) (order : begi
       here = get_or_default firsts i (end - begin) 0 l
 
       by_decision : (i + 1 < length firsts) ⊎ (length firsts ≤ i + 1) → begin + (get_or firsts i 0 + 1) ≤ first_at (i + 1)
-      by_decision (inl h) =
-          let next = f.rising i h in let read = get_or_default firsts (i + 1) (end - begin) 0 h in omega (arith, next, read)
-      by_decision (inr g) =
-          let past = get_or_past firsts (i + 1) (end - begin) g in let below = f.below i (end - begin) l in omega (arith, past, below, here)
+      by_decision (inl h) = let read = get_or_default firsts (i + 1) (end - begin) 0 h in omega (arith, f.rising i h, read)
+      by_decision (inr g) = omega (arith, get_or_past firsts (i + 1) (end - begin) g, f.below i (end - begin) l, here)
 
       above : (q : ℕ) → q < i + 1 → q < length firsts → get_or firsts q 0 < get_or firsts i 0 + 1
-      above q h n = let r = at_most q i (omega (arith, h)) l in omega (arith, r)
+      above q h n = omega (arith, at_most q i (omega (arith, h)) l)
 
   -- after the last one the piece is processed
   pub piece_seen : (b : CloseBox) (slots ids : List ℕ) (i : ℕ) → length firsts ≤ i → HaveFirsts pts b slots (first_at i) ids → HaveFirsts pts b slots end ids
   piece_seen b slots ids i g old =
-      let past = get_or_past firsts i (end - begin) g in
-      subst (λ n. HaveFirsts pts b slots n ids) {x = first_at i} {y = end} (omega (arith, past, order)) old
+      subst (λ n. HaveFirsts pts b slots n ids) {x = first_at i} {y = end} (omega (arith, get_or_past firsts i (end - begin) g, order)) old
 
 -- an earlier equal point, or none
 stands_before : (pts : List Vector) (i n : ℕ) → Decided ((j : ℕ) × (j < n) × (place pts j ≡ place pts i))
@@ -98,7 +93,7 @@ stands_before pts i (suc n) = by_decision (stands_before pts i n) (same_vector (
       where
         by_order : (s : (j : ℕ) × (j < suc n) × (place pts j ≡ place pts i)) → (s.0 < n) ⊎ (n ≤ s.0) → ⊥
         by_order s (inl l) = none (s.0, l, s.2)
-        by_order s (inr g) = let l = s.1 in let e : s.0 ≡ n = omega (arith, l, g) in other (subst (λ k. place pts k ≡ place pts i) e s.2)
+        by_order s (inr g) = let e : s.0 ≡ n = omega (arith, s.1, g) in other (subst (λ k. place pts k ≡ place pts i) e s.2)
 
 module _ (pts piece : List Vector) (size n : ℕ) (ids : List ℕ) (c : IsChunk pts size (n * size) piece) (d : AreDistinctIds piece ids) where
   -- a point of the piece is a point of the list
@@ -116,9 +111,9 @@ module _ (pts piece : List Vector) (size n : ℕ) (ids : List ℕ) (c : IsChunk 
       other : (i : ℕ) → i < length piece → Decided ((j : ℕ) × (j < i) × (place piece j ≡ place piece i)) → In i ids ⊎ IsRepeatedId pts (n * size + i)
       other i l (inr none) = inl ((d.members i).1 (l, λ j h e. none (j, h, e)))
       other i l (inl s) =
-          let within = c.in_bounds in let before = s.1 in
+          let before = s.1 in
           inr (
-            omega (arith, l, within),
+            omega (arith, l, c.in_bounds),
             n * size + s.0,
             omega (arith, before),
             sym (same_place s.0 (omega (arith, before, l))) ∙ s.2 ∙ same_place i l,
@@ -127,10 +122,9 @@ module _ (pts piece : List Vector) (size n : ℕ) (ids : List ℕ) (c : IsChunk 
   -- the distinct points of a piece are its first ones
   pub chunk_firsts : AreFirstIds pts (end_of pts size n) (end_of pts size (n + 1)) ids
   chunk_firsts =
-      let within = c.in_bounds in let len = c.len in
-      let more : (n + 1) * size ≡ n * size + size = omega arith in
+      let within = c.in_bounds in let more : (n + 1) * size ≡ n * size + size = omega arith in
       subst (λ b. AreFirstIds pts b (end_of pts size (n + 1)) ids) {x = n * size} {y = end_of pts size n} (omega (arith, within))
-      (subst (λ e. AreFirstIds pts (n * size) e ids) {x = n * size + length piece} {y = end_of pts size (n + 1)} (omega (arith, within, len, more)) firsts_of)
+      (subst (λ e. AreFirstIds pts (n * size) e ids) {x = n * size + length piece} {y = end_of pts size (n + 1)} (omega (arith, within, c.len, more)) firsts_of)
 
 -- all chunks of a list reach its end
 pub chunks_reach : (len size count : ℕ) → 0 < size → count ≡ len / size + min 1 (len % size) → len ≤ count * size

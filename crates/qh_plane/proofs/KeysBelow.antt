@@ -1,7 +1,6 @@
 -- The keys of consecutive points, extended by one more point or by the points after them.
 use Rattle.qh_model.proofs.Common.{◌≡◌, ℕ, ◌+◌, ◌<◌, ◌≤◌, ◌⊎◌, inl, inr, ⊎_elim, List, [], ◌∷◌, ◌++◌, arith, ap₂, sym, subst, ◌∙◌, refl, cases_lt, map-append}
-use Rattle.qh_model.proofs.Common.{ℕ_discrete, In, Vector}
-use Rattle.qh_model.proofs.lists.{Joined.in_append, Joined.of_append, Rising.rising_append}
+use Rattle.qh_model.proofs.{Common.ℕ_discrete, Common.In, Common.Vector, lists.Joined.in_append, lists.Joined.of_append, lists.Rising.rising_append}
 use Rattle.qh_plane.specs.steps.HashedKeys.{Hashes, hash_at, hashed_key_at, AreKeysBetween}
 
 -- no points have no keys
@@ -47,10 +46,10 @@ module _ (pts : List Vector) (some : Hashes) (from n : ℕ) (keys : List ℕ) (k
     where
       high : (i : ℕ) → In i k.ids ⊎ In i m.ids → from ≤ i
       high i (inl p) = k.above i p
-      high i (inr p) = let g = m.above i p in omega (arith, a, g)
+      high i (inr p) = omega (arith, a, m.above i p)
 
       low : (i : ℕ) → In i k.ids ⊎ In i m.ids → i < to
-      low i (inl p) = let l = k.below i p in omega (arith, l, b)
+      low i (inl p) = omega (arith, k.below i p, b)
       low i (inr p) = m.below i p
 
       told : (i : ℕ) → In i k.ids ⊎ In i m.ids → some (hash_at pts i)

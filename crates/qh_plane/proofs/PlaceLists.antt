@@ -97,15 +97,11 @@ module _ (pts : List Vector) (some : Hashes) (keys : List ℕ) (few : length pts
 
         third : (t : ℕ) → p.0 ≤ t → t + 2 < length keys → key p.0 / ID_ROOM ≡ key (t + 2) / ID_ROOM → In (key (t + 2) % ID_ROOM) ids
         third t g w s =
+            let next : t + 1 + 1 ≡ t + 2 = omega arith in
+            let pinch : (x y z : ℕ) → x ≤ y → y ≤ z → x / ID_ROOM ≡ z / ID_ROOM → y / ID_ROOM ≡ z / ID_ROOM = λ x y z a b c. omega (arith, a, b, c) in
             subst (λ n. In (key n % ID_ROOM) ids) next
             (told.listed.has (t + 1) (omega (arith, w)) (omega (arith, w)) (subst (λ n. IsRepeat pts (key (t + 1)) (key n)) (sym next) (told.tells t w w
             (pinch (key p.0) (key t) (key (t + 2)) (rising p.0 t 0 g (omega (arith, w))) (rising t (t + 2) 0 (omega arith) w) s))))
-          where
-            next : t + 1 + 1 ≡ t + 2
-            next = omega arith
-
-            pinch : (x y z : ℕ) → x ≤ y → y ≤ z → x / ID_ROOM ≡ z / ID_ROOM → y / ID_ROOM ≡ z / ID_ROOM
-            pinch x y z a b c = omega (arith, a, b, c)
 
         by_cases : (p.0 + 1 < q.0) ⊎ (q.0 ≤ p.0 + 1) → In (key q.0 % ID_ROOM) ids
         by_cases (inr g) = subst (λ n. In (key n % ID_ROOM) ids) one (told.listed.has p.0 within within (adjacent p.0 one))
@@ -120,27 +116,18 @@ module _ (pts : List Vector) (some : Hashes) (keys : List ℕ) (few : length pts
             adjacent n e = subst (λ m. IsRepeat pts (key p.0) (key m)) (sym e)
                 (same, ap (place pts) p.1.id_told ∙ r.3 ∙ ap (place pts) (sym q.1.id_told))
         by_cases (inl g) =
+            let two : q.0 - 2 + 2 ≡ q.0 = omega (arith, g) in
             subst (λ n. In (key n % ID_ROOM) ids) two (third (q.0 - 2) (omega (arith, g)) (subst (λ n. n < length keys) (sym two) q.1.within)
             (subst (λ n. key p.0 / ID_ROOM ≡ key n / ID_ROOM) (sym two) same))
-          where
-            two : q.0 - 2 + 2 ≡ q.0
-            two = omega (arith, g)
 
     -- a key that repeats the key before belongs to a repeated id
     repeated : (i : ℕ) → In i ids → IsRepeatedId pts i
-    repeated i m = subst (IsRepeatedId pts) (sym r.3) (lt, key r.0 % ID_ROOM, lower (key r.0) (key (r.0 + 1)) rises r.2.0, r.2.1)
-      where
-        r : (j : ℕ) × (j + 1 < length keys) × IsRepeat pts (key j) (key (j + 1)) × (i ≡ key (j + 1) % ID_ROOM)
-        r = told.listed.only i m
-
-        lt : key (r.0 + 1) % ID_ROOM < length pts
-        lt = index_in pts ID_ROOM hash keys hashed (key (r.0 + 1)) (In-get_or keys (r.0 + 1) 0 r.1)
-
-        rises : key r.0 < key (r.0 + 1)
-        rises = up pts ID_ROOM hash keys hashed r.0 r.1
-
-        lower : (x y : ℕ) → x < y → x / ID_ROOM ≡ y / ID_ROOM → x % ID_ROOM < y % ID_ROOM
-        lower x y a b = omega (arith, a, b)
+    repeated i m =
+        let r : (j : ℕ) × (j + 1 < length keys) × IsRepeat pts (key j) (key (j + 1)) × (i ≡ key (j + 1) % ID_ROOM) = told.listed.only i m in
+        let lt : key (r.0 + 1) % ID_ROOM < length pts = index_in pts ID_ROOM hash keys hashed (key (r.0 + 1)) (In-get_or keys (r.0 + 1) 0 r.1) in
+        let rises : key r.0 < key (r.0 + 1) = up pts ID_ROOM hash keys hashed r.0 r.1 in
+        let lower : (x y : ℕ) → x < y → x / ID_ROOM ≡ y / ID_ROOM → x % ID_ROOM < y % ID_ROOM = λ x y a b. omega (arith, a, b) in
+        subst (IsRepeatedId pts) (sym r.3) (lt, key r.0 % ID_ROOM, lower (key r.0) (key (r.0 + 1)) rises r.2.0, r.2.1)
 
     -- so these are the ids of the points that are equal to an earlier one
     pub repeats_are : AreRepeats pts (WithHashes pts some) ids

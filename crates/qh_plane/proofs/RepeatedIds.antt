@@ -1,15 +1,14 @@
 -- Points that are equal to an earlier one: found key by key, joined from parts of the hashes, and removed.
-use Rattle.qh_model.proofs.Common.{◌≡◌, ◌≢◌, ℕ, zero, suc, ◌+◌, ◌-◌, ◌*◌, ◌/◌, ◌%◌, ◌<◌, ◌≤◌, ◌⊎◌, inl, inr, List, [], ◌∷◌, ◌++◌, Bool, true, false, length}
-use Rattle.qh_model.proofs.Common.{get_or, set, arith, ap, sym, subst, ◌∙◌, refl, get_or-set_same, get_or-set_other, ⊎_elim, cases_lt, length-set, ℕ_discrete}
-use Rattle.qh_model.proofs.Common.{IsDistinctId, AreDistinctIds, place, In, Vector}
-use Rattle.std.proofs.Math.Nat.{div-lt_iff_lt-mul, mul-lt-mul_of_pos_right}
-use Rattle.qh_model.proofs.lists.Joined.{in_append, of_append}
+use Rattle.qh_model.proofs.Common.{◌≡◌, ◌≢◌, ℕ, ◌+◌, ◌-◌, ◌*◌, ◌/◌, ◌%◌, ◌<◌, ◌≤◌, ◌⊎◌, inl, inr, List, [], ◌∷◌, ◌++◌, Bool, true, false, length, get_or, set}
+use Rattle.qh_model.proofs.Common.{arith, ap, sym, subst, ◌∙◌, refl, get_or-set_same, get_or-set_other, ⊎_elim, cases_lt, length-set, ℕ_discrete, IsDistinctId}
+use Rattle.qh_model.proofs.{Common.AreDistinctIds, Common.place, Common.In, Common.Vector, Common.get_or_past, lists.Joined.in_append, lists.Joined.of_append}
 use Rattle.qh_plane.proofs.DistinctLists.{all_distinct, marked_distinct}
 use Rattle.qh_plane.proofs.RepeatedPlaces.{none_related, one_related, none_more, all_related}
-use Rattle.qh_plane.specs.{declared.hashed_keys.TheConstants.ID_ROOM, declared.hashed_keys.TheConstants.NO_HASH, steps.PlaceKeys.AllIds}
+use Rattle.qh_plane.specs.declared.hashed_keys.TheConstants.{ID_ROOM, NO_HASH}
 use Rattle.qh_plane.specs.steps.HashedKeys.{place_hash, hash_at, PartHashes, WithHashes, IsRepeat, RepeatsTold}
-use Rattle.qh_plane.specs.steps.Repeats.{Ids, PartsBelow, IsRepeatedId, AreRepeats, AreAllRepeats, MarksWithout}
-use Rattle.qh_polygon.specs.contract.Marks.{marked_ids}
+use Rattle.qh_plane.specs.steps.{PlaceKeys.AllIds, Repeats.Ids, Repeats.PartsBelow, Repeats.IsRepeatedId, Repeats.AreRepeats, Repeats.AreAllRepeats}
+use Rattle.{qh_plane.specs.steps.Repeats.MarksWithout, qh_polygon.specs.contract.Marks.marked_ids}
+use Rattle.std.proofs.{Math.Nat.div-lt_iff_lt-mul, Math.Nat.mul-lt-mul_of_pos_right, lemmas.Bool.false≢true}
 
 -- ---- key by key
 -- the first key is not a repeat
@@ -59,10 +58,7 @@ told_all pts keys n ids h told = record {
 -- ---- part by part
 -- no parts have no repeats
 pub no_repeats : (pts : List Vector) (part : ℕ → Ids) → AreRepeats pts (PartsBelow part 0) []
-no_repeats pts part = record { has = λ i s. absurd (none s.0 s.1); only = λ i m. absurd m }
-  where
-    none : (n : ℕ) → n < 0 → ⊥
-    none n l = omega (arith, l)
+no_repeats pts part = record { has = λ i s. absurd (omega (arith, s.1)); only = λ i m. absurd m }
 
 -- the repeats of some parts and those of the next one are those of both
 pub repeats_joined : (pts : List Vector) (part : ℕ → Ids) (n : ℕ) (xs ys : List ℕ)
@@ -86,10 +82,7 @@ repeats_joined pts part n xs ys a b = record {
 -- the repeats of more parts include those of fewer
 pub repeats_of_fewer : (pts : List Vector) (part : ℕ → Ids) (n k : ℕ) (ids : List ℕ) → n ≤ k → AreRepeats pts (PartsBelow part k) ids
     → AreRepeats pts (PartsBelow part n) ids
-repeats_of_fewer pts part n k ids h r = record { has = λ i s. r.has i (s.0, later s.0 s.1, s.2); only = r.only }
-  where
-    later : (v : ℕ) → v < n → v < k
-    later v l = omega (arith, l, h)
+repeats_of_fewer pts part n k ids h r = record { has = λ i s. r.has i (s.0, omega (arith, s.1, h), s.2); only = r.only }
 
 -- if each id lies in a part, they are all repeats
 pub repeats_of_parts : (pts : List Vector) (part : ℕ → Ids) (n : ℕ) (ids : List ℕ) → ((i : ℕ) → PartsBelow part n i)
@@ -101,10 +94,8 @@ unfolding place_hash
 place_hash_small p = omega arith
 
 part_small : (h n : ℕ) → h < NO_HASH → 0 < n → h * n / NO_HASH < n
-part_small h n l some = (div-lt_iff_lt-mul (omega arith)).1 (other_way (h * n) (mul-lt-mul_of_pos_right l some))
-  where
-    other_way : (q : ℕ) → q < NO_HASH * n → q < n * NO_HASH
-    other_way q g = omega (arith, g)
+part_small h n l some =
+    (div-lt_iff_lt-mul (omega arith)).1 (let below = mul-lt-mul_of_pos_right l some in omega (arith, below))
 
 -- the part of the hashes in which an id lies
 pub hash_part : (pts : List Vector) (n : ℕ) → 0 < n → (i : ℕ) → PartsBelow (λ k. WithHashes pts (PartHashes n k)) n i
@@ -128,11 +119,8 @@ mark_taken count ids marks k h m = record {
     here : k < length marks
     here = subst (λ v. k < v) (sym m.len) h
 
-    clash : true ≡ false → ⊥
-    clash e = cc
-
     by_decision : (i : ℕ) → get_or (set marks k false) i false ≡ true → In i ids ⊎ In i (k ∷ []) → Dec (i ≡ k) → ⊥
-    by_decision i e a (yes q) = clash (sym e ∙ ap (λ v. get_or (set marks k false) v false) q ∙ get_or-set_same marks k false false here)
+    by_decision i e a (yes q) = false≢true (sym (ap (λ v. get_or (set marks k false) v false) q ∙ get_or-set_same marks k false false here) ∙ e)
     by_decision i e (inl a) (no ne) = m.only i (sym (get_or-set_other marks k i false false ne) ∙ e) a
     by_decision i e (inr (inl q)) (no ne) = ne q
     by_decision i e (inr (inr a)) (no ne) = a
@@ -144,15 +132,7 @@ distinct_left pts ids marks r m = marked_distinct pts marks (λ i. (only i, has 
   where
     within : (i : ℕ) → get_or marks i false ≡ true → (i < length marks) ⊎ (length marks ≤ i) → i < length pts
     within i e (inl l) = subst (λ v. i < v) m.len l
-    within i e (inr g) = absurd (clash (sym e ∙ beyond marks i g))
-      where
-        clash : true ≡ false → ⊥
-        clash e = cc
-
-        beyond : (bs : List Bool) (i : ℕ) → length bs ≤ i → get_or bs i false ≡ false
-        beyond [] i g = refl
-        beyond (b ∷ bs) zero g = absurd (omega arith)
-        beyond (b ∷ bs) (suc i) g = beyond bs i (omega arith)
+    within i e (inr g) = absurd (false≢true (sym (get_or_past marks i false g) ∙ e))
 
     only : (i : ℕ) → get_or marks i false ≡ true → IsDistinctId pts i
     only i e = let lt = within i e (cases_lt i (length marks)) in (lt, λ j l q. m.only i e (r.has i tt (lt, j, l, q)))

@@ -1,7 +1,6 @@
 -- Keys that are related to the key before, found one by one.
 use Rattle.qh_model.proofs.Common.{◌≡◌, ℕ, ◌+◌, ◌-◌, ◌%◌, ◌<◌, ◌≤◌, ◌⊎◌, inl, inr, List, [], ◌∷◌, ◌++◌, length, get_or, arith, ap, subst, ◌∙◌, ℕ_discrete, In}
-use Rattle.qh_model.proofs.lists.Joined.{in_append, of_append}
-use Rattle.qh_plane.specs.steps.PlaceKeys.{AreRelatedIds}
+use Rattle.{qh_model.proofs.lists.Joined.in_append, qh_model.proofs.lists.Joined.of_append, qh_plane.specs.steps.PlaceKeys.AreRelatedIds}
 
 module _ (Related : ℕ → ℕ → Type 0) (room : ℕ) (keys : List ℕ) where
   abbrev key : ℕ → ℕ

@@ -1,11 +1,10 @@
 -- Points that are entered into slots, one after the other: the contents of the slots, and the distinct ids.
-use Rattle.qh_model.proofs.Common.{◌≡◌, ◌≢◌, ◌∙◌, ℕ, zero, suc, ◌+◌, ◌<◌, ◌≤◌, ◌⊎◌, inl, inr, List, [], ◌∷◌, ◌++◌, length, set, slice_index_or, arith, ap, sym}
-use Rattle.qh_model.proofs.Common.{subst, get_or-set_same, get_or-set_other, get_or_read, length-set, IsStrictlyIncreasing, ℕ_discrete, IsDistinctId}
-use Rattle.qh_model.proofs.Common.{AreDistinctIds, place, In, Vector, origin}
-use Rattle.qh_model.specs.declared.limits.TheConstants.{POINT_LIMIT}
-use Rattle.qh_model.proofs.lists.{Joined.in_append, Joined.of_append, Rising.rising_append}
-use Rattle.qh_plane.specs.{declared.close_points.CloseBox.CloseBox, steps.FirstIds.slot_at, steps.FirstIds.HasFirst, steps.FirstIds.HaveFirsts}
-use Rattle.qh_plane.specs.{declared.first_ids.TheConstants.NO_ID, steps.CloseBoxes.slot_of, steps.Repeats.IsRepeatedId}
+use Rattle.qh_model.proofs.Common.{◌≡◌, ◌≢◌, ◌∙◌, ℕ, zero, suc, ◌+◌, ◌<◌, ◌≤◌, ◌⊎◌, inl, inr, List, [], ◌∷◌, ◌++◌, length, set, slice_index_or, arith}
+use Rattle.qh_model.proofs.Common.{ap, sym, subst, get_or-set_same, get_or-set_other, get_or_read, length-set, IsStrictlyIncreasing, ℕ_discrete, IsDistinctId}
+use Rattle.qh_model.proofs.{Common.AreDistinctIds, Common.place, Common.In, Common.Vector, Common.origin, lists.Joined.in_append, lists.Joined.of_append}
+use Rattle.qh_model.{proofs.lists.Rising.rising_append, specs.declared.limits.TheConstants.POINT_LIMIT}
+use Rattle.qh_plane.specs.declared.{close_points.CloseBox.CloseBox, first_ids.TheConstants.NO_ID}
+use Rattle.qh_plane.specs.steps.{CloseBoxes.slot_of, FirstIds.slot_at, FirstIds.HasFirst, FirstIds.HaveFirsts, Repeats.IsRepeatedId}
 
 -- a point that was read is that of its id
 pub point_read : (pts : List Vector) (k : ℕ) (p : Vector) → k < length pts → p ≡ slice_index_or pts k p → p ≡ place pts k
@@ -31,7 +30,7 @@ module _ (pts : List Vector) (b : CloseBox) (slots : List ℕ) (k : ℕ) (ids : 
   module _ (within : k < length pts) (few : length pts ≤ POINT_LIMIT) where
     -- a point processed earlier has the same equal point
     more_seen : (p : Vector) → HasFirst pts b slots k p → HasFirst pts b slots (k + 1) p
-    more_seen p h = let l = h.seen in record { first = h.first; seen = omega (arith, l); is = h.is; same = h.same }
+    more_seen p h = record { first = h.first; seen = omega (arith, h.seen); is = h.is; same = h.same }
 
     -- an empty slot: one more distinct id
     module _ (room : slot_of b (place pts k) < length slots) (free : slot_at slots (slot_of b (place pts k)) ≡ NO_ID) where
@@ -43,7 +42,7 @@ module _ (pts : List Vector) (b : CloseBox) (slots : List ℕ) (k : ℕ) (ids : 
 
       other_slot : (j : ℕ) → j < k → slot_of b (place pts j) ≢ here
       other_slot j l e = let f = old.firsts j l in
-          id_is_none f.first (length pts) (let s = f.seen in omega (arith, s, within)) few (sym f.is ∙ ap (slot_at slots) e ∙ free)
+          id_is_none f.first (length pts) (omega (arith, f.seen, within)) few (sym f.is ∙ ap (slot_at slots) e ∙ free)
 
       -- so no earlier point is equal
       new_place : (j : ℕ) → j < k → place pts j ≢ place pts k
@@ -60,10 +59,10 @@ module _ (pts : List Vector) (b : CloseBox) (slots : List ℕ) (k : ℕ) (ids : 
             same = ap (place pts) (sym e);
           }
           by_decision (no ne) =
-              let below : j < k = omega (arith, l, ne) in let f = old.firsts j below in let s = f.seen in
+              let below : j < k = omega (arith, l, ne) in let f = old.firsts j below in
               record {
                 first = f.first;
-                seen = omega (arith, s);
+                seen = omega (arith, f.seen);
                 is = get_or-set_other slots here (slot_of b (place pts j)) k NO_ID (other_slot j below) ∙ f.is;
                 same = f.same;
               }
@@ -87,28 +86,27 @@ module _ (pts : List Vector) (b : CloseBox) (slots : List ℕ) (k : ℕ) (ids : 
               (old.held s (subst (λ (n : ℕ). s < n) (length-set slots here k) l))
 
       pub new_seen : HaveFirsts pts b after (k + 1) (ids ++ k ∷ [])
-      new_seen = record { firsts = firsts_after; held = held_after; rising = rises; members = λ i. (to i, from i) }
+      new_seen =
+          let to : (i : ℕ) → In i (ids ++ k ∷ []) → IsDistinctId pts i × (i < k + 1) = λ i m. one i (of_append ids (k ∷ []) i m) in
+          record { firsts = firsts_after; held = held_after; rising = rises; members = λ i. (to i, from i) }
         where
           one : (i : ℕ) → In i ids ⊎ In i (k ∷ []) → IsDistinctId pts i × (i < k + 1)
-          one i (inl m) = let h = (old.members i).0 m in let l = h.1 in (h.0, omega (arith, l))
+          one i (inl m) = let h = (old.members i).0 m in (h.0, omega (arith, h.1))
           one i (inr (inl e)) = subst (λ (n : ℕ). IsDistinctId pts n × (n < k + 1)) (sym e) ((within, new_place), omega arith)
           one i (inr (inr m)) = absurd m
-
-          to : (i : ℕ) → In i (ids ++ k ∷ []) → IsDistinctId pts i × (i < k + 1)
-          to i m = one i (of_append ids (k ∷ []) i m)
 
           from : (i : ℕ) → IsDistinctId pts i × (i < k + 1) → In i (ids ++ k ∷ [])
           from i h = by_decision (ℕ_discrete i k)
             where
               by_decision : Dec (i ≡ k) → In i (ids ++ k ∷ [])
               by_decision (yes e) = in_append ids (k ∷ []) i (inr (inl e))
-              by_decision (no ne) = let l = h.1 in in_append ids (k ∷ []) i (inl ((old.members i).1 (h.0, omega (arith, l, ne))))
+              by_decision (no ne) = in_append ids (k ∷ []) i (inl ((old.members i).1 (h.0, omega (arith, h.1, ne))))
 
           rises : IsStrictlyIncreasing (ids ++ k ∷ [])
           rises = rising_append ids (k ∷ []) old.rising (λ n l. absurd (omega (arith, l))) (λ x y m i. below x y m i)
             where
               below : (x y : ℕ) → In x ids → In y (k ∷ []) → x < y
-              below x y m (inl e) = let l = ((old.members x).0 m).1 in subst (λ (n : ℕ). x < n) (sym e) l
+              below x y m (inl e) = subst (λ (n : ℕ). x < n) (sym e) (((old.members x).0 m).1)
               below x y m (inr n) = absurd n
 
     -- a point that is equal to an earlier one: no more distinct id
@@ -129,14 +127,14 @@ module _ (pts : List Vector) (b : CloseBox) (slots : List ℕ) (k : ℕ) (ids : 
         later s (inr h) = inr (omega (arith, h))
 
         to : (j : ℕ) → In j ids → IsDistinctId pts j × (j < k + 1)
-        to j m = let h = (old.members j).0 m in let n = h.1 in (h.0, omega (arith, n))
+        to j m = let h = (old.members j).0 m in (h.0, omega (arith, h.1))
 
         from : (j : ℕ) → IsDistinctId pts j × (j < k + 1) → In j ids
         from j h = by_decision (ℕ_discrete j k)
           where
             by_decision : Dec (j ≡ k) → In j ids
             by_decision (yes q) = absurd ((subst (IsDistinctId pts) q h.0).1 i l e)
-            by_decision (no ne) = let n = h.1 in (old.members j).1 (h.0, omega (arith, n, ne))
+            by_decision (no ne) = (old.members j).1 (h.0, omega (arith, h.1, ne))
 
 -- points that are all equal to earlier ones: no more distinct id
 pub repeats_seen : (pts : List Vector) (b : CloseBox) (slots : List ℕ) (k m : ℕ) (ids : List ℕ) → HaveFirsts pts b slots k ids → length pts ≤ POINT_LIMIT
@@ -150,7 +148,4 @@ repeats_seen pts b slots k (suc m) ids old few each =
 -- after all points were processed, the ids are the distinct ones
 pub all_seen : (pts : List Vector) (b : CloseBox) (slots : List ℕ) (k : ℕ) (ids : List ℕ) → HaveFirsts pts b slots k ids → length pts ≤ k
     → AreDistinctIds pts ids
-all_seen pts b slots k ids h l = record { rising = h.rising; members = λ i. ((λ m. ((h.members i).0 m).0), (λ d. (h.members i).1 (d, below i d.0))) }
-  where
-    below : (i : ℕ) → i < length pts → i < k
-    below i m = omega (arith, m, l)
+all_seen pts b slots k ids h l = record { rising = h.rising; members = λ i. ((λ m. ((h.members i).0 m).0), (λ d. (h.members i).1 (d, omega (arith, d.0, l)))) }

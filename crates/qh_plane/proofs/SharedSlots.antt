@@ -36,8 +36,7 @@ module _ (pts : List Vector) (n slots s : ℕ) (is : s ≡ slot_in slots (hash_a
 
       by_decision : Dec (i ≡ n) → MarkedHashes (set taken s true) (hash_at pts i)
       by_decision (yes q) = ap (λ v. get_or (set taken s true) v false)
-          (ap (λ v. slot_in v (hash_at pts i)) same ∙ ap (λ v. slot_in slots (hash_at pts v)) q ∙ sym is)
-          ∙ get_or-set_same taken s true false here
+          (ap (λ v. slot_in v (hash_at pts i)) same ∙ ap (λ v. slot_in slots (hash_at pts v)) q ∙ sym is) ∙ get_or-set_same taken s true false here
       by_decision (no ne) = ap (λ v. get_or (set taken s true) (slot_in v (hash_at pts i)) false) (length-set taken s true)
           ∙ kept_mark taken s (slot_in (length taken) (hash_at pts i)) true here (λ e. refl) (t i (omega (arith, h, ne)))
 
@@ -61,14 +60,12 @@ module _ (pts : List Vector) (n slots s : ℕ) (is : s ≡ slot_in slots (hash_a
 
       by_decision : Dec (j ≡ n) → MarkedHashes (set shared s b) (hash_at pts i)
       by_decision (yes q) = ap (λ v. get_or (set shared s b) v false)
-          (ap (λ v. slot_in v (hash_at pts i)) same ∙ met ∙ ap (λ v. slot_in slots (hash_at pts v)) q ∙ sym is)
-          ∙ get_or-set_same shared s b false here
+          (ap (λ v. slot_in v (hash_at pts i)) same ∙ met ∙ ap (λ v. slot_in slots (hash_at pts v)) q ∙ sym is) ∙ get_or-set_same shared s b false here
           ∙ or_right (get_or shared s false) (get_or taken s false) before
         where
           before : get_or taken s false ≡ true
           before = ap (λ v. get_or taken v false)
-              (is ∙ sym (ap (λ v. slot_in slots (hash_at pts v)) q) ∙ sym met ∙ ap (λ v. slot_in v (hash_at pts i)) (sym tlen))
-              ∙ t i (omega (arith, l, q))
+              (is ∙ sym (ap (λ v. slot_in slots (hash_at pts v)) q) ∙ sym met ∙ ap (λ v. slot_in v (hash_at pts i)) (sym tlen)) ∙ t i (omega (arith, l, q))
       by_decision (no ne) = ap (λ v. get_or (set shared s b) (slot_in v (hash_at pts i)) false) (length-set shared s b)
           ∙ kept_mark shared s (slot_in (length shared) (hash_at pts i)) b here (λ w. or_left (get_or shared s false) (get_or taken s false) w)
           (a i j l (omega (arith, h, ne)) (subst (λ v. slot_in v (hash_at pts i) ≡ slot_in v (hash_at pts j)) (sym slen) met))

@@ -1,8 +1,7 @@
 -- Numbers that rise from each to the next, or fall, do not repeat.
 use Rattle.qh_model.proofs.Common.{◌≡◌, ℕ, zero, suc, ◌+◌, ◌-◌, ◌<◌, ◌≤◌, ◌⊎◌, inl, inr, List, length, arith, ap, subst, add-one, slice_index_or, cases_lt}
-use Rattle.qh_model.proofs.Common.{place, Vector}
-use Rattle.qh_plane.proofs.SeenPlaces.{point_read}
-use Rattle.qh_plane.specs.steps.{HashedKeys.place_number, SortedPoints.NumbersRise, SortedPoints.NumbersFall, SortedPoints.AllDiffer}
+use Rattle.{qh_model.proofs.Common.place, qh_model.proofs.Common.Vector, qh_plane.proofs.SeenPlaces.point_read, qh_plane.specs.steps.HashedKeys.place_number}
+use Rattle.qh_plane.specs.steps.SortedPoints.{NumbersRise, NumbersFall, AllDiffer}
 
 -- a transitive relation of neighbours holds between each element and any later one
 along : (R : ℕ → ℕ → Type 0) (f : ℕ → ℕ) (n : ℕ) → ((a b c : ℕ) → R a b → R b c → R a c) → ((j : ℕ) → j + 1 < n → R (f j) (f (j + 1)))

@@ -1,24 +1,15 @@
 -- The words that arrive from the first byte on are those of the text.
-use Rattle.qh_model.proofs.Common.{◌≡◌, ◌∙◌, [], ◌∷◌, ◌+◌, ◌==◌, ◌++◌, ℕ, List, Bool, true, false, cond, refl, ap, sym, arith, append_assoc, map, nat_tests}
-use Rattle.qh_model.proofs.Common.{map-append, ℤ, pos, Option, Some, None, option_map, nat_le, number_of, Word, is_blank}
-use Rattle.qh_model.specs.declared.{form.Form.TheVariants.Off, limits.TheConstants.COORDINATE_LIMIT}
-use Rattle.qh_read.specs.{contract.Numerals.small_number, contract.Numerals.numeral_of, contract.Numerals.numerals_in, declared.token.Token.TheVariants.Empty}
-use Rattle.qh_read.specs.{contract.Tokens.cap, declared.token.Token.Token}
-use Rattle.qh_read.specs.{declared.numerals.Numeral.Numeral, steps.Arriving.told_if, steps.Arriving.grown_on, steps.Arriving.arriving, steps.SmallTokens.capped}
-use Rattle.qh_read.proofs.{HoldingLaws.grown_more, OffLexingLaws.off_words-lexed}
-use Rattle.qh_read.proofs.{Lexing.Lexed, Lexing.start, Lexing.ended, Lexing.closed, Lexing.next, Lexing.lexed, TokenLaws.grown_by, TokenLaws.value-number}
+use Rattle.qh_model.proofs.Common.{◌≡◌, ◌∙◌, [], ◌∷◌, ◌+◌, ◌==◌, ◌++◌, ℕ, List, Bool, true, false, cond, refl}
+use Rattle.qh_model.proofs.Common.{ap, sym, arith, append_assoc, map, nat_tests, map-append, ℤ, pos, Option, Some, None, option_map, number_of, Word, is_blank}
+use Rattle.{qh_model.specs.declared.form.Form.TheVariants.Off, qh_read.proofs.HoldingLaws.grown_more, qh_read.proofs.Lexing.Lexed, qh_read.proofs.Lexing.start}
+use Rattle.qh_read.proofs.{Lexing.ended, Lexing.closed, Lexing.next, Lexing.lexed, OffLexingLaws.off_words-lexed, TokenLaws.grown_by, TokenLaws.value-number}
+use Rattle.qh_read.specs.contract.Numerals.{small_number, numeral_of, numerals_in}
+use Rattle.qh_read.specs.declared.{numerals.Numeral.Numeral, token.Token.Token, token.Token.TheVariants.Empty}
+use Rattle.qh_read.specs.steps.{Arriving.told_if, Arriving.grown_on, Arriving.arriving, SmallTokens.capped}
 
 -- a small number is distinguished from all others
 small-capped : (o : Option ℤ) → small_number (option_map capped o) ≡ small_number o
-small-capped (Some (pos n)) = at (nat_le n COORDINATE_LIMIT) refl
-  where
-    at : (b : Bool) → nat_le n COORDINATE_LIMIT ≡ b → small_number (Some (pos (cap n))) ≡ cond b (Some n) None
-    at true e =
-        let same : cap n ≡ n = grind (arith, nat_tests) in
-        ap (λ k. small_number (Some (pos k))) same ∙ ap (λ (b : Bool). cond b (Some n) None) e
-    at false e =
-        let more : nat_le (cap n) COORDINATE_LIMIT ≡ false = grind (arith, nat_tests) in
-        ap (λ (b : Bool). cond b (Some (cap n)) None) more
+small-capped (Some (pos n)) = grind (arith, nat_tests)
 small-capped o = refl
 
 -- the token of an unfinished word

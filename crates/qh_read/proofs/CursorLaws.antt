@@ -11,8 +11,7 @@ use Rattle.qh_read.specs.steps.{Cursors.ahead, Cursors.held_from, Cursors.IsPart
 pub step : (h k : Held) (bytes : List ℕ) (i j : ℕ) → i < length bytes → j ≡ i + 1 → next_held h (get_or bytes i 0) ≡ k
     → held_by h (drop i bytes) ≡ held_by k (drop j bytes)
 step h k bytes i j within e next =
-    ap (held_by h) (drop_more bytes i 0 within) ∙ ap (λ (s : Held). held_by s (drop (i + 1) bytes)) next
-    ∙ ap (λ (n : ℕ). held_by k (drop n bytes)) (sym e)
+    ap (held_by h) (drop_more bytes i 0 within) ∙ ap (λ (s : Held). held_by s (drop (i + 1) bytes)) next ∙ ap (λ (n : ℕ). held_by k (drop n bytes)) (sym e)
 
 -- separators after the points
 pub points-parted : (line : ℕ) (bytes : List ℕ) (points : List Vector) (mid to : Cursor) → ArePoints line bytes points mid.line (ahead mid)
@@ -30,9 +29,7 @@ points-more line bytes points mid p to many one a b c form trailing left t base 
     let told = one.held form (wants trailing (suc (suc (suc left))) u) base in
     let all : u ++ p.x ∷ p.y ∷ p.z ∷ [] ≡ t ++ coordinates (points ++ p ∷ []) =
     append_assoc t (coordinates points) (p.x ∷ p.y ∷ p.z ∷ []) ∙ ap (λ (v : List ℤ). t ++ v) (sym (coordinates-append points (p ∷ []))) in
-    ap (λ (n : ℕ). held_by (quiet form (wants trailing n t) (base + line) Empty) bytes) count
-    ∙ many form trailing (suc (suc (suc left))) t base
-    ∙ told.3
+    ap (λ (n : ℕ). held_by (quiet form (wants trailing n t) (base + line) Empty) bytes) count ∙ many form trailing (suc (suc (suc left))) t base ∙ told.3
     ∙ ap (λ (s : Progress). held_by (quiet form s (base + to.line) Empty) (ahead to))
     (three trailing left u p.x p.y p.z told.0 told.1 told.2 a b c ∙ ap (wants trailing left) all)
 
@@ -52,6 +49,5 @@ pub shown-pushed : (form : Form) (trailing : Trailing) (left : ℕ) (old new : L
     ≡ held_from form (wants trailing (left - 3 * length h.more) (coordinates new)) base to
 shown-pushed form trailing left old new from to base h k =
     let then : ℕ = left - 3 * length h.more in
-    ap (λ (n : ℕ). held_from form (wants trailing n (coordinates old)) base from) (omega arith)
-    ∙ h.told form trailing then (coordinates old) base
+    ap (λ (n : ℕ). held_from form (wants trailing n (coordinates old)) base from) (omega arith) ∙ h.told form trailing then (coordinates old) base
     ∙ ap (λ (t : List ℤ). held_from form (wants trailing then t) base to) (sym (ap coordinates h.items ∙ coordinates-append old h.more))

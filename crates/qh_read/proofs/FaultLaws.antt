@@ -1,17 +1,17 @@
 -- The first fault of the words is the one that a reader finds.
-use Rattle.qh_model.proofs.Common.{◌≡◌, ◌∙◌, ◌++◌, [], ◌∷◌, ◌*◌, ◌≤◌, ◌&&◌, ℕ, List, Bool, true, false, cond, refl, ap, sym, arith, zero, suc, length, nat_lt}
-use Rattle.qh_model.proofs.Common.{nat_tests, option_or, ℤ, pos, negsuc, Option, Some, None, option_map, nat_le, is_three, counted_fault, next_number_fault}
-use Rattle.qh_model.proofs.Common.{IsFirstFault, is_coordinate, number_of, off_words, Word, data_words}
-use Rattle.qh_model.specs.declared.read_fault.ReadFault.TheVariants as faults
+use Rattle.qh_model.proofs.Common.{◌≡◌, ◌∙◌, ◌++◌, [], ◌∷◌, ◌*◌, ◌≤◌, ◌&&◌, ℕ, List, Bool, true, false}
+use Rattle.qh_model.proofs.Common.{cond, refl, ap, sym, arith, zero, suc, length, nat_lt, nat_tests, option_or, ℤ, pos, negsuc, Option, Some, None, option_map}
+use Rattle.qh_model.proofs.Common.{nat_le, is_three, counted_fault, next_number_fault, IsFirstFault, is_coordinate, number_of, off_words, Word, data_words}
 use Rattle.qh_model.specs.declared.form.Form.{Form, TheVariants.Qhull, TheVariants.Off}
 use Rattle.qh_model.specs.declared.{limits.TheConstants.POINT_LIMIT, limits.TheConstants.BYTE_LIMIT, read_fault.ReadFault.ReadFault}
 use Rattle.qh_model.specs.headline.FileFault.{coordinate_fault, coordinates_fault, number_fault, long_fault, headed_fault, words_fault}
 use Rattle.qh_model.specs.headline.OffFault.{counts_fault, off_words_fault}
-use Rattle.qh_read.specs.contract.Progress.{Progress, wants_first, wants_second, wants, wants_keyword, wants_vertex_count, wants_face_count, wants_edge_count}
-use Rattle.qh_read.specs.contract.Progress.{started, fails, counted, headed, after, after_number}
+use Rattle.qh_read.specs.contract.Progress.{Progress, wants_first, wants_second, wants, wants_keyword}
+use Rattle.qh_read.specs.contract.Progress.{wants_vertex_count, wants_face_count, wants_edge_count, started, fails, counted, headed, after, after_number}
 use Rattle.qh_read.specs.declared.builder.Trailing.{Trailing, TheVariants.Refused, TheVariants.Ignored}
-use Rattle.qh_read.specs.{contract.Tokens.cap, steps.Building.lack, steps.SmallTokens.capped}
-use Rattle.qh_read.proofs.{Lexing.words_in, ProgressLaws.dropped, ProgressLaws.stays, ProgressLaws.judged, ProgressLaws.is_off, ProgressLaws.number_in}
+use Rattle.qh_read.{specs.contract.Tokens.cap, specs.steps.Building.lack, specs.steps.SmallTokens.capped, proofs.Lexing.words_in}
+use Rattle.qh_read.proofs.ProgressLaws.{dropped, stays, judged, is_off, number_in}
+use Rattle.qh_model.specs.declared.read_fault.ReadFault.TheVariants as faults
 
 fallen : (f : ReadFault) (ws : List Word) → lack (judged (fails f) ws) ≡ Some f
 fallen f ws = ap lack (stays f ws)
@@ -111,8 +111,7 @@ off_lacks (w ∷ ws) = elim (is_off w) as (λ b. lack (judged (after wants_keywo
 
 -- bytes within the limit have the fault of their words
 within : (bs : List ℕ) (fault : Option ReadFault) → length bs ≤ BYTE_LIMIT → cond (nat_lt BYTE_LIMIT (length bs)) (Some faults.Big) fault ≡ fault
-within bs fault small = let e : nat_lt BYTE_LIMIT (length bs) ≡ false = grind (arith, nat_tests) in
-    ap (λ (b : Bool). cond b (Some faults.Big) fault) e
+within bs fault small = let e : nat_lt BYTE_LIMIT (length bs) ≡ false = grind (arith, nat_tests) in rw e refl
 
 -- the fault for missing words is the first fault
 pub found : (form : Form) (bs : List ℕ) (e : ReadFault) → length bs ≤ BYTE_LIMIT → lack (judged (started form) (words_in form bs)) ≡ Some e

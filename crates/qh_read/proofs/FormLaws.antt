@@ -1,13 +1,12 @@
 -- A completely read file is the file of its points.
-use Rattle.qh_model.proofs.Common.{◌≡◌, ◌∙◌, ◌++◌, [], ◌∷◌, ◌≤◌, ℕ, List, true, false, refl, ap, sym, arith, length, subst, cond, same_text, AllByRecursion, ℤ}
-use Rattle.qh_model.proofs.Common.{codes, pos, Some, off_words, ReadsOff, ReadsIn, IsCoordinate, number_of, coordinates, Vector, Word}
-use Rattle.qh_model.specs.declared.read_fault.ReadFault.TheVariants as faults
+use Rattle.qh_model.proofs.Common.{◌≡◌, ◌∙◌, ◌++◌, [], ◌∷◌, ◌≤◌, ℕ, List, true, false, refl, ap, sym, arith, length, subst, cond, same_text}
+use Rattle.qh_model.proofs.Common.{AllByRecursion, ℤ, codes, pos, Some, off_words, ReadsOff, ReadsIn, IsCoordinate, number_of, coordinates, Vector, Word}
 use Rattle.qh_model.specs.declared.{form.Form.Form, form.Form.TheVariants.Qhull, form.Form.TheVariants.Off, limits.TheConstants.BYTE_LIMIT}
 use Rattle.qh_read.specs.contract.Progress.{wants_keyword, wants_vertex_count, wants_face_count, wants_edge_count, started, counted, fails}
-use Rattle.qh_read.specs.{declared.builder.Pending.Pending, declared.builder.Trailing.TheVariants.Ignored, steps.Building.filled_in, steps.Stages.pending_list}
-use Rattle.qh_read.specs.steps.SmallTokens.{capped}
-use Rattle.qh_read.proofs.Lexing.{words_in}
+use Rattle.qh_read.specs.declared.builder.{Pending.Pending, Trailing.TheVariants.Ignored}
+use Rattle.qh_read.{specs.steps.Building.filled_in, specs.steps.Stages.pending_list, specs.steps.SmallTokens.capped, proofs.Lexing.words_in}
 use Rattle.qh_read.proofs.ProgressLaws.{counts, is_off, judged, none_left, numbered, reads_points, stays}
+use Rattle.qh_model.specs.declared.read_fault.ReadFault.TheVariants as faults
 
 -- if everything that the counts announce was read, the points are those of the OFF file
 reads_off : (bs : List ℕ) (ps : List Vector) (q : Pending) → length bs ≤ BYTE_LIMIT → (u : List ℤ) → coordinates ps ++ pending_list q ≡ u

@@ -1,14 +1,13 @@
 -- The state of a reader is determined by the words of its bytes.
-use Rattle.qh_model.proofs.Common.{◌≡◌, ◌∙◌, ◌++◌, [], ◌∷◌, ◌+◌, ◌-◌, ◌*◌, ◌==◌, ◌||◌, ℕ, List, Bool, true, false, cond, refl, ap, sym, arith, nat_tests}
-use Rattle.qh_model.proofs.Common.{append-nil, is_ascii_digit, ℤ, Option, codes, bytes_eq, Word, is_blank, is_data}
+use Rattle.qh_model.proofs.Common.{◌≡◌, ◌∙◌, ◌++◌, [], ◌∷◌, ◌+◌, ◌-◌, ◌*◌, ◌==◌, ℕ, List, Bool, true, false}
+use Rattle.qh_model.proofs.Common.{cond, refl, ap, sym, arith, nat_tests, append-nil, is_ascii_digit, ℤ, Option, codes, bytes_eq, Word, is_blank, is_data}
 use Rattle.qh_model.specs.declared.form.Form.{Form, TheVariants.Qhull, TheVariants.Off}
 use Rattle.qh_read.proofs.Lexing.{Lexed, start, ended, closed, begun, marked, next, lexed, words_in}
-use Rattle.qh_read.proofs.{LexingLaws.in_cond, LexingLaws.push_cond, LexingLaws.data_words-lexed, ProgressLaws.judged, ProgressLaws.judged-append}
-use Rattle.qh_read.proofs.{OffLexingLaws.off_words-lexed, TokenLaws.grown_by, TokenLaws.value-number, TokenLaws.keyword-off}
+use Rattle.qh_read.proofs.{LexingLaws.in_cond, LexingLaws.push_cond, LexingLaws.data_words-lexed, ProgressLaws.judged}
+use Rattle.qh_read.proofs.{ProgressLaws.judged-append, OffLexingLaws.off_words-lexed, TokenLaws.grown_by, TokenLaws.value-number, TokenLaws.keyword-off}
 use Rattle.qh_read.specs.contract.Holding.{Held, held_at_start, word_ended, held_begun, held_marked, ended_held, next_held, held_by}
-use Rattle.qh_read.specs.contract.Progress.{Progress, started, after}
-use Rattle.qh_read.specs.{contract.Tokens.cap, contract.Tokens.grown, contract.Tokens.value_of, contract.Tokens.is_keyword, declared.token.Token.Token}
-use Rattle.qh_read.specs.declared.token.Token.TheVariants.{Empty, Sign, Digits, Keyword, Other}
+use Rattle.qh_read.specs.contract.{Progress.Progress, Progress.started, Progress.after, Tokens.cap, Tokens.grown, Tokens.value_of, Tokens.is_keyword}
+use Rattle.qh_read.specs.declared.token.Token.{Token, TheVariants.Empty, TheVariants.Sign, TheVariants.Digits, TheVariants.Keyword, TheVariants.Other}
 
 -- the state after bytes that are split into words
 abbrev pub held_of : Form → Lexed → Held
@@ -48,8 +47,7 @@ begun_solid h t c s = refl
 word_ends : (p : Progress) (ws : List Word) (n : ℕ) (w : List ℕ) → judged p (ws ++ ended n w) ≡ word_ended (judged p ws) (grown_by Empty w) n
 word_ends p ws n [] = ap (judged p) (append-nil ws)
 word_ends p ws n (c ∷ w) =
-    judged-append p ws (ended n (c ∷ w))
-    ∙ ap (λ (o : Option ℤ). after (judged p ws) (bytes_eq (c ∷ w) (codes "OFF")) o n) (sym (value-number (c ∷ w)))
+    judged-append p ws (ended n (c ∷ w)) ∙ ap (λ (o : Option ℤ). after (judged p ws) (bytes_eq (c ∷ w) (codes "OFF")) o n) (sym (value-number (c ∷ w)))
     ∙ ap (λ (b : Bool). after (judged p ws) b (value_of (grown_by Empty (c ∷ w))) n) (sym (keyword-off (c ∷ w)))
     ∙ sym (ended_solid (judged p ws) (grown_by Empty (c ∷ w)) n (solid_by w (grown Empty c) (solid_grown Empty c)))
 
@@ -62,19 +60,17 @@ begins : (ws : List Word) (n : ℕ) (b : Bool) (w : List ℕ) (c : ℕ) → let 
 begins ws n b [] c = push_cond (held_of Qhull) (is_data (c ∷ [])) _ _ _ _ (λ e. refl) (λ e. refl)
 begins ws n b (a ∷ w) c =
     let s : Lexed = record { words = ws; line = n; comment = b; under_way = a ∷ w } in
-    ap (λ (t : Token). record (held_of Qhull s) { token = t }) (grown_more (a ∷ w) Empty c)
-    ∙ sym (begun_solid (held_of Qhull s) (grown_by Empty (a ∷ w)) c (solid_by w (grown Empty a) (solid_grown Empty a)))
+    rw (grown_more (a ∷ w) Empty c) (sym (begun_solid (held_of Qhull s) (grown_by Empty (a ∷ w)) c (solid_by w (grown Empty a) (solid_grown Empty a))))
 
 -- a digit continues a word, or begins one
 digit_begun : (h : Held) (t : Token) (c : ℕ) → is_ascii_digit c ≡ true → held_begun h t c ≡ record h { token = grown t c }
-digit_begun h Empty c e = ap (λ (b : Bool). cond (b || c == 43 || c == 45 || c == 46) (record h { token = grown Empty c }) (record h { comment = true })) e
+digit_begun h Empty c e = rw e refl
 digit_begun h t c e = refl
 
 digit_marked : (form : Form) (h : Held) (c : ℕ) → is_ascii_digit c ≡ true → held_marked form h c ≡ record h { token = grown h.token c }
 digit_marked Qhull h c e = digit_begun h h.token c e
 digit_marked Off h c e =
-    let plain : (c == 35) ≡ false = grind (arith, nat_tests) in
-    ap (λ (b : Bool). cond b (record (ended_held h) { comment = true }) (record h { token = grown h.token c })) plain
+    let plain : (c == 35) ≡ false = grind (arith, nat_tests) in rw plain refl
 
 -- treating a digit separately makes no difference
 told_digit : (form : Form) (h : Held) (c : ℕ) (b : Bool) → is_ascii_digit c ≡ b
@@ -86,18 +82,14 @@ marks : (form : Form) (s : Lexed) (c : ℕ) → held_of form (marked form s c) �
 marks Qhull s c = begins s.words s.line s.comment s.under_way c
 marks Off s c =
     push_cond (held_of Off) (c == 35) _ _ _ _
-    (λ e. ap (λ (p : Progress). record { form = Off; progress = p; token = Empty; comment = true; line = s.line })
-    (word_ends (started Off) s.words s.line s.under_way))
-    (λ e. ap (λ (t : Token). record (held_of Off s) { token = t }) (grown_more s.under_way Empty c))
+    (λ e. rw (word_ends (started Off) s.words s.line s.under_way) refl) (λ e. rw (grown_more s.under_way Empty c) refl)
 
 steps : (form : Form) (s : Lexed) (c : ℕ) → held_of form (next form s c) ≡ next_held (held_of form s) c
 steps form s c =
     push_cond (held_of form) (c == 10) _ _ _ _
-    (λ e. ap (λ (p : Progress). record { form = form; progress = p; token = Empty; comment = false; line = s.line + 1 })
-    (word_ends (started form) s.words s.line s.under_way)) (λ e. push_cond (held_of form) s.comment _ _ _ _ (λ f. refl)
-    (λ f. push_cond (held_of form) (is_blank c) _ _ _ _
-    (λ g. ap (λ (p : Progress). record { form = form; progress = p; token = Empty; comment = s.comment; line = s.line })
-    (word_ends (started form) s.words s.line s.under_way)) (λ g. marks form s c ∙ told_digit form (held_of form s) c (is_ascii_digit c) refl)))
+    (λ e. rw (word_ends (started form) s.words s.line s.under_way) refl) (λ e. push_cond (held_of form) s.comment _ _ _ _ (λ f. refl)
+    (λ f. push_cond (held_of form) (is_blank c) _ _ _ _ (λ g. rw (word_ends (started form) s.words s.line s.under_way) refl)
+    (λ g. marks form s c ∙ told_digit form (held_of form s) c (is_ascii_digit c) refl)))
 
 runs : (form : Form) (bs : List ℕ) (s : Lexed) → held_of form (lexed form s bs) ≡ held_by (held_of form s) bs
 runs form [] s = refl
@@ -110,8 +102,7 @@ words-lexed Off bs = off_words-lexed bs
 pub progress-words : (form : Form) (bs : List ℕ) → (ended_held (held_by (held_at_start form) bs)).progress ≡ judged (started form) (words_in form bs)
 progress-words form bs =
     let s = lexed form start bs in
-    ap (λ (h : Held). (ended_held h).progress) (sym (runs form bs start))
-    ∙ sym (word_ends (started form) s.words s.line s.under_way)
+    ap (λ (h : Held). (ended_held h).progress) (sym (runs form bs start)) ∙ sym (word_ends (started form) s.words s.line s.under_way)
     ∙ ap (judged (started form)) (words-lexed form bs)
 
 pub held_by-append : (h : Held) (xs bs : List ℕ) → held_by h (xs ++ bs) ≡ held_by (held_by h xs) bs

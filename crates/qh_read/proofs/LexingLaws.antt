@@ -1,8 +1,7 @@
 -- The words of bytes that are read one at a time are the data words of the whole text.
 use Rattle.std.proofs.Common.{◌≡◌, ◌∙◌, ◌++◌, [], ◌∷◌, ◌+◌, ◌==◌, ℕ, ◌<◌, length, List, Bool, true, false, cond, refl, ap, sym, subst, arith, filter}
 use Rattle.std.proofs.{Common.append_assoc, lemmas.List.append-nil, lemmas.List.Splits.slice_split-cons_no, lemmas.List.Splits.length-slice_split}
-use Rattle.std.specs.List.{slice_split, onto_first}
-use Rattle.qh_model.specs.declared.form.Form.{Form, TheVariants.Qhull}
+use Rattle.{std.specs.List.slice_split, std.specs.List.onto_first, qh_model.specs.declared.form.Form.Form, qh_model.specs.declared.form.Form.TheVariants.Qhull}
 use Rattle.qh_model.specs.headline.Words.{Word, is_blank, is_data, lines_of, words_of, before_comment, on_line, words_from, data_words, is_word}
 use Rattle.qh_model.proofs.texts.Lines.{Clear, split_clear, split_whole}
 use Rattle.qh_read.proofs.Lexing.{Lexed, start, ended, closed, marked, next, lexed}

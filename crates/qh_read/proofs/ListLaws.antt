@@ -57,8 +57,7 @@ counted : (ns : List Word) (points : List Vector) (faces edges : ℤ)
 counted ns points faces edges e =
     let same : length ns ≡ length (pos (length points) ∷ faces ∷ edges ∷ coordinates points) =
     sym (length-map ns (λ (w : Word). number_of w.text)) ∙ ap length e ∙ length-map (pos (length points) ∷ faces ∷ edges ∷ coordinates points) Some in
-    let third = thrice points in
-    omega (arith, same, third)
+    omega (arith, same, thrice points)
 
 pub off-list : (bytes : List ℕ) (points : List Vector) (k : ℕ) → ReadsIn forms.Off bytes points → k ≡ 3 * length points + 1
     → IsOffList bytes points (behind k (drop 2 (numerals_in bytes)))

@@ -14,8 +14,7 @@ pub three : (trailing : Trailing) (left : ℕ) (t : List ℤ) (x y z : ℤ) (i j
     ≡ wants trailing left (t ++ x ∷ y ∷ z ∷ [])
 three trailing left t x y z i j k p q r =
     ap (λ (s : Progress). after (after s false (Some y) j) false (Some z) k) (takes trailing (suc (suc left)) t x i p)
-    ∙ ap (λ (s : Progress). after s false (Some z) k) (takes trailing (suc left) (t ++ x ∷ []) y j q)
-    ∙ takes trailing left ((t ++ x ∷ []) ++ y ∷ []) z k r
+    ∙ ap (λ (s : Progress). after s false (Some z) k) (takes trailing (suc left) (t ++ x ∷ []) y j q) ∙ takes trailing left ((t ++ x ∷ []) ++ y ∷ []) z k r
     ∙ ap (wants trailing left) (ap (λ (u : List ℤ). u ++ z ∷ []) (append_assoc t (x ∷ []) (y ∷ [])) ∙ append_assoc t (x ∷ y ∷ []) (z ∷ []))
 
 pub coordinates-append : (ps qs : List Vector) → coordinates (ps ++ qs) ≡ coordinates ps ++ coordinates qs

@@ -1,8 +1,7 @@
 -- The words of the bytes of an OFF file that are read one at a time are the words of the whole text.
-use Rattle.qh_model.proofs.Common.{◌≡◌, ◌∙◌, ◌++◌, [], ◌∷◌, ◌+◌, ◌==◌, ℕ, List, Bool, true, false, cond, refl, ap, sym, append_assoc, arith, filter, nat_tests}
-use Rattle.qh_model.proofs.Common.{append-nil, slice_split, before_hash, off_words, Word, is_blank, words_of, words_from, on_line, is_word}
-use Rattle.qh_model.proofs.texts.Lines.{Clear, split_clear, split_whole}
-use Rattle.qh_model.specs.declared.form.Form.TheVariants.{Off}
+use Rattle.qh_model.proofs.Common.{◌≡◌, ◌∙◌, ◌++◌, [], ◌∷◌, ◌+◌, ◌==◌, ℕ, List, Bool, true, false, cond, refl, ap, sym, append_assoc, arith}
+use Rattle.qh_model.proofs.Common.{filter, nat_tests, append-nil, slice_split, before_hash, off_words, Word, is_blank, words_of, words_from, on_line, is_word}
+use Rattle.qh_model.{proofs.texts.Lines.Clear, proofs.texts.Lines.split_clear, proofs.texts.Lines.split_whole, specs.declared.form.Form.TheVariants.Off}
 use Rattle.qh_read.proofs.Lexing.{Lexed, start, ended, closed, marked, lexed}
 use Rattle.qh_read.proofs.LexingLaws.{Good, Valid, clear_append, in_cond, lexed_whole}
 

@@ -2,15 +2,14 @@
 use Rattle.qh_model.proofs.Common.{◌≡◌, ◌≢◌, ◌∙◌, ◌++◌, [], ◌∷◌, ◌*◌, ◌≤◌, ◌&&◌, ℕ, List, Bool, true, false, cond, refl, ap, sym, arith, zero, suc, min, length}
 use Rattle.qh_model.proofs.Common.{map, inl, inr, append_assoc, subst, length-append, leb-true, nat_tests, append-nil, AllByRecursion, ℤ, codes, pos, negsuc}
 use Rattle.qh_model.proofs.Common.{Option, Some, None, option_map, nat_le, bytes_eq, is_three, IsCoordinate, is_coordinate, number_of, Reads, coordinates}
-use Rattle.qh_model.proofs.Common.{Vector, Word, data_words}
-use Rattle.qh_model.specs.declared.read_fault.ReadFault.TheVariants as faults
-use Rattle.qh_read.specs.declared.builder.Pending.TheVariants as pendings
-use Rattle.qh_model.proofs.ReadingLaws.{numbers, thrice}
+use Rattle.qh_model.proofs.{Common.Vector, Common.Word, Common.data_words, ReadingLaws.numbers, ReadingLaws.thrice}
 use Rattle.qh_model.specs.declared.limits.TheConstants.{BYTE_LIMIT, COORDINATE_LIMIT, POINT_LIMIT}
 use Rattle.qh_model.specs.{declared.read_fault.ReadFault.ReadFault, headline.PointFile.IsHeader}
 use Rattle.qh_read.specs.contract.Progress.{Progress, wants_first, wants_second, wants, fails, counted, headed, took, after, after_number}
 use Rattle.qh_read.specs.{declared.builder.Pending.Pending, contract.Tokens.cap, steps.Building.filled_in, steps.SmallTokens.capped, steps.Stages.pending_list}
 use Rattle.qh_read.specs.declared.builder.Trailing.{Trailing, TheVariants.Refused, TheVariants.Ignored}
+use Rattle.qh_model.specs.declared.read_fault.ReadFault.TheVariants as faults
+use Rattle.qh_read.specs.declared.builder.Pending.TheVariants as pendings
 
 -- the number of a word, capped
 abbrev pub number_in : Word → Option ℤ
@@ -165,9 +164,7 @@ numbered p next none asks (w ∷ ws) u h =
 -- whole points alone have three coordinates each
 pub none_left : (ps : List Vector) (q : Pending) (k : ℕ) → length (coordinates ps ++ pending_list q) ≡ 3 * k
     → (coordinates ps ++ pending_list q ≡ coordinates ps) × (length ps ≡ k)
-none_left ps pendings.Zero k h =
-    let none = append-nil (coordinates ps) in
-    (none, omega (arith, thrice ps, length-append (coordinates ps) []))
+none_left ps pendings.Zero k h = (append-nil (coordinates ps), omega (arith, thrice ps, length-append (coordinates ps) []))
 none_left ps (pendings.One x) k h = absurd (omega (arith, thrice ps, length-append (coordinates ps) (x.value ∷ [])))
 none_left ps (pendings.Two x y) k h = absurd (omega (arith, thrice ps, length-append (coordinates ps) (x.value ∷ y.value ∷ [])))
 

@@ -1,10 +1,9 @@
 -- The bytes that are read from a source by several reads.
-use Rattle.qh_model.proofs.Common.{◌≡◌, ◌∙◌, ◌++◌, ◌+◌, ℕ, List, [], ap, sym, subst, arith, length, length-append, append_assoc, Option, Some, None, Result, Ok}
-use Rattle.qh_model.proofs.Common.{Err, Vec, IfOk, IfErr, Consumes, ReadsIn, IsFirstFault, Vector}
-use Rattle.std.specs.declared.alloc.Global.{Global}
-use Rattle.qh_model.specs.declared.{form.Form.Form, read_fault.ReadFault.ReadFault}
-use Rattle.qh_read.specs.{contract.Answers.AnswersSource, contract.ReadFaults.IsTextFault, steps.Sources.FedOn, steps.Sources.Stops}
-use Rattle.qh_read.specs.{contract.Holding.Reading, contract.Holding.Fed, headline.SourceBytes.Gives, headline.SourceBytes.GivesAll}
+use Rattle.qh_model.proofs.Common.{◌≡◌, ◌∙◌, ◌++◌, ◌+◌, ℕ, List, [], ap, sym, subst, arith, length}
+use Rattle.qh_model.proofs.Common.{length-append, append_assoc, Option, Some, None, Result, Ok, Err, Vec, IfOk, IfErr, Consumes, ReadsIn, IsFirstFault, Vector}
+use Rattle.{std.specs.declared.alloc.Global.Global, qh_model.specs.declared.form.Form.Form, qh_model.specs.declared.read_fault.ReadFault.ReadFault}
+use Rattle.qh_read.specs.{contract.Answers.AnswersSource, contract.ReadFaults.IsTextFault, steps.Sources.FedOn}
+use Rattle.qh_read.specs.{steps.Sources.Stops, contract.Holding.Reading, contract.Holding.Fed, headline.SourceBytes.Gives, headline.SourceBytes.GivesAll}
 
 -- the bytes of two reads, one after the other
 pub Consumes-append : (old mid new : Option (List ℕ)) (xs ys : List ℕ) → Consumes old mid xs → Consumes mid new ys → Consumes old new (xs ++ ys)
@@ -21,11 +20,6 @@ FedOn-append a b d old mid new f g = record {
   fed = λ form bytes h. subst (Fed form d) (append_assoc bytes f.given g.given) (g.fed form (bytes ++ f.given) (f.fed form bytes h));
   count = omega (arith, f.count, g.count, length-append f.given g.given);
 }
-
--- the reason why reading stops, under another name
-pub Stops-equal : (e f : ReadFault) (before : ℕ) (old new : Option (List ℕ)) (failures failures_after : ℕ) → e ≡ f
-    → Stops f before old new failures failures_after → Stops e before old new failures failures_after
-Stops-equal e f before old new failures failures_after same s = subst (λ (x : ReadFault). Stops x before old new failures failures_after) (sym same) s
 
 -- the reason why reading stops after these bytes
 pub Stops-after : (e : ReadFault) (before : ℕ) (old mid new : Option (List ℕ))
@@ -62,8 +56,7 @@ Gives-all form start reader old new h f = (f.given, f.took, f.fed form [] h)
 
 -- all bytes read from the source were fed, and this is the reader's result
 pub AnswersSource-fed : {S : Type 0} (form : Form) (reader : Reading) (remaining : S → Option (List ℕ)) (failure_count : S → ℕ) (old new : S)
-    (answer : Result (Vec Vector Global) ReadFault) → GivesAll (remaining old) (remaining new) (Fed form reader)
-    → failure_count new ≡ failure_count old
+    (answer : Result (Vec Vector Global) ReadFault) → GivesAll (remaining old) (remaining new) (Fed form reader) → failure_count new ≡ failure_count old
     → IfOk answer (λ points. (f : Form) (bytes : List ℕ) → Fed f reader bytes → ReadsIn f bytes points.items)
     → IfErr answer (λ e. (f : Form) (bytes : List ℕ) → Fed f reader bytes → IsFirstFault f bytes e)
     → IfErr answer IsTextFault → AnswersSource form remaining failure_count old new answer

@@ -48,8 +48,7 @@ plain (Some n) = refl
 
 negated : (n : ℕ) → neg_ℤ (pos (cap n)) ≡ capped (neg_ℤ (pos n))
 negated zero = refl
-negated (suc n) =
-    let e : cap (suc n) ≡ suc (min n COORDINATE_LIMIT) = omega arith in ap (λ k. neg_ℤ (pos k)) e
+negated (suc n) = let e : cap (suc n) ≡ suc (min n COORDINATE_LIMIT) = omega arith in ap (λ k. neg_ℤ (pos k)) e
 
 minus_of : (o : Option ℕ) → option_map (λ k. signed true (cap k)) o ≡ option_map capped (option_map (λ n. neg_ℤ (pos n)) o)
 minus_of None = refl

@@ -1,7 +1,6 @@
 -- Words that are taken one by one.
-use Rattle.qh_model.proofs.Common.{ℕ, ◌≡◌, ◌≢◌, ◌∙◌, ◌++◌, ◌<◌, ◌-◌, ◌+◌, ◌==◌, [], ◌∷◌, List, Bool, true, false, suc, cond, refl, ap, sym, subst, arith, map}
-use Rattle.qh_model.proofs.Common.{append_assoc, nat_tests, append-nil, map-append, Option, Some}
-use Rattle.qh_model.specs.declared.read_fault.ReadFault.{ReadFault}
+use Rattle.qh_model.proofs.Common.{ℕ, ◌≡◌, ◌∙◌, ◌++◌, ◌<◌, ◌-◌, ◌+◌, [], ◌∷◌, List, suc, refl, ap, sym, subst, arith, map, append_assoc, append-nil, map-append}
+use Rattle.qh_model.{proofs.Common.Option, proofs.Common.Some, proofs.Common.ne_eqb, specs.declared.read_fault.ReadFault.ReadFault}
 use Rattle.qh_read.specs.contract.FaceFaults.{corners_fault, face_fault, faces_fault, number_fault}
 use Rattle.qh_read.specs.contract.FaceWords.{AreNumbers, IsLineFace, after_line, last_line, on_line}
 use Rattle.qh_read.specs.{contract.Numerals.IsElsewhere, declared.faces.reading.Layout.Layout, declared.numerals.Numeral.Numeral, steps.Corners.AreTaken}
@@ -25,27 +24,21 @@ taken-more line old ids last v at new t =
 -- the next corner is a number
 pub corners-next : (after : ℕ → List Numeral → Option ReadFault) (n k line : ℕ) (ws : List Numeral) → k < n
     → corners_fault after (n - k) line ws ≡ number_fault (λ corner next rest. corners_fault after (n - (k + 1)) next rest) ws
-corners-next after n k line ws l =
-    let more : n - k ≡ suc (n - (k + 1)) = omega (arith, l) in ap (λ (m : ℕ). corners_fault after m line ws) more
+corners-next after n k line ws l = let more : n - k ≡ suc (n - (k + 1)) = omega (arith, l) in ap (λ (m : ℕ). corners_fault after m line ws) more
 
 -- a face comes next
 pub faces-next : (layout : Layout) (n k : ℕ) (ws : List Numeral) → k < n
     → faces_fault layout (n - k) ws ≡ face_fault layout (λ rest. faces_fault layout (n - (k + 1)) rest) ws
-faces-next layout n k ws l =
-    let more : n - k ≡ suc (n - (k + 1)) = omega (arith, l) in ap (λ (m : ℕ). faces_fault layout m ws) more
+faces-next layout n k ws l = let more : n - k ≡ suc (n - (k + 1)) = omega (arith, l) in ap (λ (m : ℕ). faces_fault layout m ws) more
 
 -- no word remains on the line
-here : (b : Bool) (line at : ℕ) → (at == line) ≡ b → at ≢ line → b ≡ false
-here true line at e h = absurd (grind (arith, nat_tests))
-here false line at e h = refl
-
 pub none-on : (line : ℕ) (ws : List Numeral) → IsElsewhere line ws → on_line line ws ≡ []
 none-on line [] h = refl
-none-on line (w ∷ ws) h = ap (λ (b : Bool). cond b (w ∷ on_line line ws) []) (here (w.line == line) line w.line refl h)
+none-on line (w ∷ ws) h = rw (ne_eqb w.line line h) refl
 
 pub all-after : (line : ℕ) (ws : List Numeral) → IsElsewhere line ws → after_line line ws ≡ ws
 all-after line [] h = refl
-all-after line (w ∷ ws) h = ap (λ (b : Bool). cond b (after_line line ws) (w ∷ ws)) (here (w.line == line) line w.line refl h)
+all-after line (w ∷ ws) h = rw (ne_eqb w.line line h) refl
 
 -- the line ends
 pub line-ends : (old : List Numeral) (ids : List ℕ) (line : ℕ) (ws new : List Numeral)

@@ -1,8 +1,7 @@
 -- Chains of positions: the number of times that a position occurs in them, and the chains after a write to one link.
 use Rattle.std.proofs.Common.{◌≡◌, ℕ, zero, suc, ◌+◌, ◌<◌, ◌≤◌, arith, sym, refl, List, [], ◌∷◌, ◌++◌, length, subst, get_or, set, length-set, sum_by, eq-eqb}
-use Rattle.std.proofs.{Common.lt-ltb, Common.le-ltb, lemmas.Grind.common_steps, lemmas.Bool.Decides.nat_tests}
-use Rattle.std.proofs.lemmas.List.Sums.{sum_by-cons, get_or-le-sum_by}
-use Rattle.qh_surface.specs.declared.outside_sets.Ends.{Ends}
+use Rattle.{std.proofs.Common.lt-ltb, std.proofs.Common.le-ltb, qh_surface.specs.declared.outside_sets.Ends.Ends}
+use Rattle.std.proofs.lemmas.{Grind.common_steps, Bool.Decides.nat_tests, List.Sums.sum_by-cons, List.Sums.get_or-le-sum_by}
 use Rattle.qh_surface.specs.steps.PositionChains.{count, chain_from, IsChain, IsLast, IsSet, AreSets, no_sets, one_more}
 
 -- ---- counts
@@ -43,20 +42,18 @@ module _ (links : List ℕ) (y v : ℕ) where
   -- a chain without y does not change
   pub chain_kept : (p : ℕ) (xs : List ℕ) → count y xs ≡ 0 → IsChain links p xs → IsChain (set links y v) p xs
   chain_kept p [] n c = rw (length-set links y v) c
-  chain_kept p (x ∷ xs) n c = let r = chain_kept (get_or links x 0) xs in grind (arith, common_steps, nat_tests, n, c, r)
+  chain_kept p (x ∷ xs) n c = grind (arith, common_steps, nat_tests, n, c, chain_kept (get_or links x 0) xs)
 
   -- y in front of the chain from v
   pub chain_front : (p x : ℕ) (xs : List ℕ) → y ≡ x → p ≡ x → y < length links → count y xs ≡ 0 → IsChain links v xs
       → IsChain (set links y v) p (x ∷ xs)
-  chain_front p x xs e q h n c = let r = chain_kept v xs in grind (arith, common_steps, e, q, h, n, c, r)
+  chain_front p x xs e q h n c = grind (arith, common_steps, e, q, h, n, c, chain_kept v xs)
 
   -- the chain from v behind a chain with the last position y
   pub chain_joined : (p x : ℕ) (xs ys : List ℕ) → count y (x ∷ xs) ≤ 1 → IsLast (x ∷ xs) y
       → IsChain links p (x ∷ xs) → IsChain (set links y v) v ys → IsChain (set links y v) p ((x ∷ xs) ++ ys)
   chain_joined p x [] ys o e c d = grind (arith, common_steps, e, c, d)
-  chain_joined p x (z ∷ xs) ys o e c d =
-      let l = last_in z xs y e in let r = chain_joined (get_or links x 0) z xs ys in
-      grind (arith, common_steps, nat_tests, o, e, c, d, l, r)
+  chain_joined p x (z ∷ xs) ys o e c d = grind (arith, common_steps, nat_tests, o, e, c, d, last_in z xs y e, chain_joined (get_or links x 0) z xs ys)
 
 -- ---- sets
 -- the set of the ends at a place
@@ -77,11 +74,9 @@ module _ {links links' : List ℕ} (y : ℕ) (frame : (p : ℕ) (xs : List ℕ) 
 
   -- if y is in at most one set, only this set may change
   pub sets_put : {es : List Ends} {xss : List (List ℕ)} (f : ℕ) (e : Ends) (xs : List ℕ) → f < length xss
-      → sum_by (count y) xss ≤ count y (get_or xss f []) → IsSet links' e xs → AreSets links es xss
-      → AreSets links' (set es f e) (set xss f xs)
+      → sum_by (count y) xss ≤ count y (get_or xss f []) → IsSet links' e xs → AreSets links es xss → AreSets links' (set es f e) (set xss f xs)
   sets_put f e xs h n s no_sets = absurd (omega arith)
-  sets_put zero e xs h n s (one_more {xs = ys} {xss} t k) =
-      let a = sum_by-cons (count y) ys xss in one_more s (sets_kept (omega arith) k)
+  sets_put zero e xs h n s (one_more {xs = ys} {xss} t k) = let a = sum_by-cons (count y) ys xss in one_more s (sets_kept (omega arith) k)
   sets_put (suc f) e xs h n s (one_more {e = d} {xs = ys} {xss} t k) =
       let a = sum_by-cons (count y) ys xss in let b = get_or-le-sum_by (count y) xss f [] (omega arith) in
       one_more (frame d.first ys (omega arith) t.0, t.1) (sets_put f e xs (omega arith) (omega arith) s k)

@@ -1,12 +1,11 @@
 -- A walk over all its facets found all facets that the apex sees.
-use Rattle.qh_model.proofs.Common.{◌≡◌, ℕ, arith, sym, ◌∙◌, Bool, false, List, subst, inl, inr, ℤ, pos, ◌<ℤ◌, by_lt_z, Weighted, weighted_at, Surface, Side}
-use Rattle.qh_model.proofs.Common.{Sees, rise, StoredFacet, facet_at, surface_of, Vector, In, IsWalked}
-use Rattle.qh_model.proofs.{Members.All-In, Members.in_at, algebra.Signs.equal_positive, surfaces.SurfaceLaws.rise_is_vol, surfaces.SurfaceLaws.walk_finds_all}
-use Rattle.qh_mesh.proofs.{Rewiring.live_in, Rewiring.in_live, ListedFacets.in_listed, ListedFacets.listed_in}
-use Rattle.qh_pred.specs.contract.Planes.{PlaneValue, height}
+use Rattle.qh_mesh.proofs.{ListedFacets.in_listed, ListedFacets.listed_in, Rewiring.live_in, Rewiring.in_live}
 use Rattle.qh_mesh.specs.contract.{Replacement.IsLive, Replacement.is_listed, SoundMesh.facet_vol, SoundMesh.IsSoundMesh, SoundMesh.AreVisible}
-use Rattle.qh_surface.specs.contract.Walks.{mark_at, IsMarked, IsCrossed, IsWalkFrom}
-use Rattle.qh_surface.specs.steps.Planes.{plane_at, ArePlanes}
+use Rattle.qh_model.proofs.Common.{◌≡◌, ℕ, arith, sym, ◌∙◌, Bool, false, List, subst, inl, inr, ℤ, pos}
+use Rattle.qh_model.proofs.Common.{◌<ℤ◌, by_lt_z, Weighted, weighted_at, Surface, Side, Sees, rise, StoredFacet, facet_at, surface_of, Vector, In, IsWalked}
+use Rattle.qh_model.proofs.{Members.All-In, Members.in_at, algebra.Signs.equal_positive, surfaces.SurfaceLaws.rise_is_vol, surfaces.SurfaceLaws.walk_finds_all}
+use Rattle.{qh_pred.specs.contract.Planes.PlaneValue, qh_pred.specs.contract.Planes.height, qh_surface.specs.contract.Walks.mark_at}
+use Rattle.qh_surface.specs.{contract.Walks.IsMarked, contract.Walks.IsCrossed, contract.Walks.IsWalkFrom, steps.Planes.plane_at, steps.Planes.ArePlanes}
 
 -- the facts about the facets that a walk found and about their neighbours
 module _ (P : ℕ → Type 0) (fs : List StoredFacet) (before after : List Bool) (f : ℕ) (vs : List ℕ)

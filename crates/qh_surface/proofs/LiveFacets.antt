@@ -1,8 +1,7 @@
 -- The live facets of a mesh: their places, and the loop over them.
 use Rattle.qh_model.proofs.Common.{◌≡◌, ℕ, List, ◌∷◌, subst, All, ◌<◌, arith, length, get_or_past, All-head, StoredFacet, surface_of, no_facet}
-use Rattle.std.proofs.lemmas.List.Elements.{All-rest}
+use Rattle.{std.proofs.lemmas.List.Elements.All-rest, qh_mesh.specs.contract.Replacement.IsLive}
 use Rattle.qh_model.proofs.{Members.All-of, surfaces.Stored.live_is_marked}
-use Rattle.qh_mesh.specs.contract.Replacement.{IsLive}
 
 -- a live facet has a place
 pub live_below : (fs : List StoredFacet) (f : ℕ) → IsLive fs f → f < length fs

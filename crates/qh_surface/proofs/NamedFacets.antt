@@ -1,7 +1,6 @@
 -- The same facets are live in a mesh over positions and over ids.
-use Rattle.qh_model.proofs.Common.{ℕ, sym, subst, surface_of, In}
-use Rattle.qh_model.proofs.surfaces.{Named.IsNamed, Named.stored_named, Stored.live_is_marked}
-use Rattle.qh_mesh.specs.contract.{Names.name_in, Replacement.IsLive}
+use Rattle.qh_model.proofs.{Common.ℕ, Common.sym, Common.subst, Common.surface_of, Common.In, surfaces.Named.IsNamed, surfaces.Named.stored_named}
+use Rattle.{qh_model.proofs.surfaces.Stored.live_is_marked, qh_mesh.specs.contract.Names.name_in, qh_mesh.specs.contract.Replacement.IsLive}
 use Rattle.qh_surface.specs.{contract.NamedMeshes.named, declared.named_mesh.NamedMesh.NamedMesh}
 
 module _ (n : NamedMesh) where

@@ -1,8 +1,7 @@
 -- Outside sets at the start, and with room for more facets.
 use Rattle.std.proofs.Common.{◌≡◌, ℕ, zero, suc, ◌+◌, ◌<◌, ◌≤◌, arith, refl, List, [], ◌++◌, length, get_or, replicate, take, take_all, sum_by, ne_eqb}
 use Rattle.std.proofs.lemmas.{Bool.Decides.nat_tests, List.FromFn.length-range_with_len, List.Folds.sum_by-replicate, List.Sums.sum_by-append}
-use Rattle.std.specs.List.{range_with_len}
-use Rattle.qh_surface.specs.declared.outside_sets.Ends.{Ends}
+use Rattle.{std.specs.List.range_with_len, qh_surface.specs.declared.outside_sets.Ends.Ends}
 use Rattle.qh_surface.specs.steps.PositionChains.{none, count, IsChain, AreSets, no_sets, one_more, IsKept}
 
 -- ---- the first sets
@@ -26,8 +25,7 @@ range_chain links a (suc n) e next = (refl, omega arith, rw (next a (omega arith
 pub new_kept : (links : List ℕ) (es : List Ends) (n : ℕ) → es ≡ [] → length links ≡ n → n ≤ none
     → ((k : ℕ) → k < n → get_or links k 0 ≡ k + 1) → IsKept links es 0 (range_with_len 0 n) []
 new_kept links es n q e s next =
-    let r = length-range_with_len 0 n in
-    let c = range_chain links 0 n (omega arith) (λ k h. next k (omega arith)) in
+    let r = length-range_with_len 0 n in let c = range_chain links 0 n (omega arith) (λ k h. next k (omega arith)) in
     rw q (record { small = omega arith; chain = c; sets_are = no_sets; once = λ x. omega (arith, range_once x 0 n); total = omega arith })
 
 -- ---- room for more

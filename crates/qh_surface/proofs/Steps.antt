@@ -1,12 +1,11 @@
 -- The value that links, ends and a first orphan represent, and its change by each call.
-use Rattle.std.proofs.Common.{◌≡◌, ◌≢◌, ℕ, ◌+◌, ◌<◌, ◌≤◌, arith, ap, sym, ◌∙◌, refl, false, subst, List, [], ◌∷◌, ◌++◌, length, length-append, drop, drop-cons}
-use Rattle.std.proofs.Common.{map, get_or, set, length-set, sum_by}
-use Rattle.std.proofs.lemmas.List.{length-map, Sums.sum_by-cons, Sums.sum_by-set, Sums.get_or-le-sum_by}
-use Rattle.qh_surface.specs.contract.OutsideSets.{OutsideValue, set_of, joined, listed}
-use Rattle.qh_surface.specs.declared.outside_sets.Ends.{Ends}
-use Rattle.qh_surface.specs.steps.PositionChains.{none, count, chain_from, value_of, IsChain, IsLast, IsSet, IsKept, AreKept, AreSets, no_sets, one_more}
 use Rattle.qh_surface.proofs.Chains.{count_at, count-append, last_in, last_within, next, chain_is, chain_kept, chain_front, chain_joined, set_at, sets_kept}
-use Rattle.qh_surface.proofs.Chains.{sets_put}
+use Rattle.qh_surface.{proofs.Chains.sets_put, specs.contract.OutsideSets.OutsideValue}
+use Rattle.qh_surface.specs.{contract.OutsideSets.set_of, contract.OutsideSets.joined, contract.OutsideSets.listed, declared.outside_sets.Ends.Ends}
+use Rattle.qh_surface.specs.steps.PositionChains.{none, count, chain_from, value_of, IsChain, IsLast, IsSet, IsKept, AreKept, AreSets, no_sets, one_more}
+use Rattle.std.proofs.Common.{◌≡◌, ◌≢◌, ℕ, ◌+◌, ◌<◌, ◌≤◌, arith, ap}
+use Rattle.std.proofs.Common.{sym, ◌∙◌, refl, false, subst, List, [], ◌∷◌, ◌++◌, length, length-append, drop, drop-cons, map, get_or, set, length-set, sum_by}
+use Rattle.std.proofs.lemmas.List.{length-map, Sums.sum_by-cons, Sums.sum_by-set, Sums.get_or-le-sum_by}
 
 -- ---- the value
 -- the stored sets are those that are read
@@ -22,7 +21,7 @@ pub value_is : {links : List ℕ} {es : List Ends} {o : ℕ} {os : List ℕ} {xs
 unfolding value_of
 value_is {links} {es} {o} {os} {xss} k =
     let t = k.total in let a = chain_is links (length links) o os k.chain (omega arith) in
-    let b = sets_is (length links) k.sets_are (omega arith) in λ i. record { positions = length links; orphans = a i; sets = b i }
+    λ i. record { positions = length links; orphans = a i; sets = (sets_is (length links) k.sets_are (omega arith)) i }
 
 -- ---- a chain by its first: either a position, or the chain is empty
 some_from : (links : List ℕ) (p : ℕ) (xs : List ℕ) → IsChain links p xs → p < length links → xs ≡ p ∷ drop 1 xs
@@ -111,7 +110,7 @@ front_last links e x l (y ∷ ys) c only last = grind (arith, c, last)
 second_last : (e : Ends) (x y l : ℕ) (xs : List ℕ) → e.first ≡ y → IsLast (y ∷ xs) e.last → count e.first xs ≡ 0
     → (e.first ≡ e.last → l ≡ x) → (e.first ≢ e.last → l ≡ e.last) → IsLast (y ∷ x ∷ xs) l
 second_last e x y l [] q c n alone last = alone (q ∙ sym c)
-second_last e x y l (z ∷ xs) q c n alone last = let a = last_in z xs e.last c in grind (arith, q, c, n, a, last)
+second_last e x y l (z ∷ xs) q c n alone last = grind (arith, q, c, n, last_in z xs e.last c, last)
 
 -- ---- the calls
 module _ {links : List ℕ} {es : List Ends} {o : ℕ} {os : List ℕ} {xss : List (List ℕ)} (k : IsKept links es o os xss)
@@ -139,20 +138,16 @@ module _ {links : List ℕ} {es : List Ends} {o : ℕ} {os : List ℕ} {xss : Li
     pub taken : (p' : ℕ) → p' ≡ get_or links p p' → IsKept links (set es f (record { first = p'; last = e.last })) o os (set xss f xs)
     taken p' r =
         let c = first_set in let a = count_at p p xs refl in let b = k.once p in let t = ap (count p) s in
-        put _ xs refl k.chain
-        (sets_put p (λ _ _ _ c. c) f _ xs h (omega arith)
-        (next links p p' p xs (refl, c.0.1, c.0.2) r, last_rest p xs e.last c.1) k.sets_are)
-        (λ y. omega (arith, ap (count y) s)) (omega (arith, ap length s))
+        put _ xs refl k.chain (sets_put p (λ _ _ _ c. c) f _ xs h (omega arith)
+        (next links p p' p xs (refl, c.0.1, c.0.2) r, last_rest p xs e.last c.1) k.sets_are) (λ y. omega (arith, ap (count y) s)) (omega (arith, ap length s))
 
     -- all positions of the set become orphans
     pub released : (l : ℕ)
         → IsKept (set links e.last o) (set es f (record { first = none; last = l })) p (get_or xss f [] ++ os) (set xss f [])
     released l =
-        let c = first_set in
-        let a = last_in p xs e.last c.1 in let b = k.once e.last in let t = ap (count e.last) s in
+        let c = first_set in let a = last_in p xs e.last c.1 in let b = k.once e.last in let t = ap (count e.last) s in
         let g = get_or-le-sum_by (count e.last) xss f [] h in
-        put _ [] (length-set links e.last o)
-        (rw s (chain_joined links e.last o p p xs os (omega arith) c.1 (refl, c.0.1, c.0.2)
+        put _ [] (length-set links e.last o) (rw s (chain_joined links e.last o p p xs os (omega arith) c.1 (refl, c.0.1, c.0.2)
         (chain_kept links e.last o o os (omega arith) k.chain)))
         (sets_put e.last (chain_kept links e.last o) f _ [] h (omega arith) (rw (length-set links e.last o) k.small, tt) k.sets_are)
         (λ y. omega (arith, count-append y (get_or xss f []) os)) (omega (arith, length-append (get_or xss f []) os))

@@ -1,17 +1,15 @@
 -- The steps of a walk over twins.
-use Rattle.qh_model.proofs.Common.{◌≡◌, ◌≢◌, ℕ, ◌+◌, ◌<◌, ◌≤◌, ◌∙◌, ◌∷◌, ◌++◌, arith, ap, sym, refl, Bool, true, false, inl, inr, List, [], length, subst, set}
-use Rattle.qh_model.proofs.Common.{length-set, get_or-set_same, get_or-set_other, slice_index, ◌↔◌, ◌||◌, IsTrue, cases_Bool, cases_eq, cases_lt}
-use Rattle.qh_model.proofs.Common.{get_or_append_left, length_push, All-push, All-weaker, StoredFacet, surface_of, In}
+use Rattle.qh_model.proofs.Common.{◌≡◌, ◌≢◌, ℕ, ◌+◌, ◌<◌, ◌≤◌, ◌∙◌, ◌∷◌, ◌++◌, arith, ap, sym, refl, Bool}
+use Rattle.qh_model.proofs.Common.{true, false, inl, inr, List, [], length, subst, set, length-set, get_or-set_same, get_or-set_other, slice_index, ◌↔◌, ◌||◌}
+use Rattle.qh_model.proofs.Common.{IsTrue, cases_Bool, cases_eq, cases_lt, get_or_append_left, length_push, All-push, All-weaker, StoredFacet, surface_of, In}
 use Rattle.qh_model.proofs.{Members.All-In, Members.In-get_or, Members.in_at, lists.Joined.in_append, lists.Ranges.pigeon}
-use Rattle.qh_mesh.specs.contract.Replacement.{IsLive, AreFacets}
-use Rattle.qh_mesh.proofs.ListedFacets.{once_apart, once_push}
+use Rattle.qh_mesh.{specs.contract.Replacement.IsLive, specs.contract.Replacement.AreFacets, proofs.ListedFacets.once_apart, proofs.ListedFacets.once_push}
 use Rattle.qh_surface.specs.contract.Walks.{mark_at, IsMarked, IsWalk, IsCrossed, AreCrossed, IsFurther}
 use Rattle.qh_surface.proofs.LiveFacets.{live_below}
 
 -- the number of found facets is at most the number of places
 pub facets_fit : (fs : List StoredFacet) (vs : List ℕ) → AreFacets fs vs → length vs ≤ length fs
-facets_fit fs vs a =
-    pigeon (length fs) (length vs) (slice_index vs) (λ i h. live_below fs (slice_index vs i) (a.live i 0 h)) (once_apart vs a.once)
+facets_fit fs vs a = pigeon (length fs) (length vs) (slice_index vs) (λ i h. live_below fs (slice_index vs i) (a.live i 0 h)) (once_apart vs a.once)
 
 -- ---- the steps
 module _ (P : ℕ → Type 0) (fs : List StoredFacet) where
@@ -45,10 +43,7 @@ module _ (P : ℕ → Type 0) (fs : List StoredFacet) where
     joined_further = record {
       len = length-set marks g true;
       kept = kept;
-      only = λ f h. elim (cases_eq f g) [
-        | inl e ↦ inr (in_append vs (g ∷ []) f (inr (inl e)))
-        | inr n ↦ inl (sym (other f n) ∙ h)
-      ];
+      only = λ f h. elim (cases_eq f g) [ inl e ↦ inr (in_append vs (g ∷ []) f (inr (inl e))) | inr n ↦ inl (sym (other f n) ∙ h) ];
       longer = (let c = length_push vs g in omega arith);
       same = get_or_append_left vs (g ∷ []) 0;
     }
@@ -66,8 +61,8 @@ met P marks g entered l e p = get_or-set_same marks g (mark_at marks g || entere
 module _ (a b : List Bool) (us vs : List ℕ) (p : IsFurther a b us vs) where
   -- found facets stay found
   pub found_further : (f : ℕ) → In f us → In f vs
-  found_further f h = let r = in_at us f h in let m = r.1 in let l = p.longer in
-      subst (λ g. In g vs) (p.same r.0 m ∙ r.2) (In-get_or vs r.0 0 (omega arith))
+  found_further f h = let r = in_at us f h in let l = p.longer in
+      subst (λ g. In g vs) (p.same r.0 r.1 ∙ r.2) (In-get_or vs r.0 0 (omega arith))
 
   -- crossed facets stay crossed, and one more facet is crossed
   pub crossed_more : (P : ℕ → Type 0) (fs : List StoredFacet) (n : ℕ) → n < length us → AreCrossed P fs a us n
@@ -81,10 +76,7 @@ pub further_trans : (a b c : List Bool) (us vs ws : List ℕ) → IsFurther a b 
 further_trans a b c us vs ws p q = record {
   len = q.len ∙ p.len;
   kept = λ f h. q.kept f (p.kept f h);
-  only = λ f h. elim (q.only f h) [
-    | inl m ↦ elim (p.only f m) [ inl o ↦ inl o | inr i ↦ inr (found_further b c vs ws q f i) ]
-    | inr i ↦ inr i
-  ];
+  only = λ f h. elim (q.only f h) [ inl m ↦ elim (p.only f m) [ inl o ↦ inl o | inr i ↦ inr (found_further b c vs ws q f i) ] | inr i ↦ inr i ];
   longer = (let l = p.longer in let m = q.longer in omega arith);
   same = λ j h. q.same j (let l = p.longer in omega arith) ∙ p.same j h;
 }

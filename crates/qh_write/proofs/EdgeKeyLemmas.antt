@@ -1,25 +1,19 @@
 -- Edges counted by numbers of pairs: the added numbers, and the number of different ones.
-use Rattle.qh_model.proofs.Common.{◌≡◌, ◌≢◌, ◌∙◌, ℕ, ◌+◌, ◌<◌, List, [], ◌∷◌, ◌++◌, length, ap, sym, refl, subst, inl, inr, map, drop, get_or, append_assoc}
-use Rattle.qh_model.proofs.Common.{min, max, IsPermutation, Bool, true, false, cond, eqb-true, nat_cmp, eqb-false, flat_map-append, length-map}
-use Rattle.qh_model.proofs.Common.{IsPermutation-sym, IsStrictlyIncreasing-dedup, flat_map, AllByRecursion, ◌==◌, ◌↔◌, eqb, steps_along, steps_round, packed}
-use Rattle.qh_model.proofs.Common.{fan, fans, pairs_along, pairs_round, edge_count, In, Once}
-use Rattle.std.proofs.lemmas.List.Kept.{Contains-dedup_nat, Contains-from_dedup}
-use Rattle.std.specs.List.{dedup, Sorted.IsSorted}
-use Rattle.qh_model.specs.declared.keys.packed.TheConstants.{HALF_ROOM}
-use Rattle.qh_model.proofs.{Members.to_contains, Members.of_contains, Members.in_permutation, Members.rising_once, Members.every_at, lists.OnceEach.once_length}
-use Rattle.qh_model.proofs.{PackedPairs.packed-same, lists.Images.in_map, lists.Images.of_map, lists.Joined.in_flat_map, lists.Joined.of_flat_map}
+use Rattle.qh_model.proofs.Common.{◌≡◌, ◌≢◌, ◌∙◌, ℕ, ◌+◌, ◌<◌, List, [], ◌∷◌, ◌++◌, length}
+use Rattle.qh_model.proofs.Common.{ap, sym, refl, subst, inl, inr, map, drop, get_or, append_assoc, min, max, IsPermutation, Bool, true, false, cond, eqb-true}
+use Rattle.qh_model.proofs.Common.{nat_cmp, eqb-false, flat_map-append, length-map, IsPermutation-sym, IsStrictlyIncreasing-dedup, flat_map, AllByRecursion}
+use Rattle.qh_model.proofs.Common.{◌==◌, ◌↔◌, eqb, steps_along, steps_round, packed, fan, fans, pairs_along, pairs_round, edge_count, In, Once, append-nil}
+use Rattle.qh_model.proofs.{Members.to_contains, Members.of_contains, Members.in_permutation, Members.rising_once, Members.every_at, PackedPairs.packed-same}
+use Rattle.qh_model.proofs.lists.{Images.in_map, Images.of_map, Joined.in_flat_map, Joined.of_flat_map, OnceEach.once_length}
 use Rattle.qh_model.proofs.polygons.EdgeCounts.{distinct, length-distinct, of_distinct, in_distinct, once_distinct}
+use Rattle.{qh_model.specs.declared.keys.packed.TheConstants.HALF_ROOM, qh_write.proofs.FanLemmas.drop_next}
 use Rattle.qh_write.specs.steps.EdgeKeys.{pair_key, HasRoom, AddsPairs, Completes, pairs_of}
-use Rattle.qh_write.proofs.FanLemmas.{drop_next}
+use Rattle.std.{proofs.lemmas.List.Kept.Contains-dedup_nat, proofs.lemmas.List.Kept.Contains-from_dedup, specs.List.dedup, specs.List.Sorted.IsSorted}
 
 -- ---- adding
 -- nothing added
 pub adds_none : (keys : List ℕ) → AddsPairs [] keys keys
-adds_none keys = record { keys = none keys; told = tt }
-  where
-    none : (xs : List ℕ) → xs ≡ xs ++ []
-    none [] = refl
-    none (x ∷ xs) = ap (λ t. x ∷ t) (none xs)
+adds_none keys = record { keys = sym (append-nil keys); told = tt }
 
 -- some pairs and then others
 pub adds_then : (ps qs : List (ℕ × ℕ)) (a b c : List ℕ) → AddsPairs ps a b → AddsPairs qs b c → AddsPairs (ps ++ qs) a c
@@ -89,15 +83,12 @@ once_codes ((a, b) ∷ ps) small o = ((λ m. from_witness (of_map code ps (code 
 pub edges_by_keys : (faces : List (List ℕ)) (keys sorted : List ℕ) → AddsPairs (pairs_of faces) [] keys → IsPermutation keys sorted → IsSorted nat_cmp sorted
     → length (dedup eqb sorted) ≡ edge_count faces
 edges_by_keys faces keys sorted added same rising =
+    let small : (u v : ℕ) → In (u, v) (distinct ps) → v < HALF_ROOM = λ u v m. every_at HasRoom ps (u, v) added.told (of_distinct ps u v m).0 in
     once_length (dedup eqb sorted) (map code (distinct ps)) (rising_once (dedup eqb sorted) (IsStrictlyIncreasing-dedup sorted rising))
-    (once_codes (distinct ps) small (once_distinct ps)) members
-    ∙ length-map (distinct ps) code ∙ length-distinct ps
+    (once_codes (distinct ps) small (once_distinct ps)) members ∙ length-map (distinct ps) code ∙ length-distinct ps
   where
     ps : List (ℕ × ℕ)
     ps = pairs_of faces
-
-    small : (u v : ℕ) → In (u, v) (distinct ps) → v < HALF_ROOM
-    small u v m = every_at HasRoom ps (u, v) added.told (of_distinct ps u v m).0
 
     there : (z : ℕ) → (p : ℕ × ℕ) × In p ps × In z (pair_key p) → In z (map code (distinct ps))
     there z ((u, v), i, h) = let k = of_key u v z h in
@@ -105,12 +96,11 @@ edges_by_keys faces keys sorted added same rising =
 
     back : (z : ℕ) → (p : ℕ × ℕ) × In p (distinct ps) × (z ≡ code p) → In z keys
     back z ((u, v), i, e) = let r = of_distinct ps u v i in
-        subst (λ x. In z x) (sym added.keys) (subst (λ x. In x (flat_map pair_key ps)) (sym e)
-        (in_flat_map pair_key ps (u, v) (code (u, v)) r.0 (in_key u v r.1)))
+        rw added.keys (rw e (in_flat_map pair_key ps (u, v) (code (u, v)) r.0 (in_key u v r.1)))
 
     members : (z : ℕ) → In z (dedup eqb sorted) ↔ In z (map code (distinct ps))
     members z = (
-      λ m. there z (of_flat_map pair_key ps z (subst (λ x. In z x) added.keys
+      λ m. there z (of_flat_map pair_key ps z (rw added.keys at
           (in_permutation sorted keys (IsPermutation-sym keys sorted same) z
           (of_contains sorted z (Contains-from_dedup eqb sorted z (to_contains (dedup eqb sorted) z m)))))),
       λ m. of_contains (dedup eqb sorted) z

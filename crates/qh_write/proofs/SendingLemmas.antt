@@ -1,21 +1,18 @@
 -- The bytes received by a sink after some of the bytes were sent.
 use Rattle.qh_model.proofs.Common.{◌≡◌, ◌∙◌, ℕ, suc, ◌+◌, ◌-◌, ◌<◌, ◌≤◌, List, ◌∷◌, ◌++◌, length, take, drop, get_or, Vec, Global, ap, arith, sym, append_assoc}
 use Rattle.qh_model.proofs.Common.{length-append, subst, take_all, drop-cons, take-add, flat_map-append, take-append-drop, length-drop, Appends, Keeps, Option}
-use Rattle.qh_model.proofs.Common.{Some, None}
+use Rattle.{qh_model.proofs.Common.Some, qh_model.proofs.Common.None, qh_write.specs.contract.Pieces.bytes_of, qh_write.specs.headline.Sinks.AppendsBeginning}
 use Rattle.std.proofs.{KnownBytes.Appends-trans, Math.Seq.take-append-add, lemmas.List.take-append-le, lemmas.List.take_rest}
-use Rattle.qh_write.specs.{contract.Pieces.bytes_of, headline.Sinks.AppendsBeginning}
 
 -- a prefix of the bytes, and the bytes added to it, make a longer prefix
 pub Appends-more : (old mid new : Option (List ℕ)) (bs : List ℕ) (sent n : ℕ) → sent ≤ length bs
-    → Appends old mid (take sent bs) → Appends mid new (take n (take (length bs - sent) (drop sent bs)))
-    → Appends old new (take (sent + n) bs)
+    → Appends old mid (take sent bs) → Appends mid new (take n (take (length bs - sent) (drop sent bs))) → Appends old new (take (sent + n) bs)
 Appends-more None mid new bs sent n fits h k = tt
 Appends-more (Some xs) None new bs sent n fits h k = absurd h
 Appends-more (Some xs) (Some ys) None bs sent n fits h k = absurd k
 Appends-more (Some xs) (Some ys) (Some zs) bs sent n fits h k =
     k ∙ ap (λ (t : List ℕ). ys ++ take n t) (take_rest bs sent) ∙ ap (λ (t : List ℕ). t ++ take n (drop sent bs)) h
-    ∙ append_assoc xs (take sent bs) (take n (drop sent bs))
-    ∙ ap (λ (t : List ℕ). xs ++ t) (sym (take-add sent n bs))
+    ∙ append_assoc xs (take sent bs) (take n (drop sent bs)) ∙ ap (λ (t : List ℕ). xs ++ t) (sym (take-add sent n bs))
 
 -- a number of bytes of the rest is at most the number of remaining bytes
 pub fits_rest : (bs : List ℕ) (sent n : ℕ) → n ≤ length (take (length bs - sent) (drop sent bs)) → n ≤ length bs - sent
@@ -28,7 +25,7 @@ pub beginning_after : (a b c : Option (List ℕ)) (xs ys rest whole : List ℕ) 
 beginning_after a b c xs ys rest whole p h e = record {
   count = length xs + h.count;
   within = subst (λ (bs : List ℕ). length xs + h.count ≤ length bs) (sym e)
-      (let w = h.within in omega (arith, w, length-append xs (ys ++ rest), length-append ys rest));
+      (omega (arith, h.within, length-append xs (ys ++ rest), length-append ys rest));
   appends = subst (λ (bs : List ℕ). Appends a c (take (length xs + h.count) bs)) (sym e)
       (subst (Appends a c) (sym begun) (Appends-trans a b c xs (take h.count ys) p h.appends));
 }

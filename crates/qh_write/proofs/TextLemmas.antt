@@ -1,13 +1,13 @@
 -- Texts that grow by pieces, and the numbers of vertices, found in a table or by a search.
-use Rattle.qh_model.proofs.Common.{◌≡◌, ◌≢◌, ◌∙◌, ℕ, suc, ◌+◌, ◌-◌, ◌<◌, ◌≤◌, List, [], ◌∷◌, ◌++◌, length, arith, ap, sym, refl, subst, inl, inr, ◌⊎◌}
-use Rattle.qh_model.proofs.Common.{get_or-set_same, get_or-set_other, set, length-set, get_or, eqb-true, Bool, zero-add, ap₂, true, false, cond, All, replicate}
-use Rattle.qh_model.proofs.Common.{decimal, slice_index, Vec, Global, Result, Ok, Err, eqb-false, length-replicate, All-from_get_or, flat_map, nat_cmp, ◌==◌}
-use Rattle.qh_model.proofs.Common.{MatchResult, IsStrictlyIncreasing, IsBodyInOrder, In, Once, line, spaced, vertex_number, face_text}
-use Rattle.std.proofs.lemmas.List.Sorted.{searched}
-use Rattle.std.specs.List.Sorted.{IsBinarySearchResult}
+use Rattle.qh_model.proofs.Common.{◌≡◌, ◌≢◌, ◌∙◌, ℕ, suc, ◌+◌, ◌-◌, ◌<◌, ◌≤◌, List, [], ◌∷◌, ◌++◌, length, arith, ap, sym, refl}
+use Rattle.qh_model.proofs.Common.{subst, inl, inr, ◌⊎◌, get_or-set_same, get_or-set_other, set, length-set, get_or, eqb-true, Bool, zero-add, true, false}
+use Rattle.qh_model.proofs.Common.{cond, All, replicate, decimal, slice_index, Vec, Global, Result, Ok, Err, eqb-false, length-replicate, All-from_get_or}
+use Rattle.qh_model.proofs.Common.{flat_map, nat_cmp, ◌==◌, MatchResult, IsStrictlyIncreasing, IsBodyInOrder, In, Once, line, spaced, vertex_number, face_text}
+use Rattle.std.{proofs.lemmas.List.Sorted.searched, specs.List.Sorted.IsBinarySearchResult}
 use Rattle.qh_model.proofs.{Cuts.bounds_order, Members.All-In, Members.In-get_or, Members.rising_once, renamed.Positions.at_number, renamed.Positions.number_at}
 use Rattle.qh_write.specs.declared.texts.numbering.VertexNumbers.{VertexNumbers, TheVariants.Table}
-use Rattle.qh_write.specs.steps.Numberings.{numbered, number_in, HasNumber, AreNumbered, face_by_numbers, NumberExtremes}
+use Rattle.qh_write.specs.steps.Numberings.{numbered, HasNumber, AreNumbered, face_by_numbers, NumberExtremes}
+use Rattle.qh_model.proofs.texts.RenamedTexts.{flat_map_same}
 
 -- the table keeps its length
 pub length-numbered : (table es : List ℕ) (n : ℕ) → length (numbered table n es) ≡ length table
@@ -32,15 +32,11 @@ numbered-at table (e ∷ es) n i once h l = with_rest (numbered-at (set table e 
         subst (λ (k : ℕ). slice_index (numbered (set table e n) (suc n) es) k ≡ n + 0) s
         (numbered-other (set table e n) es (suc n) e once.0 ∙ get_or-set_same table e n 0 low ∙ omega arith)
 
-    later : (In i es → i < length (set table e n) → slice_index (numbered (set table e n) (suc n) es) i ≡ suc n + vertex_number es i)
-        → In i es → slice_index (numbered (set table e n) (suc n) es) i ≡ n + suc (vertex_number es i)
-    later rest h = rest h (rw length-set l) ∙ omega arith
-
     with_rest : (In i es → i < length (set table e n) → slice_index (numbered (set table e n) (suc n) es) i ≡ suc n + vertex_number es i)
         → (b : Bool) → (e == i) ≡ b → (i ≡ e) ⊎ In i es → slice_index (numbered (set table e n) (suc n) es) i ≡ n + cond b 0 (suc (vertex_number es i))
     with_rest rest true s h = first (eqb-true e i s)
     with_rest rest false s (inl h) = absurd (eqb-false e i s (sym h))
-    with_rest rest false s (inr h) = later rest h
+    with_rest rest false s (inr h) = let e = rest h (rw length-set l) in omega (arith, e)
 
 -- the entry of each extreme id is its vertex number
 vertex_number_at : (extremes : List ℕ) (count : ℕ) → IsStrictlyIncreasing extremes → All (λ i. i < count) extremes
@@ -69,12 +65,10 @@ number_found ids i found rising has result = by_case found (searched ids i found
 
     by_case : (r : Result ℕ ℕ)
         → MatchResult r (λ k. (k < length ids) × (get_or ids k 0 ≡ i)) (λ k. (k ≤ length ids) × ((n : ℕ) → n < k → get_or ids n 0 < i)
-        × ((n : ℕ) → k ≤ n → n < length ids → i < get_or ids n 0))
-        → MatchResult r (λ k. k ≡ vertex_number ids i) (λ _. ⊥)
+        × ((n : ℕ) → k ≤ n → n < length ids → i < get_or ids n 0)) → MatchResult r (λ k. k ≡ vertex_number ids i) (λ _. ⊥)
     by_case (Ok k) s = sym (subst (λ n. vertex_number ids n ≡ k) s.1 (number_at ids k (rising_once ids rising) s.0))
     by_case (Err k) s =
-        let n = vertex_number ids i in
-        let at = at_number ids i has in
+        let n = vertex_number ids i in let at = at_number ids i has in
         let before : n < k → get_or ids n 0 < i = s.1 n in
         let after : k ≤ n → n < length ids → i < get_or ids n 0 = s.2 n in
         grind (arith, at.0, at.1, before, after)
@@ -82,27 +76,14 @@ number_found ids i found rising has result = by_case found (searched ids i found
 -- a face by the numbers of the extreme ids has its vertex numbers
 face_numbered : (extremes : List ℕ) (numbers : VertexNumbers) → NumberExtremes extremes numbers
     → (q : List ℕ) → ((i : ℕ) → In i q → In i extremes) → face_by_numbers numbers q ≡ face_text extremes q
-face_numbered extremes numbers right q named = ap (λ (t : List ℕ). line (decimal (length q) ++ t)) (pieces q named)
-  where
-    pieces : (q : List ℕ) → ((i : ℕ) → In i q → In i extremes)
-        → flat_map (λ i. spaced (number_in numbers i)) q ≡ flat_map (λ i. spaced (vertex_number extremes i)) q
-    pieces [] named = refl
-    pieces (i ∷ q) named =
-        ap₂ (λ (a b : List ℕ). a ++ b) (ap spaced (right.is i (named i (inl refl)))) (pieces q (λ j h. named j (inr h)))
-
--- all faces by these numbers have their vertex numbers
-all_numbered : (extremes : List ℕ) (numbers : VertexNumbers) → NumberExtremes extremes numbers
-    → (qs : List (List ℕ)) → ((q : List ℕ) → In q qs → (i : ℕ) → In i q → In i extremes)
-    → flat_map (face_by_numbers numbers) qs ≡ flat_map (face_text extremes) qs
-all_numbered extremes numbers right [] named = refl
-all_numbered extremes numbers right (q ∷ qs) named =
-    ap₂ (λ (a b : List ℕ). a ++ b) (face_numbered extremes numbers right q (named q (inl refl)))
-    (all_numbered extremes numbers right qs (λ p h. named p (inr h)))
+face_numbered extremes numbers right q named =
+    ap (λ (t : List ℕ). line (decimal (length q) ++ t)) (flat_map_same _ _ q (λ i m. ap spaced (right.is i (named i m))))
 
 -- a text that grew by the faces by these numbers grew by the faces
 pub grown_by_faces : (extremes : List ℕ) (numbers : VertexNumbers) (qs : List (List ℕ)) (old new : List ℕ) → NumberExtremes extremes numbers
     → IsBodyInOrder extremes qs → new ≡ old ++ flat_map (face_by_numbers numbers) qs → new ≡ old ++ flat_map (face_text extremes) qs
-grown_by_faces extremes numbers qs old new right order e = e ∙ ap (λ (t : List ℕ). old ++ t) (all_numbered extremes numbers right qs order.named)
+grown_by_faces extremes numbers qs old new right order e =
+    e ∙ ap (λ (t : List ℕ). old ++ t) (flat_map_same _ _ qs (λ q m. face_numbered extremes numbers right q (order.named q m)))
 
 -- each vertex of each face gets a number
 pub faces_numbered : (extremes : List ℕ) (numbers : VertexNumbers) (qs : List (List ℕ)) → NumberExtremes extremes numbers → IsBodyInOrder extremes qs

@@ -1,7 +1,6 @@
 -- The return codes of a call without a hull.
-use Rattle.std.specs.Prelude.{ℕ}
+use Rattle.{std.specs.Prelude.ℕ, qconvex_c.specs.declared.fault.Fault.Fault}
 use Rattle.qconvex_c.specs.contract.Codes.{QCONVEX_NO_POINT, QCONVEX_TOO_MANY, QCONVEX_RANGE, QCONVEX_MEMORY, QCONVEX_ROOM}
-use Rattle.qconvex_c.specs.declared.fault.Fault.{Fault}
 use Rattle.qconvex_c.specs.declared.fault.Fault.TheVariants.{NoPoint, TooMany, Range, Memory, Room}
 
 -- the code of a fault

@@ -1,7 +1,6 @@
 -- The lists of fans, made face by face.
-use Rattle.std.specs.{Prelude.ℕ, Prelude.ℤ, Prelude.List, List.flat_map}
-use Rattle.qh_model.specs.{contract.FaceTriangles.face_triangles, headline.Vector.Vector}
-use Rattle.qconvex_c.specs.contract.{Flat.corners_of, Triangles.normal_of}
+use Rattle.{std.specs.Prelude.ℕ, std.specs.Prelude.ℤ, std.specs.Prelude.List, std.specs.List.flat_map, qh_model.specs.contract.FaceTriangles.face_triangles}
+use Rattle.{qh_model.specs.headline.Vector.Vector, qconvex_c.specs.contract.Flat.corners_of, qconvex_c.specs.contract.Triangles.normal_of}
 
 -- the corners of the triangles of a face
 abbrev pub face_corners : List ℕ → List ℕ

@@ -1,8 +1,7 @@
 -- The keys of sides, and what is found by them.
 use Rattle.std.specs.Prelude.{ℕ, ◌≡◌, ◌≢◌, ◌≤◌, ◌<◌, ◌+◌, ◌*◌, ◌/◌, ◌%◌, ◌⊎◌, List, All, Contains, length, slice_index}
 use Rattle.qh_model.specs.declared.limits.TheConstants.{POINT_LIMIT}
-use Rattle.qconvex_c.specs.contract.Codes.{QCONVEX_NONE}
-use Rattle.qconvex_c.specs.declared.side_keys.TheConstants.{SIDE_ROOM}
+use Rattle.qconvex_c.specs.{contract.Codes.QCONVEX_NONE, declared.side_keys.TheConstants.SIDE_ROOM}
 
 -- the key is of a side that rises, by the ends of each side
 pub record IsKey (count : ℕ) (low high : ℕ → ℕ) (key : ℕ) : Type 0 where

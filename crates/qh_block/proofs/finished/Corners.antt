@@ -1,8 +1,7 @@
 -- The corners of a list of facets.
 use Rattle.qh_model.proofs.Common.{All, ℕ, ◌<◌, List, length, arith, ◌↔◌, AreIndices, IsCorner, StoredFacet, surface_of, Vector, In}
 use Rattle.qh_model.proofs.{Members.All-In, Members.All-of, lists.Joined.in_flat_map, lists.Joined.of_flat_map}
-use Rattle.qh_mesh.specs.contract.Replacement.{IsLive}
-use Rattle.qh_surface.specs.contract.Corners.{AreCornersBelow}
+use Rattle.{qh_mesh.specs.contract.Replacement.IsLive, qh_surface.specs.contract.Corners.AreCornersBelow}
 use Rattle.qh_block.specs.steps.Faces.{three_of, corners_of, IsListedCorner}
 
 -- the corners of one facet
@@ -20,5 +19,5 @@ in_corners fs vs l = (
 pub corners_in : (pts : List Vector) (fs : List StoredFacet) (vs : List ℕ) (corners : List ℕ) → AreCornersBelow (length pts) fs
     → All (IsLive fs) vs → ((i : ℕ) → In i corners ↔ IsListedCorner fs vs i) → AreIndices pts corners
 corners_in pts fs vs corners b live members =
-    All-of (λ i. i < length pts) corners (λ l i. let c = (members l).0 i in let e = c.2 in let v = All-In (IsLive fs) vs c.0 live c.1 in
-    grind (arith, e, b.i_in c.0 v, b.j_in c.0 v, b.k_in c.0 v))
+    All-of (λ i. i < length pts) corners (λ l i. let c = (members l).0 i in let v = All-In (IsLive fs) vs c.0 live c.1 in
+    grind (arith, c.2, b.i_in c.0 v, b.j_in c.0 v, b.k_in c.0 v))

@@ -1,19 +1,16 @@
 -- Faces that are gathered one after the other, each plane once.
+use Rattle.qh_block.{proofs.flats.Polygons.three_members, specs.steps.Faces.IsFacetPolygon, specs.steps.Faces.IsNewPlane, specs.steps.Faces.IsNewFace}
+use Rattle.{qh_block.specs.steps.Faces.AreMarkedFaces, qh_bodies.specs.contract.ApartPolygons.HasThree, qh_bodies.specs.contract.ApartPolygons.begin_alike}
+use Rattle.{qh_bodies.specs.contract.ApartPolygons.HasThree.three, qh_mesh.specs.contract.Replacement.IsLive}
 use Rattle.qh_model.proofs.Common.{get_or, take, ◌≡◌, inl, inr, ⊎_elim, ℕ, List, [], ◌∷◌, ◌++◌, sym, subst, refl, Bool, true, false, cases_Bool, IsDistinct}
 use Rattle.qh_model.proofs.Common.{◌↔◌, ℤ, pos, ◌*ℤ◌, HasDistinctPoints, Surface, IsFinished, StoredFacet, surface_of, Vector, Extreme, cross, vol, In, Members}
-use Rattle.qh_model.proofs.Common.{IsAlong, IsLevelWith, IsLevelFacet}
-use Rattle.std.proofs.lemmas.{Cmp.nat_list_eq_equiv, Cmp.on_equiv, Bool.Decides.Decides-eqb, List.Folds.list_any_none, Slice.Eq.slice_eq-Decides}
-use Rattle.std.proofs.lemmas.Map.Keys.{IsDistinct-push}
-use Rattle.qh_model.proofs.{Members.All-of, algebra.VectorIdentities.vol-first, algebra.VectorIdentities.vol-second, algebra.VectorIdentities.vol-third}
-use Rattle.qh_model.proofs.{extremes.Directions.vol_along, extremes.Directions.zero_along, surfaces.Finished.facet_area, surfaces.Finished.facets_support}
-use Rattle.qh_model.proofs.{extremes.SpanningTriples.planes_of_extremes, lists.Joined.in_append, lists.Joined.of_append, polygons.PlaneTurns.level_along}
-use Rattle.qh_model.proofs.{polygons.Direction.polygon_as, surfaces.Stored.live_is_marked}
-use Rattle.qh_model.proofs.surfaces.FacetPlanes.{level_facets_span, level_itself, level_back, level_on}
-use Rattle.qh_mesh.specs.contract.Replacement.{IsLive}
-use Rattle.qh_surface.specs.contract.Walks.{mark_at}
-use Rattle.qh_bodies.specs.contract.ApartPolygons.{HasThree, begin_alike, HasThree.three}
-use Rattle.qh_block.specs.steps.Faces.{IsFacetPolygon, IsNewPlane, IsNewFace, AreMarkedFaces}
-use Rattle.qh_block.proofs.flats.Polygons.{three_members}
+use Rattle.qh_model.proofs.{Common.IsAlong, Common.IsLevelWith, Common.IsLevelFacet, Members.All-of}
+use Rattle.qh_model.proofs.algebra.VectorIdentities.{vol-first, vol-second, vol-third}
+use Rattle.qh_model.proofs.{extremes.Directions.vol_along, extremes.Directions.zero_along, extremes.SpanningTriples.planes_of_extremes, lists.Joined.in_append}
+use Rattle.qh_model.proofs.{lists.Joined.of_append, polygons.Direction.polygon_as, polygons.PlaneTurns.level_along, surfaces.FacetPlanes.level_facets_span}
+use Rattle.qh_model.proofs.surfaces.{FacetPlanes.level_itself, FacetPlanes.level_back, FacetPlanes.level_on, Finished.facet_area, Finished.facets_support}
+use Rattle.{qh_model.proofs.surfaces.Stored.live_is_marked, qh_surface.specs.contract.Walks.mark_at, std.proofs.lemmas.Bool.Decides.Decides-eqb}
+use Rattle.std.proofs.lemmas.{Cmp.nat_list_eq_equiv, Cmp.on_equiv, List.Folds.list_any_none, Map.Keys.IsDistinct-push, Slice.Eq.slice_eq-Decides}
 
 module _ (at : ℕ → Vector) (ids : List ℕ) (fs : List StoredFacet) (d : HasDistinctPoints at (Members ids))
     (z : IsFinished at ids (surface_of fs)) where
@@ -38,8 +35,7 @@ module _ (at : ℕ → Vector) (ids : List ℕ) (fs : List StoredFacet) (d : Has
       let s = planes_of_extremes at ids d (m.i f) (m.j f) (m.k f) (facets_support at ids m z f (lives f l)) in
       let has : (y : ℕ) → Extreme at (Members ids) y → vol (at s.u) (at s.v) (at s.w) (at y) ≡ pos 0 → In y q =
       (λ y e h. (p.members y).1 (e, (s.same y).1 h)) in
-      three_members at q s.u s.v s.w (has s.u s.has_u (vol-first _ _ _)) (has s.v s.has_v (vol-second _ _ _))
-      (has s.w s.has_w (vol-third _ _ _)) s.area
+      three_members at q s.u s.v s.w (has s.u s.has_u (vol-first _ _ _)) (has s.v s.has_v (vol-second _ _ _)) (has s.w s.has_w (vol-third _ _ _)) s.area
 
   -- its first three ids span its plane
   over : List ℕ → ℕ → ℤ

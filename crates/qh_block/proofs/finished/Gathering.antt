@@ -1,4 +1,5 @@
 -- The loop over the live facets of a mesh that gathers its faces.
+<<<<<<< HEAD
 use Rattle.qh_model.proofs.Common.{◌≡◌, ◌⊎◌, inl, inr, ⊎_elim, ℕ, ◌<◌, ◌≤◌, List, [], ◌∷◌, ◌++◌, length, sym, subst, refl, arith, Bool, true, false, Vector}
 use Rattle.qh_model.proofs.Common.{place, In, Members, IsIdSet, IsFinished, StoredFacet, surface_of, IsPermutation, IsPermutation-sym}
 use Rattle.qh_model.proofs.{Members.in_permutation, surfaces.Stored.live_is_marked}
@@ -6,8 +7,14 @@ use Rattle.qh_bodies.proofs.FaceOrder.{apart_permuted}
 use Rattle.qh_mesh.specs.contract.Replacement.{IsLive}
 use Rattle.qh_surface.specs.contract.Walks.{mark_at}
 use Rattle.qh_block.specs.steps.Faces.{IsNewPlane, IsNewFace, AreMarkedFaces, AreFacetFaces}
+=======
+use Rattle.qh_surface.{specs.contract.Walks.mark_at, proofs.LiveFacets.live_below}
+use Rattle.{qh_mesh.specs.contract.Replacement.IsLive, qh_model.proofs.surfaces.Stored.live_is_marked}
+>>>>>>> 7fd4bc0f68c66db76884cf5a8c206588c0d9e426
 use Rattle.qh_block.proofs.finished.FaceLists.{no_faces, new_plane, next_face}
-use Rattle.qh_surface.proofs.LiveFacets.{live_below}
+use Rattle.qh_block.specs.steps.Faces.{IsNewPlane, IsNewFace, AreMarkedFaces, AreFacetFaces}
+use Rattle.qh_model.proofs.Common.{◌≡◌, ◌⊎◌, inl, inr, ⊎_elim, ℕ, ◌<◌, ◌≤◌, List, [], ◌∷◌, ◌++◌}
+use Rattle.qh_model.proofs.Common.{length, sym, subst, refl, arith, Bool, true, false, Vector, place, In, Members, IsIdSet, IsFinished, StoredFacet, surface_of}
 
 -- some facets remain to be processed
 pub record IsGathering (pts : List Vector) (fs : List StoredFacet) (left : List ℕ) (marks : List Bool) (qs : List (List ℕ))
@@ -57,7 +64,7 @@ module _ (pts : List Vector) (fs : List StoredFacet) (marks : List Bool) (qs : L
         → ((ids : List ℕ) → IsIdSet pts ids → IsFinished (place pts) ids (surface_of fs) → IsNewPlane (place pts) fs marks f
         → IsNewFace (place pts) (Members ids) fs f marks after q) → IsGathering pts fs left after (qs ++ q ∷ [])
     gathering_goes fresh after q room kept own new = record {
-      room = (let r = old.room in omega (arith, r, room));
+      room = (omega (arith, old.room, room));
       live = λ v i. old.live v (subst (In v) (sym is) (inr i));
       rest = λ g l. ⊎_elim (λ k. inl (kept g k)) (λ i. ⊎_elim (λ e. inl (rw e own)) (λ k. inr k) (subst (In g) is i)) (old.rest g l);
       faces = λ ids s z. (let faces = old.faces ids s z in next_face (place pts) ids fs s.distinct z marks qs faces f live fresh after q

@@ -1,13 +1,10 @@
 -- The polygon of a plane with one facet has the corners of that facet, beginning with the least.
 use Rattle.qh_model.proofs.Common.{◌≡◌, ◌≢◌, ℕ, ◌<◌, List, [], ◌∷◌, length, sym, subst, refl, arith, Bool, true, false, cond, nat_tests, ◌&&◌, nat_lt, pos}
 use Rattle.qh_model.proofs.Common.{◌<ℤ◌, IsFinished, IsIdSet, StoredFacet, facet_at, surface_of, Vector, place, cross, AreInLine, Members, Extreme, IsPolygon}
-use Rattle.qh_model.proofs.Common.{IsLevelFacet}
-use Rattle.qh_model.specs.headline.Predicates.{left}
-use Rattle.qh_model.proofs.{algebra.VectorIdentities.left-dot, algebra.VectorIdentities.left-turn, extremes.Directions.square-positive}
-use Rattle.qh_model.proofs.surfaces.{Finished.facet_area, Stored.live_is_marked}
-use Rattle.qh_mesh.specs.contract.Replacement.{IsLive}
-use Rattle.qh_polygon.proofs.polygons.Triangle.{left_triangle}
-use Rattle.qh_surface.specs.contract.Walks.{IsWalkFrom}
+use Rattle.qh_model.{proofs.Common.IsLevelFacet, specs.headline.Predicates.left}
+use Rattle.qh_model.proofs.algebra.VectorIdentities.{left-dot, left-turn}
+use Rattle.qh_model.proofs.{extremes.Directions.square-positive, surfaces.Finished.facet_area, surfaces.Stored.live_is_marked}
+use Rattle.{qh_mesh.specs.contract.Replacement.IsLive, qh_polygon.proofs.polygons.Triangle.left_triangle, qh_surface.specs.contract.Walks.IsWalkFrom}
 use Rattle.qh_block.specs.steps.Faces.{three_of, corners_of, from_least, IsNewPlane, IsNewFace}
 use Rattle.qh_block.proofs.{finished.Corners.in_corners, finished.NewFaces.face_of_corners, flats.Polygons.corners_differ}
 
@@ -47,7 +44,7 @@ pub lone_triangle : (pts : List Vector) (ids : List ℕ) (fs : List StoredFacet)
 lone_triangle pts ids fs f before after [] one set z live new w = absurd w.start
 lone_triangle pts ids fs f before after (g ∷ h ∷ vs) one set z live new w = absurd (omega (arith, one))
 lone_triangle pts ids fs f before after (g ∷ []) one set z live new w =
-    let t = facet_at fs f in let start = w.start in let same : f ≡ g = grind (arith, start) in
+    let t = facet_at fs f in let same : f ≡ g = grind (arith, w.start) in
     face_of_corners pts ids fs f before after (g ∷ []) set z live new w (corners_of fs (g ∷ [])) _ (in_corners fs (g ∷ []))
     (subst (λ v. IsPolygon (place pts) (Extreme (place pts) (Members (three_of fs v)))
     (cross (place pts t.i) (place pts t.j) (place pts t.k)) (from_least t.i t.j t.k)) same

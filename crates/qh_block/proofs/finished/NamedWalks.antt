@@ -1,10 +1,9 @@
 -- A walk in the plane of a facet of a mesh over positions is a walk of the same mesh over ids.
-use Rattle.qh_model.proofs.Common.{◌≡◌, ◌∙◌, ℕ, ◌<◌, inl, inr, List, length, ap, sym, subst, refl, Bool, get_or-map, ◌↔◌, slice_index, Side, Surface, IsCorner}
-use Rattle.qh_model.proofs.Common.{IsWhole, surface_of, Vector, origin, place, vol, In, IsLevelFacet, IsLevelWith}
+use Rattle.qh_model.proofs.Common.{◌≡◌, ◌∙◌, ℕ, ◌<◌, inl, inr, List, length, ap, sym, subst, refl, Bool, get_or-map}
+use Rattle.qh_model.proofs.Common.{◌↔◌, slice_index, Side, Surface, IsCorner, IsWhole, surface_of, Vector, origin, place, vol, In, IsLevelFacet, IsLevelWith}
 use Rattle.qh_model.proofs.{Members.All-In, Members.All-of, Members.In-get_or, surfaces.Stored.live_is_marked}
-use Rattle.qh_mesh.specs.contract.{Names.name_in, Replacement.IsLive}
-use Rattle.qh_surface.specs.contract.{NamedMeshes.named, NamedMeshes.IsNamedMesh, Walks.IsMarked, Walks.IsWalkFrom}
-use Rattle.qh_surface.specs.declared.named_mesh.NamedMesh.{NamedMesh}
+use Rattle.{qh_mesh.specs.contract.Names.name_in, qh_mesh.specs.contract.Replacement.IsLive, qh_surface.specs.contract.NamedMeshes.named}
+use Rattle.qh_surface.specs.{contract.NamedMeshes.IsNamedMesh, contract.Walks.IsMarked, contract.Walks.IsWalkFrom, declared.named_mesh.NamedMesh.NamedMesh}
 use Rattle.qh_surface.proofs.{NamedFacets.names, NamedFacets.named_live, NamedFacets.live_before, runs.OrderedIds.name_is}
 
 module _ (n : NamedMesh) where
@@ -31,8 +30,7 @@ module _ (pts : List Vector) (n : NamedMesh) (o : IsNamedMesh pts n) where
   point_is : (c c' : ℕ) → c < length n.ids.items → c' ≡ name n c → at' c' ≡ at c
   unfolding place
   point_is c c' b e =
-      ap at' (e ∙ name_is n.ids.items c b)
-      ∙ sym (ap (λ (xs : List Vector). place xs c) o.points ∙ get_or-map (place pts) n.ids.items c 0 origin b)
+      ap at' (e ∙ name_is n.ids.items c b) ∙ sym (ap (λ (xs : List Vector). place xs c) o.points ∙ get_or-map (place pts) n.ids.items c 0 origin b)
 
   -- so an id is level with a facet if its position is
   level_same : (f : ℕ) (l : IsLive n.mesh f) (c : ℕ) → c < length n.ids.items
@@ -66,14 +64,10 @@ module _ (pts : List Vector) (n : NamedMesh) (o : IsNamedMesh pts n) where
 
   -- a facet that a walk over positions has found is found by a walk over ids
   pub walk_named : (f : ℕ) (before after : List Bool) (vs : List ℕ) → IsLive n.mesh f → IsWhole (m' n)
-      → IsWalkFrom (IsLevelFacet at (m n) f) n.mesh before after f vs
-      → IsWalkFrom (IsLevelFacet at' (m' n) f) (named n) before after f vs
+      → IsWalkFrom (IsLevelFacet at (m n) f) n.mesh before after f vs → IsWalkFrom (IsLevelFacet at' (m' n) f) (named n) before after f vs
   walk_named f before after vs l whole w = record {
     walk = record {
-      facets = record {
-        live = All-of (IsLive (named n)) vs (λ g i. named_live n g (found g i));
-        once = w.walk.facets.once;
-      };
+      facets = record { live = All-of (IsLive (named n)) vs (λ g i. named_live n g (found g i)); once = w.walk.facets.once };
       passes = All-of (IsLevelFacet at' (m' n) f) vs
           (λ g i. level_named f g l (found g i) (All-In (IsLevelFacet at (m n) f) vs g w.walk.passes i));
       marked = w.walk.marked;
@@ -93,5 +87,4 @@ module _ (pts : List Vector) (n : NamedMesh) (o : IsNamedMesh pts n) where
           let e = (names n).over_is g s (lives g (found g i)) in
           let next = (whole g ((live_is_marked (named n) g).1 (named_live n g (found g i))) s).live in
           let before = live_before n ((m' n).over g s) ((live_is_marked (named n) ((m' n).over g s)).0 next) in
-          subst (IsMarked after) (sym e) (h s (level_before f ((m n).over g s) l (subst (IsLive n.mesh) e before)
-          (subst (IsLevelFacet at' (m' n) f) e x)))
+          subst (IsMarked after) (sym e) (h s (level_before f ((m n).over g s) l (subst (IsLive n.mesh) e before) (subst (IsLevelFacet at' (m' n) f) e x)))

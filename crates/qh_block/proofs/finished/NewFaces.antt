@@ -1,15 +1,12 @@
 -- A walk in the plane of a facet gathers the face of that plane.
-use Rattle.qh_model.proofs.Common.{inl, inr, ⊎_elim, ℕ, List, refl, Bool, ◌↔◌, IsStrictlyIncreasing, IsIdSet, Surface, Side, IsCorner, IsFinished, StoredFacet}
-use Rattle.qh_model.proofs.Common.{surface_of, Vector, place, cross, In, Members, Extreme, OnPlane, IsPolygon, IsLevelFacet, CornerInPlane}
-use Rattle.qh_model.proofs.{extremes.Directions.along_itself, hulls.SameSets.extreme_as, surfaces.Complete.extremes_of_plane, surfaces.Stored.live_is_marked}
-use Rattle.qh_model.proofs.polygons.Direction.{polygon_as}
-use Rattle.qh_model.proofs.surfaces.{FacetPlanes.plane_walk_finds_all, Finished.facet_area, Finished.facets_support}
-use Rattle.qh_mesh.specs.contract.Replacement.{IsLive, is_listed}
-use Rattle.qh_mesh.proofs.ListedFacets.{in_listed, listed_in}
-use Rattle.qh_polygon.specs.contract.PlanarSets.{IsPlanarSet}
-use Rattle.qh_surface.specs.contract.Walks.{IsWalkFrom}
 use Rattle.qh_block.specs.steps.Faces.{IsListedCorner, IsNewPlane, IsNewFace}
-use Rattle.qh_surface.proofs.FoundFacets.{found_live, found_passes, found_marked, found_over}
+use Rattle.qh_mesh.{proofs.ListedFacets.in_listed, proofs.ListedFacets.listed_in, specs.contract.Replacement.IsLive, specs.contract.Replacement.is_listed}
+use Rattle.qh_model.proofs.Common.{inl, inr, ⊎_elim, ℕ, List, refl, Bool, ◌↔◌, IsStrictlyIncreasing, IsIdSet, Surface, Side, IsCorner, IsFinished}
+use Rattle.qh_model.proofs.Common.{StoredFacet, surface_of, Vector, place, cross, In, Members, Extreme, OnPlane, IsPolygon, IsLevelFacet, CornerInPlane}
+use Rattle.qh_model.proofs.{extremes.Directions.along_itself, hulls.SameSets.extreme_as, polygons.Direction.polygon_as, surfaces.Complete.extremes_of_plane}
+use Rattle.qh_model.proofs.surfaces.{FacetPlanes.plane_walk_finds_all, Finished.facet_area, Finished.facets_support, Stored.live_is_marked}
+use Rattle.{qh_polygon.specs.contract.PlanarSets.IsPlanarSet, qh_surface.proofs.FoundFacets.found_live}
+use Rattle.qh_surface.{proofs.FoundFacets.found_passes, proofs.FoundFacets.found_marked, proofs.FoundFacets.found_over, specs.contract.Walks.IsWalkFrom}
 
 module _ (pts : List Vector) (ids : List ℕ) (fs : List StoredFacet) (f : ℕ) (before after : List Bool) (vs : List ℕ)
     (set : IsIdSet pts ids) (z : IsFinished (place pts) ids (surface_of fs)) (live : IsLive fs f) (new : IsNewPlane (place pts) fs before f)
@@ -62,8 +59,8 @@ module _ (pts : List Vector) (ids : List ℕ) (fs : List StoredFacet) (f : ℕ) 
     )
 
     extreme : (l : ℕ) → Extreme at (Members corners) l ↔ OnPlane at (Extreme at (Members ids)) (m.i f) (m.j f) (m.k f) l
-    extreme l = let support = facets_support at ids m z f (lives f live) in
-        let law = extremes_of_plane at ids m set.distinct z (m.i f) (m.j f) (m.k f) support l in (
+    extreme l =
+        let law = extremes_of_plane at ids m set.distinct z (m.i f) (m.j f) (m.k f) (facets_support at ids m z f (lives f live)) l in (
           λ x. law.0 ((extreme_as at (Members corners) InPlane corner l).0 x),
           λ x. (extreme_as at (Members corners) InPlane corner l).1 (law.1 x),
         )

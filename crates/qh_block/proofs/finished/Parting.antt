@@ -1,15 +1,11 @@
 -- The loop over the live facets of a mesh that gathers the faces of chosen facets in a list of their own.
-use Rattle.qh_model.proofs.Common.{◌≡◌, inl, inr, ℕ, ◌<◌, ◌≤◌, List, [], ◌∷◌, ◌++◌, IsPermutation, length, refl, subst, sym, append_assoc}
-use Rattle.qh_model.proofs.Common.{IsPermutation-append_left, IsPermutation-refl, IsPermutation-sym, IsPermutation-trans, Bool, true, false, AreClosed, IsIdSet}
-use Rattle.qh_model.proofs.Common.{IsFinished, StoredFacet, surface_of, Vector, place, In, Members}
-use Rattle.qh_model.proofs.{Members.in_permutation, lists.Joined.of_append}
-use Rattle.qh_mesh.specs.contract.Replacement.{IsLive}
-use Rattle.qh_surface.specs.contract.Walks.{mark_at}
-use Rattle.qh_surface.proofs.LiveFacets.{live_below}
-use Rattle.qh_block.specs.contract.MarkedFaces.{AreFacesOfMarked}
+use Rattle.qh_model.proofs.Common.{◌≡◌, inl, inr, ℕ, ◌<◌, ◌≤◌, List, [], ◌∷◌, ◌++◌}
+use Rattle.qh_model.proofs.Common.{IsPermutation, length, refl, subst, sym, append_assoc, IsPermutation-append_left, IsPermutation-refl, IsPermutation-sym}
+use Rattle.qh_model.proofs.Common.{IsPermutation-trans, Bool, true, false, AreClosed, IsIdSet, IsFinished, StoredFacet, surface_of, Vector, place, In, Members}
+use Rattle.{qh_model.proofs.Members.in_permutation, qh_model.proofs.lists.Joined.of_append, qh_mesh.specs.contract.Replacement.IsLive}
+use Rattle.{qh_surface.specs.contract.Walks.mark_at, qh_surface.proofs.LiveFacets.live_below, qh_block.specs.contract.MarkedFaces.AreFacesOfMarked}
 use Rattle.qh_block.specs.steps.Faces.{AreFacetFaces, IsFacetPolygon, IsNewPlane, IsNewFace}
-use Rattle.qh_bodies.proofs.{StepCounts.closed_permuted, MergedFaces.behind_first}
-use Rattle.qh_block.proofs.finished.ClosedFaces.{facet_faces_close}
+use Rattle.{qh_bodies.proofs.StepCounts.closed_permuted, qh_bodies.proofs.MergedFaces.behind_first, qh_block.proofs.finished.ClosedFaces.facet_faces_close}
 use Rattle.qh_block.proofs.finished.{FaceLists.new_plane, Gathering.IsGathering, Gathering.gathering_starts, Gathering.gathering_goes, Gathering.gathering_ends}
 
 -- the polygons are faces of facets with this mark, if the mesh is finished

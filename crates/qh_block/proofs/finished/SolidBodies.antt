@@ -1,11 +1,9 @@
 -- The faces of a finished mesh have the extreme ids as their members, and close up.
-use Rattle.qh_model.proofs.Common.{ℕ, List, ◌↔◌, IsStrictlyIncreasing, AreClosedFaces, IsIdSet, IsFinished, StoredFacet, surface_of, Vector, place, In, Members}
-use Rattle.qh_model.proofs.Common.{Extreme, AreExtremes, AreFaces, RiseStrictly}
-use Rattle.qh_model.proofs.{lists.Joined.in_flat_map, lists.Joined.of_flat_map, surfaces.Complete.finished_is_solid, surfaces.Complete.polygons_of_facets}
-use Rattle.qh_model.proofs.polygons.Steps.{faces_close}
-use Rattle.qh_model.proofs.surfaces.{FacetPlanes.level_itself, Finished.extremes_are_corners, Stored.live_is_marked}
-use Rattle.qh_block.specs.steps.Faces.{AreFacetFaces}
-use Rattle.qh_bodies.specs.contract.Tallies.{all_members}
+use Rattle.{qh_block.specs.steps.Faces.AreFacetFaces, qh_bodies.specs.contract.Tallies.all_members}
+use Rattle.qh_model.proofs.Common.{ℕ, List, ◌↔◌, IsStrictlyIncreasing, AreClosedFaces}
+use Rattle.qh_model.proofs.Common.{IsIdSet, IsFinished, StoredFacet, surface_of, Vector, place, In, Members, Extreme, AreExtremes, AreFaces, RiseStrictly}
+use Rattle.qh_model.proofs.{lists.Joined.in_flat_map, lists.Joined.of_flat_map, polygons.Steps.faces_close, surfaces.Complete.finished_is_solid}
+use Rattle.qh_model.proofs.surfaces.{Complete.polygons_of_facets, FacetPlanes.level_itself, Finished.extremes_are_corners, Stored.live_is_marked}
 
 module _ (pts : List Vector) (ids : List ℕ) (fs : List StoredFacet) (set : IsIdSet pts ids) (z : IsFinished (place pts) ids (surface_of fs))
     (qs : List (List ℕ)) (faces : AreFacetFaces (place pts) (Members ids) fs qs) where

@@ -1,15 +1,14 @@
 -- The number of edges of one polygon: 0 for a point, 1 for a segment, otherwise 1 for each member.
-use Rattle.qh_model.proofs.Common.{◌≡◌, ◌≢◌, ℕ, suc, ◌<◌, [], ◌∷◌, ◌++◌, List, length, arith, inl, false, max, min, subst, sym, ◌⊎◌, common_steps, list_any}
-use Rattle.qh_model.proofs.Common.{◌==◌, ◌&&◌, edge_count, pairs_along, IsEdgeCount, In, Once}
-use Rattle.qh_model.specs.headline.Fan.{count_pairs}
 use Rattle.qh_bodies.specs.contract.ApartPolygons.{HasThree, HasThree.three}
-use Rattle.qh_model.proofs.polygons.EdgeCounts.{edges_are_counted}
+use Rattle.qh_model.proofs.Common.{◌≡◌, ◌≢◌, ℕ, suc, ◌<◌, [], ◌∷◌, ◌++◌, List, length, arith}
+use Rattle.qh_model.proofs.Common.{inl, false, max, min, subst, sym, ◌⊎◌, common_steps, list_any, ◌==◌, ◌&&◌, edge_count, pairs_along, IsEdgeCount, In, Once}
+use Rattle.qh_model.{proofs.polygons.EdgeCounts.edges_are_counted, specs.headline.Fan.count_pairs}
 
 -- a pair with an id that is not on the path is not a pair of the path
 unlisted : (x u v t : ℕ) (r : List ℕ) (e : ℕ) → (u ≡ x) ⊎ (v ≡ x) → ¬ (In x (t ∷ r)) → x ≢ e
     → list_any (λ p. (p.0 == u) && (p.1 == v)) (pairs_along t r e ++ []) ≡ false
 unlisted x u v t [] e h n d = grind (arith, common_steps, h, n, d)
-unlisted x u v t (w ∷ r) e h n d = let rest = unlisted x u v w r e h in grind (arith, common_steps, h, n, d, rest)
+unlisted x u v t (w ∷ r) e h n d = grind (arith, common_steps, h, n, d, unlisted x u v w r e h)
 
 -- the lower or the higher of two ids is the first or the second
 lower_or_higher : (a b : ℕ) → ((min a b ≡ a) ⊎ (max a b ≡ a)) × ((min a b ≡ b) ⊎ (max a b ≡ b))
@@ -20,7 +19,7 @@ way_count : (t : ℕ) (r : List ℕ) (e : ℕ) → Once (t ∷ r) → ¬ (In e (
 way_count t [] e o n = grind (arith, common_steps, n)
 way_count t (w ∷ r) e o n =
     let rest = unlisted t _ _ w r e (lower_or_higher t w).0 o.0 (λ q. n (inl (sym q))) in
-    let more = way_count w r e in grind (arith, common_steps, o, n, rest, more)
+    grind (arith, common_steps, o, n, rest, way_count w r e)
 
 counted : (q : List ℕ) (n : ℕ) → edge_count (q ∷ []) ≡ n → IsEdgeCount (q ∷ []) n
 counted q n e = subst (IsEdgeCount (q ∷ [])) e (edges_are_counted (q ∷ []))

@@ -1,15 +1,13 @@
 -- A set in one line: its extreme ids are the first and the last along the line.
-use Rattle.qh_model.proofs.Common.{◌≡◌, ◌≢◌, ℕ, [], ◌∷◌, ap, arith, inl, inr, refl, sym, subst, ◌∙◌, ◌⊎◌, ⊎_elim, ne_of_lt, ints, by_lt_z, ℤ, pos, ◌-ℤ◌, ◌*ℤ◌}
-use Rattle.qh_model.proofs.Common.{neg_ℤ, ◌≤ℤ◌, ◌<ℤ◌, ◌↔◌, List, IsIdSet, Extreme, Others, cross, place, In, Members, Vector, minus, cross_product, dot}
-use Rattle.qh_model.proofs.{Members.in_at, extremes.Directions.square-positive}
-use Rattle.qh_model.proofs.algebra.{Order.le_less, Order.mul-pos, Order.mul-nonneg_nonpos, Order.mul-nonpos_nonneg, Ring.ring}
-use Rattle.qh_model.proofs.algebra.Signs.{equal_le, gap_positive, less_le, lt_neg, neg_le, not_less}
-use Rattle.qh_model.proofs.algebra.VectorIdentities.{vec, subE, crossE, dotE, put, combine3, dot-minus}
+use Rattle.{qh_model.proofs.Members.in_at, qh_model.proofs.algebra.Ring.ring, qh_polygon.proofs.ShapeIds.first_two_in}
+use Rattle.{qh_block.specs.steps.Segments.IsFirstAlong, qh_polygon.proofs.LinesAndPlanes.same_point, qh_model.proofs.extremes.Directions.square-positive}
 use Rattle.qh_model.proofs.{combinations.Alternatives.combination_or_separator, extremes.ExtremeIds.combination_within, extremes.ExtremeIds.greatest_is_extreme}
-use Rattle.qh_model.proofs.algebra.Ring.Expr.{add, sub as less, mul, neg}
-use Rattle.qh_polygon.proofs.{LinesAndPlanes.same_point, ShapeIds.first_two_in}
 use Rattle.qh_polygon.specs.contract.Shapes.{IsInLine, Each, AreFirstTwo}
-use Rattle.qh_block.specs.steps.Segments.{IsFirstAlong}
+use Rattle.qh_model.proofs.algebra.{Ring.Expr.add, Ring.Expr.sub as less, Ring.Expr.mul, Ring.Expr.neg, Order.le_less, Order.mul-pos, Order.mul-nonneg_nonpos}
+use Rattle.qh_model.proofs.algebra.{Order.mul-nonpos_nonneg, Signs.equal_le, Signs.gap_positive, Signs.less_le, Signs.lt_neg, Signs.neg_le, Signs.not_less}
+use Rattle.qh_model.proofs.algebra.VectorIdentities.{vec, subE, crossE, dotE, put, combine3, dot-minus}
+use Rattle.qh_model.proofs.Common.{◌≡◌, ◌≢◌, ℕ, [], ◌∷◌, ap, arith, inl, inr, refl, sym, subst, ◌∙◌, ◌⊎◌, ⊎_elim, ne_of_lt, ints, by_lt_z, ℤ, pos, ◌-ℤ◌}
+use Rattle.qh_model.proofs.Common.{◌*ℤ◌, neg_ℤ, ◌≤ℤ◌, ◌<ℤ◌, ◌↔◌, List, IsIdSet, Extreme, Others, cross, place, In, Members, Vector, minus, cross_product, dot}
 
 -- ---- scalar products along a line
 -- the scalar product of any w with a difference of points in a line along d
@@ -20,10 +18,8 @@ seen_along d w i a b e =
     let N = crossE D W in let P = crossE D (subE A I) in let Q = crossE D (subE B I) in
     let n = cross_product d w in let p = cross_product d (minus a i) in let q = cross_product d (minus b i) in
     combine3 (dot d d *ℤ (dot w a -ℤ dot w b)) ((dot d a -ℤ dot d b) *ℤ dot w d) n.x p.x q.x n.y p.y q.y n.z p.z q.z
-    (ring (put d (put w (put i (put a (put b [])))))
-    (less (mul (dotE D D) (less (dotE W A) (dotE W B))) (mul (less (dotE D A) (dotE D B)) (dotE W D)))
-    (add (add (mul N.x (less P.x Q.x)) (mul N.y (less P.y Q.y))) (mul N.z (less P.z Q.z))) refl)
-    (ap (λ v. v.x) e) (ap (λ v. v.y) e) (ap (λ v. v.z) e)
+    (ring (put d (put w (put i (put a (put b []))))) (less (mul (dotE D D) (less (dotE W A) (dotE W B))) (mul (less (dotE D A) (dotE D B)) (dotE W D)))
+    (add (add (mul N.x (less P.x Q.x)) (mul N.y (less P.y Q.y))) (mul N.z (less P.z Q.z))) refl) (ap (λ v. v.x) e) (ap (λ v. v.y) e) (ap (λ v. v.z) e)
 
 -- the scalar product of w with l, between a and b, is not above both others; t is the position and s the square
 not_above : (s wa wl wb ta tl tb r : ℤ) → pos 0 <ℤ s → s *ℤ (wl -ℤ wa) ≡ (tl -ℤ ta) *ℤ r → s *ℤ (wl -ℤ wb) ≡ (tl -ℤ tb) *ℤ r
@@ -95,12 +91,11 @@ module _ (pts : List Vector) (ids : List ℕ) (i j e g : ℕ) (two : AreFirstTwo
 
   most : (k : ℕ) → In k ids → far k ≤ℤ far g
   most k m =
-      let d = minus (at i) (at j) in
-      neg_le _ _ (far g) (far k) (back (at i) (at j) (at g)) (back (at i) (at j) (at k)) (later d (at j) (at g) (at k) (last.first k m))
+      neg_le _ _ (far g) (far k) (back (at i) (at j) (at g)) (back (at i) (at j) (at k)) (later (minus (at i) (at j)) (at j) (at g) (at k) (last.first k m))
 
   -- the first and the last differ
   pub ends_differ : e ≢ g
-  ends_differ h = let same = ap far h in omega (arith, ints, least i has.0, ahead way (at i) (at j) long, most j has.1, same)
+  ends_differ h = omega (arith, ints, least i has.0, ahead way (at i) (at j) long, most j has.1, ap far h)
 
   -- the first and the last are extreme, as the greatest along the line or in the opposite direction
   last_extreme : IsEnd g
@@ -116,7 +111,7 @@ module _ (pts : List Vector) (ids : List ℕ) (i j e g : ℕ) (two : AreFirstTwo
   only l x = grind (arith, neither)
     where
       others : ¬ (l ≡ e) → ¬ (l ≡ g) → (a : ℕ) → In a (e ∷ g ∷ []) → Others (Members ids) l a
-      others n k a h = let p = first.member in let q = last.member in (grind (arith, h, p, q), λ d. grind (arith, h, d, n, k))
+      others n k a h = (grind (arith, h, first.member, last.member), λ d. grind (arith, h, d, n, k))
 
       neither : ¬ (l ≡ e) → ¬ (l ≡ g) → ⊥
       neither n k =

@@ -5,10 +5,8 @@ use Rattle.qh_model.proofs.{Members.In-get_or, Members.in_at, extremes.Dimension
 use Rattle.qh_model.proofs.algebra.VectorIdentities.{vector_path, in_line-twice, opposite, in_line-last}
 use Rattle.qh_model.proofs.extremes.ExtremeIds.{listed_itself, combination_of_extremes, combination_within}
 use Rattle.qh_polygon.specs.contract.{PlanarSets.IsPlanarSet, Shapes.IsInLine, Shapes.IsInPlane, Shapes.Each, Shapes.IsFirstNot, Shapes.AreFirstTwo}
-use Rattle.qh_bodies.specs.contract.ApartPolygons.{HasThree, HasThree.three}
-use Rattle.qh_block.specs.steps.FlatBodies.{IsFlatBody}
-use Rattle.qh_polygon.proofs.ShapeIds.{first_two_in}
-use Rattle.qh_block.proofs.flats.{Bodies.flat_is_body, Edges.edges_round}
+use Rattle.{qh_bodies.specs.contract.ApartPolygons.HasThree, qh_bodies.specs.contract.ApartPolygons.HasThree.three, qh_block.specs.steps.FlatBodies.IsFlatBody}
+use Rattle.{qh_polygon.proofs.ShapeIds.first_two_in, qh_block.proofs.flats.Bodies.flat_is_body, qh_block.proofs.flats.Edges.edges_round}
 
 -- corners that are not in line differ
 pub corners_differ : (at : ℕ → Vector) (i j k : ℕ) → ¬ (AreInLine (at i) (at j) (at k)) → (i ≢ j) × (j ≢ k) × (i ≢ k)
@@ -22,13 +20,12 @@ corners_differ at i j k area = (
 pub three_members : (at : ℕ → Vector) (q : List ℕ) (i j k : ℕ) → In i q → In j q → In k q → ¬ (AreInLine (at i) (at j) (at k)) → HasThree q
 three_members at [] i j k a b c area = absurd a
 three_members at (x ∷ []) i j k a b c area = absurd (let d = corners_differ at i j k area in grind (arith, d, a, b))
-three_members at (x ∷ y ∷ []) i j k a b c area = absurd (let d = corners_differ at i j k area in grind (arith, d, a, b, c))
+three_members at (x ∷ y ∷ []) i j k a b c area = absurd (grind (arith, corners_differ at i j k area, a, b, c))
 three_members at (x ∷ y ∷ z ∷ xs) i j k a b c area = three x y z xs
 
 -- the opposite of a normal is that of the reversed triangle
 opposite_is : (a b c : Vector) → minus origin (cross a b c) ≡ cross a c b
-opposite_is a b c =
-    vector_path _ (opposite (cross a b c)) (omega (arith, ints)) (omega (arith, ints)) (omega (arith, ints)) ∙ sym (cross-flip a b c)
+opposite_is a b c = vector_path _ (opposite (cross a b c)) (omega (arith, ints)) (omega (arith, ints)) (omega (arith, ints)) ∙ sym (cross-flip a b c)
 
 -- the set of a shape in one plane
 pub planar : (pts : List Vector) (ids : List ℕ) (i j k : ℕ) (n : Vector) → AreFirstTwo ids i j → IsFirstNot (IsInLine pts i j) ids k
@@ -81,5 +78,4 @@ module _ (pts : List Vector) (ids : List ℕ) (n : Vector) (s : IsPlanarSet pts 
 
   -- so the polygon is the hull
   pub polygon_is_body : (b : BodyValue) → IsDimension at (Members ids) 2 → IsFlatBody 2 q (length q) b → IsBody at (Members ids) b
-  polygon_is_body b d h =
-      flat_is_body pts ids b 2 q (length q) h d p.members (inr (inl (refl, (q, flat_face, refl)))) (edges_round q at_least p.once)
+  polygon_is_body b d h = flat_is_body pts ids b 2 q (length q) h d p.members (inr (inl (refl, (q, flat_face, refl)))) (edges_round q at_least p.once)

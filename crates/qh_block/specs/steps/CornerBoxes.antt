@@ -1,8 +1,7 @@
 -- Boxes between points of a set that lie furthest along the diagonals of space. This project's own.
 use Rattle.std.specs.Prelude.{ℕ, List, true, false}
-use Rattle.qh_model.specs.headline.Vector.{Vector}
-use Rattle.qh_block.specs.{contract.CornerBoxes.IsOutward, contract.CornerBoxes.IsPointOf, declared.regions.bounds.Bounds.Bounds}
-use Rattle.qh_block.specs.declared.regions.corner_box.Diagonals.{Diagonals}
+use Rattle.{qh_model.specs.headline.Vector.Vector, qh_block.specs.contract.CornerBoxes.IsOutward, qh_block.specs.contract.CornerBoxes.IsPointOf}
+use Rattle.qh_block.specs.declared.regions.{bounds.Bounds.Bounds, corner_box.Diagonals.Diagonals}
 
 -- two points of the set
 abbrev pub AreEndsOf : List Vector → List ℕ → Vector → Vector → Type 0

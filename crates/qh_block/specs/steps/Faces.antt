@@ -1,11 +1,9 @@
 -- The faces of a solid, gathered plane by plane from the facets of its finished mesh.
-use Rattle.std.specs.List.{flat_map}
+use Rattle.{qh_bodies.specs.contract.ApartPolygons.AreApart, qh_mesh.specs.contract.Replacement.IsLive}
+use Rattle.qh_model.specs.contract.StoredSurface.{StoredFacet, facet_at, surface_of}
+use Rattle.qh_model.specs.{contract.Surface.IsCorner, headline.Polygons.IsFacePolygon, headline.Sets.In, headline.Vector.Vector, laws.FacetPlanes.IsLevelFacet}
+use Rattle.{qh_surface.specs.contract.Walks.mark_at, std.specs.List.flat_map}
 use Rattle.std.specs.Prelude.{◌≡◌, ◌⊎◌, ℕ, List, [], ◌∷◌, Bool, true, nat_lt, ◌&&◌, if◌then◌else◌}
-use Rattle.qh_model.specs.contract.{Surface.IsCorner, StoredSurface.StoredFacet, StoredSurface.facet_at, StoredSurface.surface_of}
-use Rattle.qh_model.specs.{headline.Vector.Vector, headline.Sets.In, headline.Polygons.IsFacePolygon, laws.FacetPlanes.IsLevelFacet}
-use Rattle.qh_mesh.specs.contract.Replacement.{IsLive}
-use Rattle.qh_surface.specs.contract.Walks.{mark_at}
-use Rattle.qh_bodies.specs.contract.ApartPolygons.{AreApart}
 
 -- the corners of a facet, and of the listed facets in order
 abbrev pub three_of : List StoredFacet → ℕ → List ℕ

@@ -1,8 +1,6 @@
 -- The right results for a set of ids of a list of points, if the ids rise and have distinct points.
-use Rattle.std.specs.Prelude.{ℕ, List}
-use Rattle.qh_model.specs.{contract.IdSets.IsIdSet, headline.Hull.AreExtremes, headline.Hull.BodyValue, headline.Hull.IsBody, headline.Predicates.place}
-use Rattle.qh_model.specs.headline.Sets.{Members}
-use Rattle.qh_block.specs.declared.regions.id_set.IdSet.{IdSet}
+use Rattle.{std.specs.Prelude.ℕ, std.specs.Prelude.List, qh_model.specs.contract.IdSets.IsIdSet, qh_block.specs.declared.regions.id_set.IdSet.IdSet}
+use Rattle.qh_model.specs.headline.{Hull.AreExtremes, Hull.BodyValue, Hull.IsBody, Predicates.place, Sets.Members}
 
 -- the extreme ids of the set
 abbrev pub AreExtremesOf : IdSet → List ℕ → Type 0

@@ -1,11 +1,9 @@
 -- Points that a filter finds inside a set: in cells of space, below all planes of the hull of a sample of the set.
-use Rattle.std.specs.Prelude.{◌<ℤ◌, ℕ, List, pos}
-use Rattle.std.specs.List.Sorted.{IsStrictlyIncreasing}
-use Rattle.qh_model.specs.{contract.Places.IsPlace, contract.StoredSurface.StoredFacet, headline.Vector.Vector, headline.Predicates.place, headline.Sets.In}
-use Rattle.qh_model.specs.laws.HullLaws.{HasExtremes}
-use Rattle.qh_pred.specs.contract.Planes.{PlaneValue, height}
 use Rattle.qh_block.specs.{contract.Cells.HoldsPoint, contract.KeptIds.HasNoExtreme, declared.regions.columns.Columns.Columns}
-use Rattle.qh_mesh.specs.contract.{Replacement.IsLive, SoundMesh.facet_vol}
+use Rattle.{qh_mesh.specs.contract.Replacement.IsLive, qh_mesh.specs.contract.SoundMesh.facet_vol, qh_model.specs.contract.Places.IsPlace}
+use Rattle.qh_model.specs.{contract.StoredSurface.StoredFacet, headline.Predicates.place, headline.Sets.In, headline.Vector.Vector, laws.HullLaws.HasExtremes}
+use Rattle.qh_pred.specs.contract.Planes.{PlaneValue, height}
+use Rattle.std.specs.{List.Sorted.IsStrictlyIncreasing, Prelude.◌<ℤ◌, Prelude.ℕ, Prelude.List, Prelude.pos}
 
 -- each point that is strictly below a plane is strictly below that of facet f
 abbrev pub IsUnderFacet : List Vector → List StoredFacet → ℕ → PlaneValue → Type 0

@@ -1,9 +1,8 @@
 -- Pieces of the faces of a hull.
-use Rattle.std.specs.Prelude.{ℕ, ◌<◌, List, [], IsTrue, length, slice_index_or}
-use Rattle.std.specs.Ordering.{is_gt}
-use Rattle.qh_model.specs.headline.{Vector.Vector, Predicates.place, Predicates.cross}
-use Rattle.qh_pred.specs.contract.Turns.{sign, first_product}
 use Rattle.qh_check.specs.contract.Pieces.{BeginsWith, IsMetRound}
+use Rattle.qh_model.specs.headline.{Predicates.place, Predicates.cross, Vector.Vector}
+use Rattle.{qh_pred.specs.contract.Turns.sign, qh_pred.specs.contract.Turns.first_product, std.specs.Ordering.is_gt}
+use Rattle.std.specs.Prelude.{ℕ, ◌<◌, List, [], IsTrue, length, slice_index_or}
 
 -- the first three corners of q turn left in the plane of those of the face, as one component of its normal shows
 pub record TurnsAlike (pts : List Vector) (face q : List ℕ) : Type 0 where

@@ -1,7 +1,6 @@
 -- The matrix and the shift of the rows of a map of the program.
-use Rattle.std.specs.Prelude.{ℤ, pos, ◌*ℤ◌, ◌-ℤ◌}
-use Rattle.qh_model.specs.headline.Vector.{Vector, dot}
-use Rattle.qh_lattice.specs.{contract.LatticeMaps.Matrix, declared.row.Row.Row}
+use Rattle.{std.specs.Prelude.ℤ, std.specs.Prelude.pos, std.specs.Prelude.◌*ℤ◌, std.specs.Prelude.◌-ℤ◌, qh_model.specs.headline.Vector.Vector}
+use Rattle.{qh_model.specs.headline.Vector.dot, qh_lattice.specs.contract.LatticeMaps.Matrix, qh_lattice.specs.declared.row.Row.Row}
 
 -- a vector multiplied by a factor
 abbrev pub times : ℤ → Vector → Vector

@@ -1,11 +1,9 @@
 -- The condition on a part, for one other part.
 -- This project's own.
+use Rattle.{qh_laws.specs.contract.Seam.IsSeam, qh_model.specs.contract.StoredSurface.surface_of}
+use Rattle.qh_model.specs.headline.{Predicates.place, Sets.Members, Vector.Vector}
+use Rattle.{qh_parts.specs.steps.Witnesses.IsRingOver, qh_parts_join.specs.declared.parts.Part.Part, qh_surface.specs.contract.NamedMeshes.named}
 use Rattle.std.specs.Prelude.{ℕ, List, Bool}
-use Rattle.qh_model.specs.{contract.StoredSurface.surface_of, headline.Vector.Vector, headline.Predicates.place, headline.Sets.Members}
-use Rattle.qh_surface.specs.contract.NamedMeshes.{named}
-use Rattle.qh_laws.specs.contract.Seam.{IsSeam}
-use Rattle.qh_parts_join.specs.declared.parts.Part.{Part}
-use Rattle.qh_parts.specs.steps.Witnesses.{IsRingOver}
 
 -- the facets that stay have a seam to the other ids, which are strictly below the ring
 pub record IsApart (pts : List Vector) (p : Part) (stay : ℕ → Bool) (others : List ℕ) : Type 0 where

@@ -1,8 +1,7 @@
 -- The ids that are kept of a set in parts.
 -- This project's own.
-use Rattle.std.specs.{Prelude.ℕ, Prelude.List, List.All, List.flat_map}
-use Rattle.qh_model.specs.headline.{Vector.Vector, Predicates.place, Sets.In}
-use Rattle.qh_laws.specs.contract.Parts.{AreKept}
+use Rattle.{std.specs.Prelude.ℕ, std.specs.Prelude.List, std.specs.List.All, std.specs.List.flat_map, qh_model.specs.headline.Vector.Vector}
+use Rattle.{qh_model.specs.headline.Predicates.place, qh_model.specs.headline.Sets.In, qh_laws.specs.contract.Parts.AreKept}
 use Rattle.qh_parts_join.specs.{contract.Parts.ids_in, contract.Parts.IsPartOf, contract.Parts.KeepsCorners, declared.parts.Part.Part}
 
 -- the parts' ids are in the set, and their corners have its hull

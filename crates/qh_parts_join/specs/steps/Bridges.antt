@@ -1,10 +1,8 @@
 -- Polygons that are faces of the kept ids of a set.
 -- This project's own.
-use Rattle.std.specs.Prelude.{ℕ, List}
-use Rattle.qh_model.specs.{contract.ClosedPolygons.IsFace, contract.IdSets.HasDistinctPoints, headline.Vector.Vector, headline.Predicates.place}
-use Rattle.qh_model.specs.headline.Sets.{Members}
-use Rattle.qh_places.specs.declared.places.Places.{Places}
-use Rattle.qh_parts_join.specs.{contract.Kept.AreHeld, declared.join.near_parts.NearPart.NearPart}
+use Rattle.qh_model.specs.{contract.ClosedPolygons.IsFace, contract.IdSets.HasDistinctPoints, headline.Predicates.place, headline.Sets.Members}
+use Rattle.{qh_model.specs.headline.Vector.Vector, qh_parts_join.specs.contract.Kept.AreHeld, qh_parts_join.specs.declared.join.near_parts.NearPart.NearPart}
+use Rattle.{qh_places.specs.declared.places.Places.Places, std.specs.Prelude.ℕ, std.specs.Prelude.List}
 
 -- the places near planes
 abbrev pub places_in : NearPart → Places

@@ -1,8 +1,7 @@
 -- Boxes around points.
 use Rattle.std.specs.Prelude.{ℕ, ◌<◌, ◌≤◌, List, length, slice_index_or}
 use Rattle.qh_model.specs.headline.Vector.{Vector, origin}
-use Rattle.qh_pred.specs.contract.Corners.{IsInBox}
-use Rattle.qh_places.specs.declared.boxes.PointBox.{PointBox}
+use Rattle.{qh_pred.specs.contract.Corners.IsInBox, qh_places.specs.declared.boxes.PointBox.PointBox}
 
 -- a point between two opposite corners of a box
 abbrev pub IsWithin : PointBox → Vector → Type 0

@@ -1,8 +1,6 @@
 -- Slots for the places of a small box or of a line. Only private functions cite them.
 use Rattle.std.specs.Prelude.{ℕ, ◌+◌, ◌-◌, ◌*◌, ◌%◌, ◌^◌}
-use Rattle.qh_model.specs.headline.Vector.{Vector}
-use Rattle.qh_plane.specs.declared.close_points.CloseBox.{CloseBox}
-use Rattle.qh_polygon.specs.contract.PlaceNumbers.{biased}
+use Rattle.{qh_model.specs.headline.Vector.Vector, qh_plane.specs.declared.close_points.CloseBox.CloseBox, qh_polygon.specs.contract.PlaceNumbers.biased}
 
 -- the slot of a point, computed with numbers of 64 bits for any box
 abbrev pub slot_of : CloseBox → Vector → ℕ

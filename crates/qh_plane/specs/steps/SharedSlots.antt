@@ -1,9 +1,8 @@
 -- Slots of a table for hashes. Only private functions cite them.
 -- This project's own.
-use Rattle.std.specs.Prelude.{ℕ, ◌≡◌, ◌*◌, ◌/◌, ◌<◌, ◌≤◌, List, Bool, true, false, length, slice_index_or}
-use Rattle.qh_model.specs.headline.Vector.{Vector}
+use Rattle.{qh_model.specs.headline.Vector.Vector, qh_plane.specs.steps.HashedKeys.Hashes, qh_plane.specs.steps.HashedKeys.hash_at}
 use Rattle.qh_plane.specs.declared.hashed_keys.TheConstants.{ID_ROOM, NO_HASH}
-use Rattle.qh_plane.specs.steps.HashedKeys.{Hashes, hash_at}
+use Rattle.std.specs.Prelude.{ℕ, ◌≡◌, ◌*◌, ◌/◌, ◌<◌, ◌≤◌, List, Bool, true, false, length, slice_index_or}
 
 -- the slot of a hash in a table with a number of slots
 abbrev pub slot_in : ℕ → ℕ → ℕ

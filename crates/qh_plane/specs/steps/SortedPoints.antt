@@ -1,7 +1,6 @@
 -- Points in the order of their places, or in reverse. Only private functions cite it.
 use Rattle.std.specs.Prelude.{ℕ, ◌≢◌, ◌+◌, ◌<◌, List, length}
-use Rattle.qh_model.specs.headline.{Predicates.place, Vector.Vector}
-use Rattle.qh_plane.specs.steps.HashedKeys.{place_number}
+use Rattle.{qh_model.specs.headline.Predicates.place, qh_model.specs.headline.Vector.Vector, qh_plane.specs.steps.HashedKeys.place_number}
 
 -- the number of each place is above that of the place before
 abbrev pub NumbersRise : List Vector → Type 0

@@ -1,9 +1,8 @@
 -- The words in bytes that are read one at a time, as numbers.
 use Rattle.std.specs.Prelude.{ℕ, ◌≡◌, ◌≤◌, ◌+◌, ◌==◌, ◌||◌, Bool, true, false, List, [], ◌∷◌, ◌++◌, length, if◌then◌else◌, Option, Some, None}
-use Rattle.std.specs.Option.{option_to_list}
-use Rattle.qh_model.specs.{declared.limits.TheConstants.BYTE_LIMIT, headline.Words.is_blank}
-use Rattle.qh_read.specs.{contract.Tokens.grown, contract.Tokens.value_of, contract.Numerals.small_number, declared.numerals.Numeral.Numeral}
-use Rattle.qh_read.specs.declared.{numerals.Numerals.TheInside.Inside, token.Token.Token, token.Token.TheVariants.Empty}
+use Rattle.{std.specs.Option.option_to_list, qh_model.specs.declared.limits.TheConstants.BYTE_LIMIT, qh_model.specs.headline.Words.is_blank}
+use Rattle.qh_read.specs.contract.{Tokens.grown, Tokens.value_of, Numerals.small_number}
+use Rattle.qh_read.specs.declared.{numerals.Numeral.Numeral, numerals.Numerals.TheInside.Inside, token.Token.Token, token.Token.TheVariants.Empty}
 
 -- the word that ends here, as a number
 abbrev pub told : Token → ℕ → Numeral

@@ -1,11 +1,10 @@
 -- Whole numbers that are parsed as a whole.
-use Rattle.std.specs.Prelude.{ℕ, ℤ, ◌≡◌, ◌+◌, ◌*◌, ◌++◌, Bool, false, List, Some, length}
-use Rattle.qh_model.specs.{declared.form.Form.Form, headline.Vector.Vector, headline.PointFile.coordinates}
+use Rattle.qh_model.specs.{declared.form.Form.Form, headline.PointFile.coordinates, headline.Vector.Vector}
 use Rattle.qh_read.specs.contract.{Holding.Held, Holding.held_by, Holding.next_held, Progress.Progress, Progress.wants, Progress.after, Tokens.signed}
-use Rattle.qh_read.specs.declared.builder.{Stage.Stage, Trailing.Trailing, Builder.Builder}
-use Rattle.qh_read.specs.steps.Stages.{stage_shown, is_header, HasTextFault}
+use Rattle.qh_read.specs.declared.{builder.Builder.Builder, builder.Stage.Stage, builder.Trailing.Trailing, token.Token.Token, token.Token.TheVariants.Empty}
+use Rattle.qh_read.specs.{declared.token.Token.TheVariants.Digits, steps.Stages.stage_shown, steps.Stages.is_header, steps.Stages.HasTextFault}
+use Rattle.std.specs.Prelude.{ℕ, ℤ, ◌≡◌, ◌+◌, ◌*◌, ◌++◌, Bool, false, List, Some, length}
 use Rattle.qh_read.specs.declared.builder.Pending.TheVariants as pendings
-use Rattle.qh_read.specs.declared.token.Token.{Token, TheVariants.Empty, TheVariants.Digits}
 
 -- the state outside comments
 abbrev pub quiet : Form → Progress → ℕ → Token → Held

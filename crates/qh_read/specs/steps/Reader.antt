@@ -1,8 +1,6 @@
 -- The state of a reader, and its invariant.
-use Rattle.std.specs.Prelude.{◌≤◌, ◌+◌}
-use Rattle.qh_model.specs.declared.limits.TheConstants.{BYTE_LIMIT}
-use Rattle.qh_read.specs.{contract.Holding.Reading, declared.reader.Reader.TheInside.Inside, steps.SmallTokens.IsSmall}
-use Rattle.qh_read.specs.steps.Scanning.{held, HasRoom}
+use Rattle.{std.specs.Prelude.◌≤◌, std.specs.Prelude.◌+◌, qh_model.specs.declared.limits.TheConstants.BYTE_LIMIT, qh_read.specs.contract.Holding.Reading}
+use Rattle.qh_read.specs.{declared.reader.Reader.TheInside.Inside, steps.SmallTokens.IsSmall, steps.Scanning.held, steps.Scanning.HasRoom}
 
 abbrev pub reading_shown : Inside → Reading
 reading_shown r = record { held = held r.scanner r.token; count = r.count }

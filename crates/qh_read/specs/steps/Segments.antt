@@ -1,7 +1,6 @@
 -- Segments of bytes that are parsed in parallel, and batches of them.
 use Rattle.std.specs.Prelude.{ℕ, ◌≡◌, ◌≤◌, ◌<◌, ◌+◌, ◌*◌, ◌/◌, ◌++◌, List, Option, drop, take, length, vec_len, slice_index_or}
-use Rattle.std.specs.Io.KnownBytes.{Consumes}
-use Rattle.qh_model.specs.declared.{form.Form.Form, limits.TheConstants.BYTE_LIMIT}
+use Rattle.{std.specs.Io.KnownBytes.Consumes, qh_model.specs.declared.form.Form.Form, qh_model.specs.declared.limits.TheConstants.BYTE_LIMIT}
 use Rattle.qh_read.specs.{contract.Holding.Reading, contract.Holding.Fed, declared.batch.Batch.Batch, declared.segment.Segment.Segment, steps.Numbers.ArePoints}
 
 -- the points of these bytes, if a point begins after the first line

@@ -1,10 +1,9 @@
 -- The bytes that a reader takes from a source in a part of the reading, and the reasons why it stops.
-use Rattle.std.specs.Prelude.{ℕ, ◌≡◌, ◌≢◌, ◌≤◌, ◌<◌, ◌+◌, ◌++◌, List, Option, length}
-use Rattle.std.specs.Io.KnownBytes.{Consumes}
 use Rattle.qh_model.specs.declared.{form.Form.Form, limits.TheConstants.BYTE_LIMIT, read_fault.ReadFault.ReadFault}
+use Rattle.qh_read.specs.contract.{Holding.Reading, Holding.Fed, ReadFaults.IsTextFault}
+use Rattle.{qh_read.specs.declared.whole.TheConstants.PIECE_LENGTH, qh_read.specs.headline.SourceBytes.Gives, std.specs.Io.KnownBytes.Consumes}
+use Rattle.std.specs.Prelude.{ℕ, ◌≡◌, ◌≢◌, ◌≤◌, ◌<◌, ◌+◌, ◌++◌, List, Option, length}
 use Rattle.qh_model.specs.declared.read_fault.ReadFault.TheVariants as faults
-use Rattle.qh_read.specs.{contract.Holding.Reading, contract.Holding.Fed, contract.ReadFaults.IsTextFault, declared.whole.TheConstants.PIECE_LENGTH}
-use Rattle.qh_read.specs.headline.SourceBytes.{Gives}
 
 -- the reader was fed the bytes that were read from the source
 pub record FedOn (before after : Reading) (old new : Option (List ℕ)) : Type 0 where

@@ -2,9 +2,8 @@
 use Rattle.std.specs.Prelude.{ℕ, ℤ, ◌≡◌, Bool, true, false, List, [], ◌∷◌, Option, Some, None}
 use Rattle.qh_model.specs.declared.read_fault.ReadFault.{ReadFault}
 use Rattle.qh_read.specs.contract.Progress.{Progress, wants_first, wants_second, wants, wants_keyword, wants_vertex_count, wants_face_count, wants_edge_count}
-use Rattle.qh_read.specs.{contract.Progress.fails, contract.ReadFaults.IsTextFault, declared.builder.Stage.Stage}
+use Rattle.qh_read.specs.{contract.Progress.fails, contract.ReadFaults.IsTextFault, declared.builder.Stage.Stage, declared.builder.Pending.Pending}
 use Rattle.qh_read.specs.declared.builder.Stage.TheVariants as stages
-use Rattle.qh_read.specs.declared.builder.Pending.{Pending}
 use Rattle.qh_read.specs.declared.builder.Pending.TheVariants as pendings
 
 -- a stage, with the coordinates so far

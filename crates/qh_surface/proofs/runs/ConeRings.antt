@@ -1,17 +1,14 @@
 -- The rings of large cones: the facts about their wedges, and the meaning of the results of a search.
+use Rattle.qh_mesh.proofs.{EdgeSides.edge-facet, EdgeSides.twin-is, NumberCases.by_le, Rewiring.in_live, Rewiring.rise-vol}
+use Rattle.qh_mesh.specs.contract.{Edges.edge_of, Edges.facet_of, Edges.twin_of, Replacement.IsLive, Replacement.IsReplacement, SoundMesh.facet_vol}
 use Rattle.qh_model.proofs.Common.{◌≡◌, ℕ, ◌<◌, All, slice_index, arith, ap, sym, ◌∙◌, refl, List, [], ◌∷◌, ◌++◌, length, inl, inr, ℤ, pos, ◌≤ℤ◌, ◌<ℤ◌, ints}
 use Rattle.qh_model.proofs.Common.{get_or_append_left, get_or_push, length_push, All-from_get_or, weighted_at, IsCorner, StoredFacet, facet_at, surface_of}
-use Rattle.qh_model.proofs.Common.{second, third, Vector, vol, place, In}
-use Rattle.qh_model.proofs.{Members.All-In, Members.All-of, Members.In-get_or, Members.in_at, surfaces.SurfaceLaws.corners_are_settled}
-use Rattle.qh_model.proofs.algebra.VectorIdentities.{vol-flip, vol-flip_last, vol-swap_last}
-use Rattle.qh_model.proofs.surfaces.ConeRays.{between_rays}
-use Rattle.qh_pred.specs.contract.Planes.{PlaneValue, height}
-use Rattle.qh_mesh.specs.contract.{Edges.edge_of, Edges.facet_of, Edges.twin_of, Replacement.IsLive, Replacement.IsReplacement, SoundMesh.facet_vol}
-use Rattle.qh_mesh.proofs.{EdgeSides.edge-facet, EdgeSides.twin-is, Rewiring.in_live, Rewiring.rise-vol, NumberCases.by_le}
-use Rattle.qh_surface.specs.{declared.quickhull.cone_ring.Wedge.Wedge, steps.Runs.IsPlaneOf, steps.Runs.IsGrown, steps.Settling.IsAboveNone}
-use Rattle.qh_surface.specs.steps.Planes.{plane_at}
+use Rattle.qh_model.proofs.{Common.second, Common.third, Common.Vector, Common.vol, Common.place, Common.In, Members.All-In, Members.All-of, Members.In-get_or}
+use Rattle.qh_model.proofs.{Members.in_at, algebra.VectorIdentities.vol-flip, algebra.VectorIdentities.vol-flip_last, algebra.VectorIdentities.vol-swap_last}
+use Rattle.qh_model.proofs.surfaces.{ConeRays.between_rays, SurfaceLaws.corners_are_settled}
+use Rattle.{qh_pred.specs.contract.Planes.PlaneValue, qh_pred.specs.contract.Planes.height, qh_surface.specs.declared.quickhull.cone_ring.Wedge.Wedge}
 use Rattle.qh_surface.specs.steps.Cones.{IsFan, apex_of, HasNoCornerAbove, no_wedge, wedge_at, IsWedge, AreWedges, AreTriangles, IsConePlane, IsBetweenRays}
-use Rattle.qh_surface.specs.steps.Cones.{IsAmongRays}
+use Rattle.qh_surface.specs.steps.{Cones.IsAmongRays, Planes.plane_at, Runs.IsPlaneOf, Runs.IsGrown, Settling.IsAboveNone}
 
 -- ---- the facets of a cone
 -- the neighbour across the second side is a new facet
@@ -86,15 +83,13 @@ module _ (pts : List Vector) (fs : List StoredFacet) (ps : List PlaneValue) (mad
 pub each_more : (P : Wedge → Type 0) (ws : List Wedge) (w : Wedge) → ((i : ℕ) → i < length ws → P (wedge_at ws i)) → P w
     → (i : ℕ) → i < length (ws ++ w ∷ []) → P (wedge_at (ws ++ w ∷ []) i)
 each_more P ws w k h i l = let n = length_push ws w in
-    by_le _ i (length ws) (λ m. rw (get_or_append_left ws (w ∷ []) no_wedge i m) (k i m))
-    (λ m. rw (get_or_push ws w no_wedge i (omega arith)) h)
+    by_le _ i (length ws) (λ m. rw (get_or_append_left ws (w ∷ []) no_wedge i m) (k i m)) (λ m. rw (get_or_push ws w no_wedge i (omega arith)) h)
 
 -- ---- the answers
 -- a point that the search finds between rays of the ring: the first ray, and the rays of two wedges v (the first) and w
 pub among : {a p : Vector} {ws : List Wedge} (i : ℕ) (v w : Wedge) (half : PlaneValue) → i < length ws
     → v ≡ wedge_at ws 0 → w ≡ wedge_at ws i → AreTriangles a ws → ((q : Vector) → height half q ≡ vol a v.from p q)
-    → height w.plane v.from <ℤ pos 0 → height w.plane p ≤ℤ pos 0
-    → pos 0 ≤ℤ height half w.from → height half w.to ≤ℤ pos 0 → IsAmongRays a ws p
+    → height w.plane v.from <ℤ pos 0 → height w.plane p ≤ℤ pos 0 → pos 0 ≤ℤ height half w.from → height half w.to ≤ℤ pos 0 → IsAmongRays a ws p
 among {a} {p} {ws} i v w half l ev ew t h s u f g =
     let triangle : (q : Vector) → height w.plane q ≡ vol a w.from w.to q = rw ew (t i l) in
     let own : IsBetweenRays a v.from w.from w.to p = record {

@@ -1,12 +1,10 @@
 -- From new facets to the next round, and from the last round to a finished surface.
-use Rattle.qh_model.proofs.Common.{All, ◌≡◌, ℕ, ◌<◌, ◌≤◌, sym, ◌∙◌, refl, inl, inr, List, [], ◌∷◌, length, subst, pos, ◌<ℤ◌, IsFinished, StoredFacet}
-use Rattle.qh_model.proofs.Common.{surface_of, signed_volume, triples_from, Vector, origin, place, In, range_with_len}
+use Rattle.qh_model.proofs.Common.{All, ◌≡◌, ℕ, ◌<◌, ◌≤◌, sym, ◌∙◌, refl, inl, inr, List, [], ◌∷◌, length, subst}
+use Rattle.qh_model.proofs.Common.{pos, ◌<ℤ◌, IsFinished, StoredFacet, surface_of, signed_volume, triples_from, Vector, origin, place, In, range_with_len}
 use Rattle.qh_model.proofs.{algebra.Signs.less_one_way, lists.Ranges.range_has, lists.Ranges.range_below}
-use Rattle.qh_pred.specs.contract.Planes.{PlaneValue}
-use Rattle.qh_mesh.specs.contract.SoundMesh.{IsClosedMesh}
-use Rattle.qh_mesh.proofs.Rewiring.{live_in}
-use Rattle.qh_surface.specs.{contract.OutsideSets.OutsideValue, contract.OutsideSets.set_of, steps.Planes.ArePlanes}
-use Rattle.qh_surface.specs.steps.Runs.{AreDone, IsGrown, RunState, IsUnderWay, IsSettling, IsRemade}
+use Rattle.{qh_pred.specs.contract.Planes.PlaneValue, qh_mesh.specs.contract.SoundMesh.IsClosedMesh, qh_mesh.proofs.Rewiring.live_in}
+use Rattle.qh_surface.specs.contract.OutsideSets.{OutsideValue, set_of}
+use Rattle.qh_surface.specs.steps.{Planes.ArePlanes, Runs.AreDone, Runs.IsGrown, Runs.RunState, Runs.IsUnderWay, Runs.IsSettling, Runs.IsRemade}
 
 -- after all orphans are settled and the facets with outside sets wait, the next round can begin
 pub next_round : {s : RunState} {ps : List PlaneValue} {w : OutsideValue} {made waiting : List ℕ} → IsRemade s made

@@ -1,13 +1,12 @@
 -- The start of a run: the facets of a simplex, with every position an orphan.
+use Rattle.qh_mesh.specs.contract.{Replacement.IsLive, SoundMesh.IsSoundMesh, SoundMesh.IsClosedMesh, SoundMesh.simplex_facets}
 use Rattle.qh_model.proofs.Common.{All, ◌≡◌, ◌≢◌, ℕ, zero, suc, ◌<◌, arith, sym, refl, inl, inr, List, [], ◌∷◌, length, subst, slice_index_or, pos, ◌<ℤ◌, ◌≤ℤ◌}
 use Rattle.qh_model.proofs.Common.{ints, by_lt_z, All-from_recursion, All-nil, range_with_len, weighted, middle_at, StoredFacet, facet_at, Vector, place, vol}
-use Rattle.qh_model.proofs.Common.{In}
-use Rattle.qh_model.proofs.{Members.All-In, Members.In-get_or, algebra.VectorIdentities.vol-flip_last, lists.Ranges.range_has, surfaces.Simplex.middle-turned}
-use Rattle.qh_polygon.proofs.ShapeIds.{first_two_in}
+use Rattle.qh_model.proofs.{Common.In, Members.All-In, Members.In-get_or, algebra.VectorIdentities.vol-flip_last, lists.Ranges.range_has}
+use Rattle.{qh_model.proofs.surfaces.Simplex.middle-turned, qh_polygon.proofs.ShapeIds.first_two_in}
 use Rattle.qh_polygon.specs.contract.Shapes.{IsInLine, IsInPlane, IsFirstNot, AreFirstTwo}
-use Rattle.qh_surface.specs.{contract.Simplexes.IsSimplexOf, steps.Runs.height_at, steps.Runs.IsGrown, steps.Runs.RunState, steps.Runs.IsRemade}
-use Rattle.qh_surface.specs.contract.OutsideSets.{set_of}
-use Rattle.qh_mesh.specs.contract.{Replacement.IsLive, SoundMesh.IsSoundMesh, SoundMesh.IsClosedMesh, SoundMesh.simplex_facets}
+use Rattle.qh_surface.specs.contract.{OutsideSets.set_of, Simplexes.IsSimplexOf}
+use Rattle.qh_surface.specs.steps.Runs.{height_at, IsGrown, RunState, IsRemade}
 
 -- the corners of facet f are below n
 abbrev CornersBelow : ℕ → List StoredFacet → ℕ → Type 0
@@ -81,7 +80,7 @@ module _ {pts : List Vector} {fs : List StoredFacet} {i j k l : ℕ} (h : IsFirs
   started = by_lt_z (pos 0) (vol (at i) (at j) (at k) (at l))
       (λ up. of_corners i k j l (h.up up) h.i_in h.k_in h.j_in h.l_in (omega (arith, ints, up, vol-flip_last (at i) (at j) (at k) (at l)))
       (subst (IsSoundMesh at fs) (sym (middle-turned (weighted (at i)) (weighted (at j)) (weighted (at k)) (weighted (at l)))) h.sound))
-      (λ low. let n = h.volume in let down : vol (at i) (at j) (at k) (at l) <ℤ pos 0 = omega (arith, ints, low, n) in
+      (λ low. let down : vol (at i) (at j) (at k) (at l) <ℤ pos 0 = omega (arith, ints, low, h.volume) in
       of_corners i j k l (h.down down) h.i_in h.j_in h.k_in h.l_in down h.sound)
 
 -- the mesh with all positions orphans is ready to be settled

@@ -1,16 +1,14 @@
 -- Ids of a run in another order, and by their positions.
+use Rattle.qh_mesh.specs.contract.{Names.name_in, Replacement.IsLive}
 use Rattle.qh_model.proofs.Common.{◌≡◌, ◌∙◌, ℕ, ◌<◌, List, [], ◌∷◌, length, map, ap, sym, subst, refl, inl, inr, false, arith, eqb, eq-eqb, slice_index}
 use Rattle.qh_model.proofs.Common.{IsPermutation, get_or-map, get_or_default, length-map, nat_tests, IsPermutation-sym, IsDistinct-IsPermutation, IsDistinct}
 use Rattle.qh_model.proofs.Common.{range_with_len, IsFinished, Surface, IsCorner, StoredFacet, named_facet, surface_of, AreIndices, Vector, origin, place, vol}
-use Rattle.qh_model.proofs.Common.{In, Once, Members}
+use Rattle.qh_model.proofs.{Common.In, Common.Once, Common.Members, Members.All-In, Members.All-of, Members.In-get_or, Members.every_of}
+use Rattle.qh_model.proofs.{Members.every_at, Members.in_permutation, lists.Ranges.range_below, surfaces.Inside.finished_over, surfaces.Named.IsNamed}
+use Rattle.{qh_model.proofs.surfaces.Named.stored_named, qh_model.proofs.surfaces.Stored.live_is_marked, qh_polygon.proofs.KeyOrder.eqb_flips}
+use Rattle.qh_surface.specs.{contract.Corners.AreCornersBelow, contract.Simplexes.IsSimplexOf, declared.starts.initial_simplex.Simplex.Simplex}
+use Rattle.qh_surface.specs.steps.Positions.{IsSimplexIn, IsPositionOf, ArePositionsOf}
 use Rattle.std.proofs.lemmas.Map.Keys.{IsDistinct-cons, IsDistinct-head, IsDistinct-tail}
-use Rattle.qh_model.proofs.Members.{All-In, All-of, In-get_or, every_of, every_at, in_permutation}
-use Rattle.qh_model.proofs.lists.Ranges.{range_below}
-use Rattle.qh_model.proofs.surfaces.{Inside.finished_over, Named.IsNamed, Named.stored_named, Stored.live_is_marked}
-use Rattle.qh_mesh.specs.contract.{Names.name_in, Replacement.IsLive}
-use Rattle.qh_surface.specs.{contract.Corners.AreCornersBelow, steps.Positions.IsSimplexIn, steps.Positions.IsPositionOf, steps.Positions.ArePositionsOf}
-use Rattle.qh_surface.specs.{contract.Simplexes.IsSimplexOf, declared.starts.initial_simplex.Simplex.Simplex}
-use Rattle.qh_polygon.proofs.KeyOrder.{eqb_flips}
 
 module _ {ids near : List ℕ} (p : IsPermutation ids near) where
   back : (i : ℕ) → Members near i → Members ids i
@@ -100,5 +98,4 @@ named_corners pts ids at fs a z = record {
     corner : (f c i : ℕ) → IsLive gs f → i ≡ name_in ids c → IsCorner (surface_of fs) f c → i < length pts
     corner f c i l e h =
         let b = range_below (length ids) c (z.corners f (was f l) c h) in
-        subst (λ n. n < length pts) (sym (e ∙ name_is ids c b))
-        (All-In (λ i. i < length pts) ids (slice_index ids c) a (In-get_or ids c 0 b))
+        subst (λ n. n < length pts) (sym (e ∙ name_is ids c b)) (All-In (λ i. i < length pts) ids (slice_index ids c) a (In-get_or ids c 0 b))

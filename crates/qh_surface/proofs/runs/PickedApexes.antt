@@ -1,12 +1,11 @@
 -- The next apex: facets without an outside set are skipped, and the first point of a set is removed from it.
-use Rattle.qh_model.proofs.Common.{◌≡◌, ℕ, ◌<◌, arith, ap, sym, ◌∙◌, true, ◌⊎◌, ⊎_elim, inl, inr, List, [], ◌∷◌, All, length, drop, subst, slice_set}
-use Rattle.qh_model.proofs.Common.{length-set, get_or-set_same, pos, ◌<ℤ◌, All-head, All-tail, All-permutation, In, IsPermutation}
+use Rattle.{qh_model.proofs.Members.in_permutation, qh_mesh.specs.contract.Replacement.IsLive}
 use Rattle.std.proofs.lemmas.List.{set-get_or, set-set}
-use Rattle.qh_mesh.specs.contract.Replacement.{IsLive}
 use Rattle.qh_surface.specs.contract.OutsideSets.{OutsideValue, set_of, joined}
-use Rattle.qh_surface.specs.steps.Runs.{height_at, IsDone, AreDone, IsOutside, AreOutside, RunState, with_waiting, with_first, IsUnderWay, IsPicked}
-use Rattle.qh_model.proofs.Members.{in_permutation}
 use Rattle.qh_surface.proofs.runs.SetWrites.{of_join, join_has, join_keeps, joined_front}
+use Rattle.qh_surface.specs.steps.Runs.{height_at, IsDone, AreDone, IsOutside, AreOutside, RunState, with_waiting, with_first, IsUnderWay, IsPicked}
+use Rattle.qh_model.proofs.Common.{◌≡◌, ℕ, ◌<◌, arith, ap, sym, ◌∙◌, true, ◌⊎◌, ⊎_elim, inl, inr, List, [], ◌∷◌, All, length}
+use Rattle.qh_model.proofs.Common.{drop, subst, slice_set, length-set, get_or-set_same, pos, ◌<ℤ◌, All-head, All-tail, All-permutation, In, IsPermutation}
 
 -- the sets without the first point of the set at f
 abbrev pub taken : OutsideValue → ℕ → OutsideValue
@@ -67,8 +66,7 @@ module _ {s : RunState} (k : IsUnderWay s) (rest : List ℕ) (f : ℕ) (is : IsP
       → IsPicked (with_waiting s (taken s.sets f) rest) f a
   picked {a} e l = record {
     apex = let h = k.positions in omega arith;
-    before = subst (λ (v : OutsideValue). IsUnderWay (with_waiting s v (f ∷ rest)))
-        (sym (put_back s.sets f a (All-head (λ g. g < length s.sets.sets) f rest range) e)) (with_pending (f ∷ rest) k range waits);
+    before = rw (put_back s.sets f a (All-head (λ g. g < length s.sets.sets) f rest range) e) (with_pending (f ∷ rest) k range waits);
   }
 
 -- the facts without the apex and its facet

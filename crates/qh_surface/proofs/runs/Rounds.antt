@@ -69,8 +69,7 @@ module _ {pts : List Vector} {old new : List StoredFacet} {vs made : List ℕ} {
         let r = d.rewired in let g = r.number f s in
         let t : IsTriangle m' g (start m f s) (end m f s) a = r.cone f s (record { live = i; seen = k; blind = b }) in
         let same : above (home (start m f s)) (home (end m f s)) (home a) (home q) ≡ facet_vol at new g (at q) =
-        rise_is_vol (at (start m f s)) (at (end m f s)) (at a) (at q)
-        ∙ sym (λ n. vol (at (t.i_is n)) (at (t.j_is n)) (at (t.k_is n)) (at q)) in
+        rise_is_vol (at (start m f s)) (at (end m f s)) (at a) (at q) ∙ sym (λ n. vol (at (t.i_is n)) (at (t.j_is n)) (at (t.k_is n)) (at q)) in
         subst (λ v. v ≤ℤ pos 0) (sym same) (elim (d.replaced.only g (live_in new g t.live)) [
           | inl x ↦ let c = inr (inr (sym t.k_is ∙ (d.replaced.kept g x).k_is)) in
               absurd (not_less _ _ r.seen (corners_are_settled m home o z.1 r.f0 g r.live (in_live old g x.live) a c))
@@ -95,8 +94,7 @@ module _ {pts : List Vector} {old new : List StoredFacet} {vs made : List ℕ} {
 
 -- so only the released points need a test
 pub remade : {s : RunState} {new : List StoredFacet} {w : OutsideValue} {vs made : List ℕ} {f a : ℕ} → IsPicked s f a
-    → IsRound s.points s.mesh new vs a made → AreReleased s.sets w vs → w.positions ≡ s.sets.positions
-    → length w.sets ≡ length s.sets.sets
+    → IsRound s.points s.mesh new vs a made → AreReleased s.sets w vs → w.positions ≡ s.sets.positions → length w.sets ≡ length s.sets.sets
     → IsRemade (record { points = s.points; mesh = new; planes = s.planes; sets = w; pending = s.pending }) made
 remade {s} {new} {w} {vs} {made} {f} {a} picked d rel e n = record {
   grown = record {

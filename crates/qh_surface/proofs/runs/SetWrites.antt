@@ -1,8 +1,7 @@
 -- Members of outside sets after one of them is written.
 use Rattle.std.proofs.Common.{◌≡◌, ℕ, ◌<◌, arith, refl, Bool, true, false, ◌⊎◌, inl, inr, List, [], ◌∷◌, ◌++◌, length, get_or, replicate, set, get_or-set_same}
-use Rattle.std.proofs.{Common.get_or-set_other, lemmas.Bool.cases_eq, lemmas.Grind.common_steps, lemmas.List.set_past, lemmas.List.get_or_past}
-use Rattle.qh_model.specs.headline.Sets.{In}
-use Rattle.qh_surface.specs.contract.OutsideSets.{joined}
+use Rattle.{std.proofs.Common.get_or-set_other, qh_model.specs.headline.Sets.In, qh_surface.specs.contract.OutsideSets.joined}
+use Rattle.std.proofs.lemmas.{Bool.cases_eq, Grind.common_steps, List.set_past, List.get_or_past}
 
 -- a member after a write is a member of the written set, or was a member before
 pub of_write : (xs : List (List ℕ)) (f : ℕ) (ys : List ℕ) (g q : ℕ)

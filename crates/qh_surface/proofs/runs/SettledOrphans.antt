@@ -1,12 +1,10 @@
 -- How orphans are released and settled.
-use Rattle.qh_model.proofs.Common.{All, ◌≡◌, ℕ, ◌<◌, ap, sym, refl, ◌⊎◌, inl, inr, List, [], ◌∷◌, ◌++◌, length, drop, subst, slice_set, slice_index}
-use Rattle.qh_model.proofs.Common.{slice_index_or, pos, ◌<ℤ◌, cases_eq, StoredFacet, Vector, origin, place, In}
+use Rattle.qh_model.proofs.Common.{All, ◌≡◌, ℕ, ◌<◌, ap, sym, refl, ◌⊎◌, inl, inr, List, [], ◌∷◌, ◌++◌}
+use Rattle.qh_model.proofs.Common.{length, drop, subst, slice_set, slice_index, slice_index_or, pos, ◌<ℤ◌, cases_eq, StoredFacet, Vector, origin, place, In}
 use Rattle.qh_model.proofs.{Members.All-In, lists.Joined.of_append, lists.Joined.in_append}
-use Rattle.qh_pred.specs.contract.Planes.{PlaneValue, height}
-use Rattle.qh_mesh.specs.contract.Replacement.{IsLive}
+use Rattle.{qh_pred.specs.contract.Planes.PlaneValue, qh_pred.specs.contract.Planes.height, qh_mesh.specs.contract.Replacement.IsLive}
 use Rattle.qh_surface.specs.contract.OutsideSets.{OutsideValue, set_of, joined}
-use Rattle.qh_surface.specs.steps.Planes.{plane_at, ArePlanes}
-use Rattle.qh_surface.specs.steps.Runs.{height_at, IsDone, IsOutside, IsSettling}
+use Rattle.qh_surface.specs.steps.{Planes.plane_at, Planes.ArePlanes, Runs.height_at, Runs.IsDone, Runs.IsOutside, Runs.IsSettling}
 use Rattle.qh_surface.specs.steps.Settling.{IsDropped, IsAssigned, IsOneSettled, AreReleased}
 use Rattle.qh_surface.proofs.runs.SetWrites.{of_write, write_keeps, write_empty, of_join, join_has, join_keeps}
 
@@ -78,18 +76,16 @@ one_settled {pts} {fs} {ps} {v} {w} {pending} {made} {o} live planes within firs
 
     dropped : IsDropped ps pts made v w → IsSettling pts fs w pending made
     dropped d = settled_by k (λ f p i. inl (rw (d.sets) at i)) rest (λ f p i. rw (d.sets) i) (placed (inr (k.drops o
-        (subst (In o) (sym first) (inl refl))
-        (λ j x h. rw (first-is, plane_height pts fs ps _ o planes (live j x h)) at (d.unseen j x h)))))
+        (subst (In o) (sym first) (inl refl)) (λ j x h. rw (first-is, plane_height pts fs ps _ o planes (live j x h)) at (d.unseen j x h)))))
 
     assigned : IsAssigned ps pts made v w → IsSettling pts fs w pending made
-    assigned a = settled_by k held rest (λ f p i. rw sets (join_keeps v.sets a.facet a.in_front o f p room i))
+    assigned a =
+        let room : a.facet < length v.sets = All-In (λ f. f < length v.sets) made a.facet within a.named in
+        settled_by k held rest (λ f p i. rw sets (join_keeps v.sets a.facet a.in_front o f p room i))
         (placed (inl (a.facet, rw sets (join_has v.sets a.facet a.in_front o room))))
       where
         sets : w.sets ≡ slice_set v.sets a.facet (joined a.in_front o (set_of v a.facet))
         sets = rw first-is at a.sets
-
-        room : a.facet < length v.sets
-        room = All-In (λ f. f < length v.sets) made a.facet within a.named
 
         here : IsLive fs a.facet
         here = All-In (IsLive fs) made a.facet live a.named

@@ -1,13 +1,12 @@
 -- Large cones: their facets as wedges in a ring round the apex, and the results of a search through the ring.
 -- Source: Barber, Dobkin and Huhdanpaa 1996 (the cone of new facets over the horizon).
-use Rattle.std.specs.Prelude.{All, slice_index, ◌≡◌, ℕ, ◌<◌, List, length, slice_index_or, pos, ◌≤ℤ◌, ◌<ℤ◌}
+use Rattle.qh_mesh.specs.contract.{Edges.edge_of, Edges.facet_of, Edges.twin_of, Replacement.IsLive, SoundMesh.facet_vol}
 use Rattle.qh_model.specs.contract.{StoredSurface.StoredFacet, StoredSurface.facet_at, Surface.Side.second}
-use Rattle.qh_model.specs.headline.{Vector.Vector, Vector.origin, Sets.In, Predicates.vol, Predicates.place}
-use Rattle.qh_pred.specs.contract.Planes.{PlaneValue, height}
-use Rattle.qh_mesh.specs.contract.{Replacement.IsLive, Edges.edge_of, Edges.facet_of, Edges.twin_of, SoundMesh.facet_vol}
-use Rattle.qh_surface.specs.declared.quickhull.{cone_ring.Wedge.Wedge, cone_search.Visibility.Visibility}
-use Rattle.qh_surface.specs.declared.quickhull.cone_search.Visibility.TheVariants.{Seen, Unseen, Unknown}
+use Rattle.qh_model.specs.headline.{Predicates.vol, Predicates.place, Sets.In, Vector.Vector, Vector.origin}
+use Rattle.{qh_pred.specs.contract.Planes.PlaneValue, qh_pred.specs.contract.Planes.height, qh_surface.specs.declared.quickhull.cone_ring.Wedge.Wedge}
+use Rattle.qh_surface.specs.declared.quickhull.cone_search.Visibility.{Visibility, TheVariants.Seen, TheVariants.Unseen, TheVariants.Unknown}
 use Rattle.qh_surface.specs.steps.Planes.{plane_at}
+use Rattle.std.specs.Prelude.{All, slice_index, ◌≡◌, ℕ, ◌<◌, List, length, slice_index_or, pos, ◌≤ℤ◌, ◌<ℤ◌}
 
 -- the facets share their third corner, and for each facet the list has the neighbour across its second side
 pub record IsFan (fs : List StoredFacet) (made : List ℕ) : Type 0 where

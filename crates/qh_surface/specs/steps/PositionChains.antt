@@ -1,7 +1,6 @@
 -- The storage of outside sets: chains of positions over one list of links.
 use Rattle.std.specs.Prelude.{◌≡◌, ℕ, zero, suc, ◌+◌, ◌<◌, ◌≤◌, List, [], ◌∷◌, length, map, cond, nat_eq, nat_lt, slice_index}
-use Rattle.std.specs.List.{sum_by}
-use Rattle.qh_surface.specs.{contract.OutsideSets.OutsideValue, declared.outside_sets.Ends.Ends}
+use Rattle.{std.specs.List.sum_by, qh_surface.specs.contract.OutsideSets.OutsideValue, qh_surface.specs.declared.outside_sets.Ends.Ends}
 
 -- the number that is not a position
 abbrev pub none : ℕ

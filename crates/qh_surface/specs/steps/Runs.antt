@@ -1,12 +1,11 @@
 -- A run of Quickhull over a list of points, each identified by its position: the invariants between two rounds, and within a round.
 -- Source: Barber, Dobkin and Huhdanpaa 1996 (outside sets, the horizon, the cone of new facets).
-use Rattle.std.specs.Prelude.{All, ◌≡◌, ℕ, ◌<◌, ◌≤◌, ◌⊎◌, List, [], ◌∷◌, length, slice_set, true, ℤ, pos, ◌≤ℤ◌, ◌<ℤ◌}
-use Rattle.qh_model.specs.{contract.FinishedSurface.middle_at, contract.StoredSurface.StoredFacet, headline.Vector.Vector}
-use Rattle.qh_model.specs.headline.{Predicates.vol, Predicates.place, Sets.In}
-use Rattle.qh_pred.specs.contract.Planes.{PlaneValue, height}
 use Rattle.qh_mesh.specs.contract.{Replacement.IsLive, SoundMesh.facet_vol, SoundMesh.IsSoundMesh, SoundMesh.IsClosedMesh}
-use Rattle.qh_surface.specs.contract.{Corners.AreCornersBelow, OutsideSets.OutsideValue, OutsideSets.set_of, OutsideSets.joined}
-use Rattle.qh_surface.specs.steps.Planes.{plane_at, ArePlanes}
+use Rattle.qh_model.specs.{contract.FinishedSurface.middle_at, contract.StoredSurface.StoredFacet, headline.Predicates.vol, headline.Predicates.place}
+use Rattle.{qh_model.specs.headline.Sets.In, qh_model.specs.headline.Vector.Vector, qh_pred.specs.contract.Planes.PlaneValue}
+use Rattle.{qh_pred.specs.contract.Planes.height, qh_surface.specs.contract.Corners.AreCornersBelow, qh_surface.specs.contract.OutsideSets.OutsideValue}
+use Rattle.qh_surface.specs.{contract.OutsideSets.set_of, contract.OutsideSets.joined, steps.Planes.plane_at, steps.Planes.ArePlanes}
+use Rattle.std.specs.Prelude.{All, ◌≡◌, ℕ, ◌<◌, ◌≤◌, ◌⊎◌, List, [], ◌∷◌, length, slice_set, true, ℤ, pos, ◌≤ℤ◌, ◌<ℤ◌}
 
 -- six times the volume of facet f and the point at position p: above 0 if the facet strictly sees it
 abbrev pub height_at : List Vector → List StoredFacet → ℕ → ℕ → ℤ

@@ -1,7 +1,6 @@
 -- Parts of a text, each made by its own thread.
 use Rattle.std.specs.Prelude.{ℕ, ◌≡◌, List, Result, Ok, Vec, map}
-use Rattle.std.specs.declared.alloc.{Global.Global, AllocError.AllocError}
-use Rattle.qh_write.specs.contract.Pieces.{bytes_of}
+use Rattle.{std.specs.declared.alloc.Global.Global, std.specs.declared.alloc.AllocError.AllocError, qh_write.specs.contract.Pieces.bytes_of}
 
 -- if all parts were made, these are their concatenated bytes
 abbrev pub AreParts : List (Result (Vec ℕ Global) AllocError) → List ℕ → Type 0

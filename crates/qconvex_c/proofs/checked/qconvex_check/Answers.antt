@@ -1,6 +1,4 @@
-use Rattle.std.proofs.Common.{subst, sym}
-use Rattle.qconvex_c.proofs.RightVerdicts.{right_verdict}
-use Rattle.qconvex_c.specs.contract.Checked.{IsVerdictOn}
+use Rattle.{std.proofs.Common.subst, std.proofs.Common.sym, qconvex_c.proofs.RightVerdicts.right_verdict, qconvex_c.specs.contract.Checked.IsVerdictOn}
 use Rattle.qconvex_c.proofs.checked.qconvex_check.Goals as goal
 
 pub returns-in-Ok-clause-right : goal.returns-in-Ok-clause-right

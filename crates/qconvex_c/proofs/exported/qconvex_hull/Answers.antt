@@ -12,8 +12,7 @@ returns-then-fill-clause-range c = not_told _ _ _ _ (λ e. omega (arith, e)) c.i
 
 pub returns-then-fill-clause-offsets_rest : goal.returns-then-fill-clause-offsets_rest
 returns-then-fill-clause-offsets_rest c e =
-    rest_of _ _ c.fill.new.buffers.offsets.now _ (search rules)
-    (rest_kept _ _ _ _ _ c.in-Ok.ensures.hull _ _ _ _ _ _ (c.fill.ensures.rest c.if-fill.true)).1
+    rest_of _ _ c.fill.new.buffers.offsets.now _ (search rules) (rest_kept _ _ _ _ _ c.in-Ok.ensures.hull _ _ _ _ _ _ (c.fill.ensures.rest c.if-fill.true)).1
 
 pub returns-in-Ok-clause-range : goal.returns-in-Ok-clause-range
 returns-in-Ok-clause-range c = not_told _ _ _ _ (λ e. omega (arith, e)) c.in-Ok.ensures.range

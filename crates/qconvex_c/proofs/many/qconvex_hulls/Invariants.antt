@@ -1,6 +1,5 @@
 -- The sets so far have their hulls, in the same buffers.
-use Rattle.qconvex_c.specs.steps.Buffers.{AreSame}
-use Rattle.qconvex_c.proofs.SetHulls.{WrittenSoFar}
+use Rattle.qconvex_c.{specs.steps.Buffers.AreSame, proofs.SetHulls.WrittenSoFar}
 use Rattle.qconvex_c.proofs.many.qconvex_hulls.Given as goal
 
 abbrev pub invariant-loop-number : goal.invariant-loop-number

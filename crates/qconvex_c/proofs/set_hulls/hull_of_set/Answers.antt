@@ -1,5 +1,4 @@
-use Rattle.std.proofs.Common.{arith}
-use Rattle.qconvex_c.proofs.SetParts.{kept_between}
+use Rattle.{std.proofs.Common.arith, qconvex_c.proofs.SetParts.kept_between}
 use Rattle.qconvex_c.proofs.set_hulls.hull_of_set.Goals as goal
 
 pub returns-clause-extremes : goal.returns-clause-extremes

@@ -1,8 +1,6 @@
 -- A walk has found live facets: their corners are ids of points, and the polygon of the corners is a new face.
 use Rattle.qh_model.proofs.Common.{rules, ◌≡◌, length, IfOk-weaker, All-weaker, surface_of, place}
-use Rattle.qh_mesh.specs.contract.Replacement.{IsLive}
-use Rattle.qh_surface.specs.contract.NamedMeshes.{named}
-use Rattle.qh_surface.proofs.NamedFacets.{named_live}
+use Rattle.{qh_mesh.specs.contract.Replacement.IsLive, qh_surface.specs.contract.NamedMeshes.named, qh_surface.proofs.NamedFacets.named_live}
 use Rattle.qh_block.proofs.finished.{Corners.corners_in, NamedWalks.walk_named, NewFaces.new_face, LoneTriangles.lone_triangle}
 use Rattle.qh_model.proofs.surfaces.FacetPlanes.{level_itself}
 use Rattle.qh_block.proofs.faces.new_face.Goals as goal
@@ -20,8 +18,7 @@ facet_polygon-requires-clause-indices c =
 pub returns-clause-face : goal.returns-clause-face
 returns-clause-face c =
     let gathered = c.in_ok-gather_corners.ensures in let surface = c.args.surface.now in let f = c.args.f in
-    IfOk-weaker c.facet_polygon.result _ _
-    (λ q h ids s z new.
+    IfOk-weaker c.facet_polygon.result _ _ (λ q h ids s z new.
     let walked = walk_named c.args.pts.now surface c.requires.named f _ _ _ c.requires.live z.whole
     (rw c.deref.ensures.value at c.in_ok-walk.ensures) in
     new_face _ ids _ _ _ _ _ s z (named_live surface f c.requires.live) new walked

@@ -1,9 +1,7 @@
 -- The faces are gathered facet by facet, into the list that the mark of the facet selects.
 use Rattle.qh_model.proofs.Common.{◌≡◌, ◌∙◌, ℕ, List, Bool, false, arith, ap, length, sym, subst, length-map, named_facet}
-use Rattle.qh_mesh.specs.contract.Names.{name_in}
-use Rattle.qh_surface.specs.contract.{NamedMeshes.named, Walks.mark_at}
-use Rattle.qh_surface.proofs.NamedFacets.{names}
-use Rattle.qh_block.proofs.finished.Gathering.{next_within}
+use Rattle.{qh_mesh.specs.contract.Names.name_in, qh_surface.specs.contract.NamedMeshes.named}
+use Rattle.{qh_surface.specs.contract.Walks.mark_at, qh_surface.proofs.NamedFacets.names, qh_block.proofs.finished.Gathering.next_within}
 use Rattle.qh_block.proofs.finished.Parting.{parting_starts, parted_place, to_own, to_others, parted_each, parted_close}
 use Rattle.qh_block.proofs.faces.parted_faces.Goals as goal
 
@@ -24,8 +22,8 @@ pub bounds-chosen-index : goal.bounds-chosen-index
 bounds-chosen-index c =
     let surface = c.args.surface.now in
     let same : length (named surface) ≡ length surface.mesh = length-map surface.mesh (named_facet (name_in surface.ids.items)) in
-    let within = parted_place _ _ _ _ _ _ _ _ _ c.loop-f.invariant c.in-Some.ensures.steps in let marks = c.requires.marks in
-    rw c.index-then-not-marks-index.ensures (omega (arith, same, within, marks))
+    let within = parted_place _ _ _ _ _ _ _ _ _ c.loop-f.invariant c.in-Some.ensures.steps in
+    rw c.index-then-not-marks-index.ensures (omega (arith, same, within, c.requires.marks))
 
 pub loop-f-preserved-in-Continue-branch-3 : goal.loop-f-preserved-in-Continue-branch-3
 loop-f-preserved-in-Continue-branch-3 c =

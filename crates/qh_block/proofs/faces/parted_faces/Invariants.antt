@@ -1,6 +1,5 @@
 -- The faces that the loop over the live facets has gathered.
-use Rattle.qh_surface.specs.contract.NamedMeshes.{named}
-use Rattle.qh_block.proofs.finished.Parting.{IsParting}
+use Rattle.{qh_surface.specs.contract.NamedMeshes.named, qh_block.proofs.finished.Parting.IsParting}
 use Rattle.qh_block.proofs.faces.parted_faces.Given as goal
 
 abbrev pub invariant-loop-f : goal.invariant-loop-f

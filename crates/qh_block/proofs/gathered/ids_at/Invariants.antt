@@ -1,6 +1,5 @@
 -- The ids at the positions so far.
-use Rattle.std.proofs.Common.{◌≡◌, map, take}
-use Rattle.qh_mesh.specs.contract.Names.{name_in}
+use Rattle.{std.proofs.Common.◌≡◌, std.proofs.Common.map, std.proofs.Common.take, qh_mesh.specs.contract.Names.name_in}
 use Rattle.qh_block.proofs.gathered.ids_at.Given as goal
 
 abbrev pub invariant-loop-position : goal.invariant-loop-position

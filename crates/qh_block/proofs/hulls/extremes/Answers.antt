@@ -5,9 +5,8 @@ use Rattle.qh_block.proofs.hulls.extremes.Goals as goal
 
 pub invariant_of-extremes_of_all : goal.invariant_of-extremes_of_all
 invariant_of-extremes_of_all c =
-    let pts = c.args.pts.now in let ids = c.args.ids.now in let outer = c.in-Some.outer.items in
     let within = rw (c.in-Some.is) at c.in_ok-outer.ensures.within in
-    record { indices = rw (c.deref.ensures.value) (part_indices pts ids outer c.requires.indices within) }
+    record { indices = rw (c.deref.ensures.value) (part_indices c.args.pts.now c.args.ids.now c.in-Some.outer.items c.requires.indices within) }
 
 pub returns-in-Some : goal.returns-in-Some
 returns-in-Some c =
@@ -15,8 +14,7 @@ returns-in-Some c =
     let rising = rw (c.in-Some.is) at c.in_ok-outer.ensures.rising in
     let part : HasExtremes pts ids outer =
     record { within = rw (c.in-Some.is) at c.in_ok-outer.ensures.within; extremes = rw (c.in-Some.is) at c.in_ok-outer.ensures.extremes } in
-    IfOk-weaker c.extremes_of_all.result _ _
-    (λ v h set. part_extremes pts ids outer v.items set part
+    IfOk-weaker c.extremes_of_all.result _ _ (λ v h set. part_extremes pts ids outer v.items set part
     (h (part_set pts ids outer set (rising set.rising) part.within)))
     (subst (λ xs. IfOk c.extremes_of_all.result (λ v. IsIdSet pts xs → AreExtremes (place pts) (Members xs) v.items))
     c.deref.ensures.value c.extremes_of_all.ensures)

@@ -5,9 +5,8 @@ use Rattle.qh_block.proofs.hulls.hull.Goals as goal
 
 pub invariant_of-hull_of_all : goal.invariant_of-hull_of_all
 invariant_of-hull_of_all c =
-    let pts = c.args.pts.now in let ids = c.args.ids.now in let outer = c.in-Some.outer.items in
     let within = rw (c.in-Some.is) at c.in_ok-outer.ensures.within in
-    record { indices = rw (c.deref.ensures.value) (part_indices pts ids outer c.requires.indices within) }
+    record { indices = rw (c.deref.ensures.value) (part_indices c.args.pts.now c.args.ids.now c.in-Some.outer.items c.requires.indices within) }
 
 pub returns-in-Some : goal.returns-in-Some
 returns-in-Some c =
@@ -15,7 +14,6 @@ returns-in-Some c =
     let rising = rw (c.in-Some.is) at c.in_ok-outer.ensures.rising in
     let part : HasExtremes pts ids outer =
     record { within = rw (c.in-Some.is) at c.in_ok-outer.ensures.within; extremes = rw (c.in-Some.is) at c.in_ok-outer.ensures.extremes } in
-    IfOk-weaker c.hull_of_all.result _ _
-    (λ b h set. part_body pts ids outer b set (rising set.rising) part h)
+    IfOk-weaker c.hull_of_all.result _ _ (λ b h set. part_body pts ids outer b set (rising set.rising) part h)
     (subst (λ xs. IfOk c.hull_of_all.result (λ b. IsIdSet pts xs → IsBody (place pts) (Members xs) b))
     c.deref.ensures.value c.hull_of_all.ensures)

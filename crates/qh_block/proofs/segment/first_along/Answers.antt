@@ -1,7 +1,6 @@
 -- The first of some ids and one more is the earlier of the two.
 use Rattle.qh_model.proofs.Common.{◌≡◌, ◌∙◌, ◌<◌, ◌+◌, ℕ, List, length, get_or, arith, subst, sym, ◌⊎◌, ⊎_elim, get_or_default_zero, ints, ℤ, ◌≤ℤ◌, In}
-use Rattle.qh_model.proofs.Members.{In-get_or, All-In, in_at}
-use Rattle.qh_block.specs.steps.Segments.{position}
+use Rattle.{qh_model.proofs.Members.In-get_or, qh_model.proofs.Members.All-In, qh_model.proofs.Members.in_at, qh_block.specs.steps.Segments.position}
 use Rattle.qh_block.proofs.segment.first_along.Goals as goal
 
 lowest : (f : ℕ → ℤ) (ids : List ℕ) (i s k r : ℕ) → i < length ids → k ≡ get_or ids i k → (r ≡ k) ⊎ (r ≡ s) → f r ≤ℤ f k → f r ≤ℤ f s
@@ -24,6 +23,6 @@ returns c =
     let at = position c.args.set.pts.now c.args.a c.args.b in
     record {
       member = c.loop-id.invariant.1;
-      first = λ k m. let r = in_at c.args.set.ids.now k m in let h = r.1 in
-          subst (λ v. at c.loop-id.first ≤ℤ at v) r.2 (c.loop-id.invariant.2 r.0 (omega (arith, h, c.loop-id-test.false)));
+      first = λ k m. let r = in_at c.args.set.ids.now k m in
+          subst (λ v. at c.loop-id.first ≤ℤ at v) r.2 (c.loop-id.invariant.2 r.0 (omega (arith, r.1, c.loop-id-test.false)));
     }

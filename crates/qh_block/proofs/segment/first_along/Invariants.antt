@@ -5,6 +5,5 @@ use Rattle.qh_block.proofs.segment.first_along.Given as goal
 
 abbrev pub invariant-loop-id : goal.invariant-loop-id
 invariant-loop-id l =
-    (l.first < length l.set.pts.now)
-    × In l.first l.set.ids.now
+    (l.first < length l.set.pts.now) × In l.first l.set.ids.now
     × ((m : ℕ) → m < l.id-index → position l.set.pts.now l.a l.b l.first ≤ℤ position l.set.pts.now l.a l.b (get_or l.set.ids.now m 0))

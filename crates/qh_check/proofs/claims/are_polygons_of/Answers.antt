@@ -1,6 +1,5 @@
 -- The polygons of the hull are the claimed ones, or others.
-use Rattle.std.proofs.Common.{◌≡◌, ◌∙◌, sym}
-use Rattle.qh_check.proofs.Verdicts.{same_or_others}
+use Rattle.{std.proofs.Common.◌≡◌, std.proofs.Common.◌∙◌, std.proofs.Common.sym, qh_check.proofs.Verdicts.same_or_others}
 use Rattle.qh_check.proofs.claims.are_polygons_of.Goals as goal
 
 pub returns : goal.returns

@@ -3,8 +3,7 @@ use Rattle.qh_check.proofs.{ImageVerdicts.named_corners, Judgements.told}
 use Rattle.qh_check.proofs.judging.judge_distinct.Goals as goal
 
 pub verdict_on-requires : goal.verdict_on-requires
-verdict_on-requires c =
-    named_corners c.args.pts.now c.args.ids.now c.args.named.now c.args.faces.now c.args.faces.now (c.are_own.ensures c.if-are_own.true)
+verdict_on-requires c = named_corners c.args.pts.now c.args.ids.now c.args.named.now c.args.faces.now c.args.faces.now (c.are_own.ensures c.if-are_own.true)
 
 pub returns-then-are_own : goal.returns-then-are_own
 returns-then-are_own c =

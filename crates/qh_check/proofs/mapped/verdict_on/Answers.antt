@@ -1,7 +1,5 @@
 -- The images have the ids, and the verdict on them is that on the points.
-use Rattle.std.proofs.lemmas.Result.{IfOk-weaker}
-use Rattle.qh_lattice.proofs.SameHulls.{image_indices}
-use Rattle.qh_check.proofs.ImageVerdicts.{image_verdict}
+use Rattle.{std.proofs.lemmas.Result.IfOk-weaker, qh_lattice.proofs.SameHulls.image_indices, qh_check.proofs.ImageVerdicts.image_verdict}
 use Rattle.qh_check.proofs.mapped.verdict_on.Goals as goal
 
 pub invariant_of-mapped : goal.invariant_of-mapped

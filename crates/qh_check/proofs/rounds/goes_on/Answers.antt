@@ -12,7 +12,6 @@ loop-index-preserved c =
     let below = c.loop-index-test.true in let bound = c.loop-index.invariant.0 in
     let less : steps < before = c.if-steps-before.false in
     let at = c.is_at.ensures.0 c.if-not-is_at.false in
-    let long = length-way face from c.requires.begin in
     let within : k < length rest = omega (arith, below) in
     let last : length rest - index ≡ k + 1 = omega (arith, below) in
     let this : k ≡ length rest - (index + 1) = omega (arith, below) in
@@ -23,13 +22,12 @@ loop-index-preserved c =
     subst (λ n. IsMetAlong (drop n rest) (drop before way)) last c.loop-index.invariant.1 in (
       omega (arith, less, bound),
       subst (λ n. IsMetAlong (drop n rest) (drop steps way)) this
-          (met_before rest way k steps before within (omega (arith, less, bound, long)) less here met),
+          (met_before rest way k steps before within (omega (arith, less, bound, length-way face from c.requires.begin)) less here met),
     )
 
 pub returns : goal.returns
 returns c = λ yes.
-    let rest = c.args.rest.now in let way = way_behind c.args.face.now c.args.begin in
-    let done = c.loop-index-test.false in let before = c.loop-index.before in
-    let none : length rest - c.loop-index.index ≡ 0 = omega (arith, done) in
+    let rest = c.args.rest.now in let way = way_behind c.args.face.now c.args.begin in let before = c.loop-index.before in
+    let none : length rest - c.loop-index.index ≡ 0 = omega (arith, c.loop-index-test.false) in
     let first : 0 ≤ before = omega arith in
     met_earlier rest way 0 before first (subst (λ n. IsMetAlong (drop n rest) (drop before way)) none c.loop-index.invariant.1)

@@ -13,7 +13,7 @@ loop-id-preserved c =
       | then-is_at w ↦ (
           let at = c.is_at.ensures.0 w.if-is_at.true in
           rw w.next-is (
-            (let l = at.0 in omega (arith, l)),
+            (omega (arith, at.0)),
             met_step part ids next k (λ rest. IsMetAlong (drop c.args.before part) (ids ++ rest)) c.loop-id-test.true at.0 (at.1 ∙ here) c.loop-id.invariant.1,
           )
           )

@@ -1,6 +1,5 @@
 -- The polygons so far are found to be pieces.
-use Rattle.std.proofs.Common.{ℕ, ◌<◌, [], get_or}
-use Rattle.qh_check.specs.steps.Findings.{IsSeen}
+use Rattle.{std.proofs.Common.ℕ, std.proofs.Common.◌<◌, std.proofs.Common.[], std.proofs.Common.get_or, qh_check.specs.steps.Findings.IsSeen}
 use Rattle.qh_check.proofs.search.fault_among.Given as goal
 
 abbrev pub invariant-loop-position : goal.invariant-loop-position

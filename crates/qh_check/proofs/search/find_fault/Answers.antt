@@ -1,6 +1,5 @@
 -- A polygon that is found among the faces of the hull, or shown by its plane, is a piece of a face of the set.
-use Rattle.std.proofs.{Common.◌≡◌, lemmas.Result.IfOk-weaker}
-use Rattle.qh_check.proofs.HullPieces.{faces_of_body, seen_pieces}
+use Rattle.{std.proofs.Common.◌≡◌, std.proofs.lemmas.Result.IfOk-weaker, qh_check.proofs.HullPieces.faces_of_body, qh_check.proofs.HullPieces.seen_pieces}
 use Rattle.qh_check.proofs.search.find_fault.Goals as goal
 
 pub returns : goal.returns

@@ -1,6 +1,5 @@
 -- A fault that was found gives the verdict, or the steps do.
-use Rattle.std.proofs.lemmas.Result.{IfOk-weaker}
-use Rattle.qh_check.proofs.SurfaceVerdicts.{is_no_piece}
+use Rattle.{std.proofs.lemmas.Result.IfOk-weaker, qh_check.proofs.SurfaceVerdicts.is_no_piece}
 use Rattle.qh_check.proofs.surfaces.check_solid_surface.Goals as goal
 
 pub returns-in-Some : goal.returns-in-Some

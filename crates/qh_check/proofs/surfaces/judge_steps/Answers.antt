@@ -12,5 +12,4 @@ returns-in-Some-2 c = λ pts ids set solid some faces.
 
 pub returns-in-None : goal.returns-in-None
 returns-in-None c = λ pts ids set solid some faces.
-    is_right pts ids c.args.polygons.now set solid some faces
-    (rw c.in-None.is at c.in_ok-step-2.ensures) (rw c.in_default.is at c.in_ok-step.ensures)
+    is_right pts ids c.args.polygons.now set solid some faces (rw c.in-None.is at c.in_ok-step-2.ensures) (rw c.in_default.is at c.in_ok-step.ensures)

@@ -1,6 +1,4 @@
-use Rattle.std.proofs.Common.{◌*◌, lit<}
-use Rattle.qh_lattice.specs.declared.row.TheConstants.{PRODUCT_LIMIT}
-use Rattle.qh_lattice.proofs.Sums.{difference_fits}
+use Rattle.{std.proofs.Common.◌*◌, std.proofs.Common.lit<, qh_lattice.specs.declared.row.TheConstants.PRODUCT_LIMIT, qh_lattice.proofs.Sums.difference_fits}
 use Rattle.qh_lattice.proofs.form.way_along.Goals as goal
 
 pub overflow_sub-reach : goal.overflow_sub-reach

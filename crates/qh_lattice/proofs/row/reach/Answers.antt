@@ -1,6 +1,5 @@
 use Rattle.qh_model.proofs.Common.{◌∙◌, lit<, ◌+ℤ◌}
-use Rattle.qh_lattice.specs.declared.row.TheConstants.{PRODUCT_LIMIT}
-use Rattle.qh_lattice.proofs.{Rows.as_product, Sums.sum_fits}
+use Rattle.qh_lattice.{specs.declared.row.TheConstants.PRODUCT_LIMIT, proofs.Rows.as_product, proofs.Sums.sum_fits}
 use Rattle.qh_lattice.proofs.row.reach.Goals as goal
 
 pub overflow_add-result : goal.overflow_add-result

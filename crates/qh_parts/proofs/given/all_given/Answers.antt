@@ -1,9 +1,7 @@
 -- The faces of one more part.
 use Rattle.qh_model.proofs.Common.{inl, inr, refl, subst, IsPermutation-sym, IfOk, IfSome, In}
-use Rattle.qh_model.proofs.{Members.in_permutation, lists.Joined.of_append}
-use Rattle.qh_bodies.proofs.StepCounts.{closed_of_both}
-use Rattle.qh_parts.specs.steps.Given.{IsContribution}
-use Rattle.qh_parts.proofs.Popped.{of_last, of_front}
+use Rattle.{qh_model.proofs.Members.in_permutation, qh_model.proofs.lists.Joined.of_append, qh_bodies.proofs.StepCounts.closed_of_both}
+use Rattle.qh_parts.{specs.steps.Given.IsContribution, proofs.Popped.of_last, proofs.Popped.of_front}
 use Rattle.qh_parts.proofs.given.all_given.Goals as goal
 
 pub loop-answer-init : goal.loop-answer-init

@@ -1,8 +1,6 @@
 -- One more part.
-use Rattle.std.specs.Prelude.{IfOk, IfSome}
-use Rattle.qh_parts_join.specs.contract.Parts.{IsPartOf}
-use Rattle.qh_model.proofs.Members.{all_and, all_none}
-use Rattle.qh_parts.proofs.Popped.{of_last, of_front}
+use Rattle.{std.specs.Prelude.IfOk, std.specs.Prelude.IfSome, qh_parts_join.specs.contract.Parts.IsPartOf}
+use Rattle.{qh_model.proofs.Members.all_and, qh_model.proofs.Members.all_none, qh_parts.proofs.Popped.of_last, qh_parts.proofs.Popped.of_front}
 use Rattle.qh_parts.proofs.pieces.all_parts.Goals as goal
 
 pub loop-answer-init : goal.loop-answer-init

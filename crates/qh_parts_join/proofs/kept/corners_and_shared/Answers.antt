@@ -1,6 +1,5 @@
 -- Sorting keeps the corners and shared ids.
-use Rattle.std.proofs.{Common.◌∙◌, lemmas.Result.IfOk-weaker}
-use Rattle.qh_model.proofs.lists.Joined.{in_append, of_append}
+use Rattle.{std.proofs.Common.◌∙◌, std.proofs.lemmas.Result.IfOk-weaker, qh_model.proofs.lists.Joined.in_append, qh_model.proofs.lists.Joined.of_append}
 use Rattle.qh_parts_join.proofs.kept.corners_and_shared.Goals as goal
 
 pub returns-clause-members : goal.returns-clause-members

@@ -1,6 +1,5 @@
 -- The corners of the parts so far.
-use Rattle.qh_model.proofs.Common.{◌≡◌, take, flat_map}
-use Rattle.qh_parts_join.specs.contract.Parts.{own_in}
+use Rattle.{qh_model.proofs.Common.◌≡◌, qh_model.proofs.Common.take, qh_model.proofs.Common.flat_map, qh_parts_join.specs.contract.Parts.own_in}
 use Rattle.qh_parts_join.proofs.kept.corners_of_parts.Given as goal
 
 abbrev pub invariant-loop-part : goal.invariant-loop-part

@@ -1,8 +1,6 @@
 -- Three more corners are listed.
-use Rattle.qh_model.proofs.Common.{◌∙◌, sym, surface_of}
-use Rattle.qh_model.proofs.surfaces.Stored.{live_is_marked}
-use Rattle.qh_surface.specs.contract.NamedMeshes.{named}
-use Rattle.qh_surface.proofs.NamedFacets.{names, live_before}
+use Rattle.qh_model.proofs.{Common.◌∙◌, Common.sym, Common.surface_of, surfaces.Stored.live_is_marked}
+use Rattle.qh_surface.{specs.contract.NamedMeshes.named, proofs.NamedFacets.names, proofs.NamedFacets.live_before}
 use Rattle.qh_parts_join.proofs.{Asked.next_live, Asked.asking_ends, ListedCorners.none_listed, ListedCorners.three_more}
 use Rattle.qh_parts_join.proofs.parts.corners_of.Goals as goal
 

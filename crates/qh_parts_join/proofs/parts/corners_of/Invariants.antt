@@ -1,7 +1,5 @@
 -- The corners of the facets so far.
-use Rattle.qh_model.specs.contract.StoredSurface.{surface_of}
-use Rattle.qh_surface.specs.contract.NamedMeshes.{named}
-use Rattle.qh_parts_join.proofs.ListedCorners.{AreListed}
+use Rattle.{qh_model.specs.contract.StoredSurface.surface_of, qh_surface.specs.contract.NamedMeshes.named, qh_parts_join.proofs.ListedCorners.AreListed}
 use Rattle.qh_parts_join.proofs.parts.corners_of.Given as goal
 
 abbrev pub invariant-loop-f : goal.invariant-loop-f

@@ -12,11 +12,9 @@ returns-then-len-rising-clause-once c =
 pub returns-clause-once : goal.returns-clause-once
 returns-clause-once c =
     let rising = c.args.rising.now in let items = c.extend_from_slice.new.self.items in
-    let ok = c.extend_from_slice.new.self.ok.0 in
-    let short : length items ≤ length rising = omega (arith, c.len.ensures, ok, c.if-len-rising.false) in
+    let short : length items ≤ length rising = omega (arith, c.len.ensures, c.extend_from_slice.new.self.ok.0, c.if-len-rising.false) in
     once_by_length rising (rising_once rising c.requires.rising) items
-    (λ l i. subst (In l) (sym c.in_ok-extend_from_slice.ensures.items)
-    (in_append _ c.args.shared.now l (rw c.in_ok-ids.ensures.items (c.requires.all l i)))) short
+    (λ l i. rw c.in_ok-extend_from_slice.ensures.items (in_append _ c.args.shared.now l (rw c.in_ok-ids.ensures.items (c.requires.all l i)))) short
 
 pub returns-clause-same : goal.returns-clause-same
 returns-clause-same c = λ l. (
@@ -24,6 +22,6 @@ returns-clause-same c = λ l. (
     | inl o ↦ c.requires.unshared l (rw c.in_ok-ids.ensures.items at o)
     | inr s ↦ c.requires.shared l s
   ],
-  λ i. subst (In l) (sym c.in_ok-extend_from_slice.ensures.items)
+  λ i. rw c.in_ok-extend_from_slice.ensures.items
       (in_append _ c.args.shared.now l (rw c.in_ok-ids.ensures.items (c.requires.all l i))),
 )

@@ -1,6 +1,5 @@
 -- The test decides membership.
-use Rattle.std.proofs.Common.{◌∙◌, sym}
-use Rattle.qh_places.proofs.ListMembers.{any_in, in_any}
+use Rattle.{std.proofs.Common.◌∙◌, std.proofs.Common.sym, qh_places.proofs.ListMembers.any_in, qh_places.proofs.ListMembers.in_any}
 use Rattle.qh_parts_join.proofs.parts.has.Goals as goal
 
 pub returns : goal.returns

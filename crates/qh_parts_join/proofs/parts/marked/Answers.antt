@@ -1,7 +1,6 @@
 -- One more id is found, or has no mark.
 use Rattle.qh_model.proofs.Common.{◌≡◌, ◌<◌, ◌⊎◌, inl, inr, length, arith, ◌∙◌, ap, true, both_ways, get_or_default_zero, In}
-use Rattle.qh_surface.specs.contract.Walks.{mark_at}
-use Rattle.qh_places.proofs.Listed.{each_listed}
+use Rattle.{qh_surface.specs.contract.Walks.mark_at, qh_places.proofs.Listed.each_listed}
 use Rattle.qh_parts_join.proofs.{LeftIds.one_more, LeftIds.none_left, parts.marked.Goals.then-is_marked+in_ok-push, parts.marked.Goals.else-is_marked}
 use Rattle.qh_parts_join.proofs.parts.marked.Goals as goal
 
@@ -21,7 +20,4 @@ loop-id-preserved c =
 pub returns-clause-all : goal.returns-clause-all
 returns-clause-all c = λ l i m.
     elim (each_listed (λ j. In j c.loop-id.found.items ⊎ (¬ (mark_at c.args.marks.now j ≡ true))) c.args.ids.now
-    c.loop-id.id-index (omega arith) c.loop-id.invariant.each l i) [
-      | inl found ↦ found
-      | inr never ↦ absurd (never m)
-    ]
+    c.loop-id.id-index (omega arith) c.loop-id.invariant.each l i) [ inl found ↦ found | inr never ↦ absurd (never m) ]

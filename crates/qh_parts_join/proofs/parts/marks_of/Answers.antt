@@ -1,7 +1,6 @@
 -- One more id is marked.
 use Rattle.std.proofs.Common.{◌≡◌, true, arith}
-use Rattle.qh_surface.specs.contract.Walks.{mark_at}
-use Rattle.qh_places.proofs.Listed.{each_listed}
+use Rattle.{qh_surface.specs.contract.Walks.mark_at, qh_places.proofs.Listed.each_listed}
 use Rattle.qh_parts_join.proofs.parts.marks_of.Goals as goal
 
 pub returns : goal.returns

@@ -1,6 +1,5 @@
 -- The first four shared ids do not lie in one plane.
-use Rattle.qh_model.proofs.Common.{refl, sym, subst, arith, In}
-use Rattle.qh_model.proofs.Members.{In-get_or}
+use Rattle.qh_model.proofs.{Common.refl, Common.sym, Common.subst, Common.arith, Common.In, Members.In-get_or}
 use Rattle.qh_parts_join.proofs.parts.simplex_of.Goals as goal
 
 pub returns : goal.returns

@@ -1,7 +1,6 @@
 -- The size of a product is that of its factors, multiplied.
 use Rattle.qh_model.proofs.Common.{◌*◌, refl, lit<, pos, w128}
-use Rattle.qh_pred.specs.contract.Bounds.{normal_limit}
-use Rattle.qh_places.specs.declared.bundles.TheConstants.{SCALE}
+use Rattle.{qh_pred.specs.contract.Bounds.normal_limit, qh_places.specs.declared.bundles.TheConstants.SCALE}
 use Rattle.qh_places.proofs.Products.{IsProduct, product}
 use Rattle.qh_places.proofs.bundles.scaled.Goals as goal
 

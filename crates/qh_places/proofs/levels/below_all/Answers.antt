@@ -1,6 +1,5 @@
 -- The first block that is below all planes decides.
-use Rattle.std.proofs.Common.{sym, subst}
-use Rattle.qh_places.specs.steps.Levels.{IsLevel}
+use Rattle.{std.proofs.Common.sym, std.proofs.Common.subst, qh_places.specs.steps.Levels.IsLevel}
 use Rattle.qh_places.proofs.levels.below_all.Goals as goal
 
 pub returns-then-below-gt0 : goal.returns-then-below-gt0

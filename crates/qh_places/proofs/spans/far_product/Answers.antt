@@ -10,7 +10,5 @@ returns-clause-value c = λ r within.
     let fh : SFits w128 c.args.high = c.ranges.high in
     let fe : SFits w128 c.far_end.result = record { sfits = c.far_end.type_inv } in
     let fp : SFits w128 c.way_product.result = record { sfits = c.way_product.type_inv } in
-    let far = simp to_z-of_z at c.far_end.ensures.far in
-    let value = simp to_z-of_z at c.way_product.ensures.value in
-    let most = greatest c.args.way c.args.low c.args.high c.far_end.result r far within in
-    simp to_z-of_z (subst (λ x. (c.args.way *ℤ r) ≤ℤ x) (sym value) most)
+    let far = simp to_z-of_z at c.far_end.ensures.far in let value = simp to_z-of_z at c.way_product.ensures.value in
+    simp to_z-of_z (subst (λ x. (c.args.way *ℤ r) ≤ℤ x) (sym value) (greatest c.args.way c.args.low c.args.high c.far_end.result r far within))

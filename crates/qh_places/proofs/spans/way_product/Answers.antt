@@ -12,8 +12,5 @@ made c =
 pub overflow_mul-result : goal.overflow_mul-result
 overflow_mul-result c = (made c).fits
 
-pub returns-clause-value : goal.returns-clause-value
-returns-clause-value c = (made c).value
-
-pub returns-clause-limit : goal.returns-clause-limit
-returns-clause-limit c = (made c).limit
+pub returns : goal.returns
+returns c = record { value = (made c).value; limit = (made c).limit }

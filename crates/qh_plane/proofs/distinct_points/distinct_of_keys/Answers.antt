@@ -1,6 +1,5 @@
+use Rattle.{std.proofs.Common.sym, std.proofs.Common.subst, qh_plane.proofs.PlaceLists.place_repeats, qh_plane.specs.steps.Repeats.AreAllRepeats}
 use Rattle.qh_plane.proofs.distinct_points.distinct_of_keys.Goals as goal
-use Rattle.std.proofs.Common.{sym, subst}
-use Rattle.qh_plane.{proofs.PlaceLists.place_repeats, specs.steps.Repeats.AreAllRepeats}
 
 pub distinct_without-requires-clause-repeats : goal.distinct_without-requires-clause-repeats
 distinct_without-requires-clause-repeats c =

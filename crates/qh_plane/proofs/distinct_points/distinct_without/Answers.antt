@@ -1,8 +1,7 @@
+use Rattle.std.proofs.Common.{ap, sym, ◌∙◌, subst, length, ◌≤◌, ◌<◌}
+use Rattle.{std.proofs.lemmas.Result.IfOk-weaker, qh_model.proofs.Members.All-of, qh_model.specs.declared.limits.TheConstants.POINT_LIMIT}
+use Rattle.{qh_model.specs.headline.DistinctIds.AreDistinctIds, qh_plane.proofs.RepeatedIds.distinct_left, qh_polygon.specs.contract.Marks.marked_ids}
 use Rattle.qh_plane.proofs.distinct_points.distinct_without.Goals as goal
-use Rattle.std.proofs.{Common.ap, Common.sym, Common.◌∙◌, Common.subst, Common.length, Common.◌≤◌, Common.◌<◌, lemmas.Result.IfOk-weaker}
-use Rattle.qh_model.{proofs.Members.All-of, specs.declared.limits.TheConstants.POINT_LIMIT, specs.headline.DistinctIds.AreDistinctIds}
-use Rattle.qh_plane.proofs.RepeatedIds.{distinct_left}
-use Rattle.qh_polygon.specs.contract.Marks.{marked_ids}
 
 pub marks_without-requires : goal.marks_without-requires
 marks_without-requires c = All-of (λ i. i < length c.args.pts.now) c.args.repeats.now (λ i m. (c.requires.repeats.only i m).0)

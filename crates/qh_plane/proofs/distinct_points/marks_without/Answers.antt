@@ -1,6 +1,5 @@
-use Rattle.std.proofs.Common.{◌∙◌, ◌<◌, ◌++◌, ◌∷◌, [], false, take, set, ap, sym, subst}
-use Rattle.std.proofs.lemmas.List.{take_more}
-use Rattle.qh_plane.{proofs.RepeatedIds.mark_taken, specs.steps.Repeats.MarksWithout}
+use Rattle.std.proofs.Common.{◌∙◌, ◌<◌, ◌++◌, ◌∷◌, [], take, ap, sym, subst}
+use Rattle.{std.proofs.lemmas.List.take_more, qh_plane.proofs.RepeatedIds.mark_taken}
 use Rattle.qh_plane.proofs.distinct_points.marks_without.Goals as goal
 
 pub loop-id-preserved : goal.loop-id-preserved
@@ -8,7 +7,5 @@ loop-id-preserved c =
     let count = c.args.count in let ids = c.args.ids.now in let i = c.loop-id.id-index in let x = c.id-item.result in
     let marks = c.loop-id.marks.items in
     let below : x < count = subst (λ v. v < count) (sym c.id-item.is) (c.requires i x c.loop-id-test.true) in
-    subst (λ v. MarksWithout count v (set marks c.index.result false))
-    (sym (take_more ids i x c.loop-id-test.true ∙ ap (λ v. take i ids ++ v ∷ []) (sym c.id-item.is)))
-    (subst (λ k. MarksWithout count (take i ids ++ x ∷ []) (set marks k false)) (sym c.index.ensures)
-    (mark_taken count (take i ids) marks x below c.loop-id.invariant))
+    rw (take_more ids i x c.loop-id-test.true ∙ ap (λ v. take i ids ++ v ∷ []) (sym c.id-item.is))
+    (rw c.index.ensures (mark_taken count (take i ids) marks x below c.loop-id.invariant))

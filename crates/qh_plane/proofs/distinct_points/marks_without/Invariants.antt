@@ -1,5 +1,4 @@
-use Rattle.std.proofs.Common.{take}
-use Rattle.qh_plane.specs.steps.Repeats.{MarksWithout}
+use Rattle.{std.proofs.Common.take, qh_plane.specs.steps.Repeats.MarksWithout}
 use Rattle.qh_plane.proofs.distinct_points.marks_without.Given as goal
 
 abbrev pub invariant-loop-id : goal.invariant-loop-id

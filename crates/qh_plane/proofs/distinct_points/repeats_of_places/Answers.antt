@@ -1,7 +1,6 @@
-use Rattle.std.proofs.Common.{◌≡◌, ◌∙◌, ℕ, ◌+◌, ◌/◌, ◌++◌, ◌∷◌, [], arith, ap, sym, subst, Vec, Global}
+use Rattle.std.proofs.Common.{◌≡◌, ◌∙◌, ℕ, ◌+◌, ◌/◌, ◌++◌, ◌∷◌, [], arith, ap, sym, Vec, Global}
 use Rattle.qh_plane.proofs.RepeatedPlaces.{none_related, one_related, none_more, all_related}
 use Rattle.qh_polygon.specs.declared.place_keys.TheConstants.{ROOM}
-use Rattle.qh_plane.specs.steps.PlaceKeys.{ArePlaceRepeats}
 use Rattle.qh_plane.proofs.distinct_points.repeats_of_places.Goals.{then-place_in+in_ok-push, else-place_in}
 use Rattle.qh_plane.proofs.distinct_points.repeats_of_places.Goals as goal
 
@@ -18,11 +17,10 @@ loop-j-preserved c =
       omega arith,
       elim c.if-place_in.branch [
         | then-place_in+in_ok-push w ↦
-            subst (ArePlaceRepeats ROOM keys (j + 1))
-            (sym (ap (λ (v : Vec ℕ Global). v.items) w.repeats-is ∙ w.in_ok-push.ensures.items ∙ ap (λ i. ids ++ i ∷ []) w.place_key_id.ensures))
+            rw (ap (λ (v : Vec ℕ Global). v.items) w.repeats-is ∙ w.in_ok-push.ensures.items ∙ ap (λ i. ids ++ i ∷ []) w.place_key_id.ensures)
             (one_related SamePlace ROOM keys j ids some told c.loop-j-test.true (sym c.place_in.ensures ∙ w.if-place_in.true ∙ c.place_in-in-loop-j.ensures))
         | else-place_in w ↦
-            subst (ArePlaceRepeats ROOM keys (j + 1)) (sym (ap (λ (v : Vec ℕ Global). v.items) w.repeats-is))
+            rw (ap (λ (v : Vec ℕ Global). v.items) w.repeats-is)
             (none_more SamePlace ROOM keys j ids some told (λ e. w.if-place_in.false (c.place_in.ensures ∙ e ∙ sym c.place_in-in-loop-j.ensures)))
       ],
     )

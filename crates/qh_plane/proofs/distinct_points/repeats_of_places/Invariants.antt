@@ -1,6 +1,4 @@
-use Rattle.std.proofs.Common.{◌≤◌}
-use Rattle.qh_polygon.specs.declared.place_keys.TheConstants.{ROOM}
-use Rattle.qh_plane.specs.steps.PlaceKeys.{ArePlaceRepeats}
+use Rattle.{std.proofs.Common.◌≤◌, qh_polygon.specs.declared.place_keys.TheConstants.ROOM, qh_plane.specs.steps.PlaceKeys.ArePlaceRepeats}
 use Rattle.qh_plane.proofs.distinct_points.repeats_of_places.Given as goal
 
 -- the keys before j are decided

@@ -12,8 +12,8 @@ distinct_of_pieces-requires-clause-all g c =
 
 pub distinct_of_pieces-requires-clause-pieces : goal.distinct_of_pieces-requires-clause-pieces
 distinct_of_pieces-requires-clause-pieces g c =
-    let pts = c.args.pts.now in let size = length pts / c.piece_count-count.result + 1 in let items = c.in_ok-pieces.pieces.items in
+    let pts = c.args.pts.now in let size = length pts / c.piece_count-count.result + 1 in
     subst (ArePieces pts size) (sym c.deref.ensures.value) (λ n d l.
     let e = (c.in_ok-pieces.ensures.each n d l).1 in
-    IfOk-weaker (get_or items n d) _ _ (λ some h. IfSome_then some h (λ v found.
+    IfOk-weaker (get_or c.in_ok-pieces.pieces.items n d) _ _ (λ some h. IfSome_then some h (λ v found.
     chunk_firsts pts e.argument.now size n v.items e.argument_is found)) e.call)

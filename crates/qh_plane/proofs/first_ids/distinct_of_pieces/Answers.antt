@@ -16,10 +16,7 @@ look_at_piece-requires-clause-firsts c =
     c.loop-piece.invariant.begin c.saturating_add.ensures c.min-end.ensures in
     let found : IfSome (option_copied c.in_ok-ids.field-0) (λ (v : Vec ℕ Global). AreFirstIds pts (end_of pts size n) (end_of pts size (n + 1)) v.items) =
     rw c.in_ok-ids.ensures at (rw (sym c.piece-item.is) at (c.requires.pieces n c.piece-item.result c.loop-piece-test.true)) in
-    let firsts : AreFirstIds pts (end_of pts size n) (end_of pts size (n + 1)) c.in-Some.ids.now.items = rw c.in-Some.is at found in
-    subst (λ b. AreFirstIds pts b c.min-end.result c.deref.result.now) (sym c.loop-piece.invariant.begin)
-    (subst (λ e. AreFirstIds pts (end_of pts size n) e c.deref.result.now) (sym next.0)
-    (subst (AreFirstIds pts (end_of pts size n) (end_of pts size (n + 1))) (sym c.deref.ensures.value) firsts))
+    rw (c.loop-piece.invariant.begin, next.0, c.deref.ensures.value) (rw c.in-Some.is at found)
 
 pub loop-piece-preserved : goal.loop-piece-preserved
 loop-piece-preserved c =
@@ -32,7 +29,6 @@ loop-piece-preserved c =
 pub returns : goal.returns
 returns c =
     let pts = c.args.pts.now in let f = c.loop-piece.firsts in let n = c.loop-piece.piece-index in
-    let end : n ≡ length c.args.pieces.now = (let a = c.loop-piece.auto.piece-index-end in let b = c.loop-piece-test.false in omega (arith, a, b)) in
+    let end : n ≡ length c.args.pieces.now = (omega (arith, c.loop-piece.auto.piece-index-end, c.loop-piece-test.false)) in
     let reached : length pts ≤ n * c.args.size = subst (λ m. length pts ≤ m * c.args.size) (sym end) c.requires.all in
-    let begin = c.loop-piece.invariant.begin in
-    all_seen pts f.close f.slots.items c.loop-piece.begin f.ids.items c.loop-piece.invariant.seen (omega (arith, begin, reached))
+    all_seen pts f.close f.slots.items c.loop-piece.begin f.ids.items c.loop-piece.invariant.seen (omega (arith, c.loop-piece.invariant.begin, reached))

@@ -1,14 +1,11 @@
-use Rattle.std.proofs.Common.{◌≡◌, ◌∙◌, ℕ, ◌+◌, ◌++◌, ◌∷◌, [], true, false, arith, ap, sym, subst, Vec, Global}
+use Rattle.{std.proofs.lemmas.Bool.false≢true, qh_plane.proofs.repeats.repeats_told.Goals.then-is_repeat+in_ok-push}
+use Rattle.qh_plane.proofs.repeats.repeats_told.Goals.{else-is_repeat+else-j-ge2, else-j-ge2-via-then-j-ge2+else-hash_in, else-j-ge2-via-else-j-ge2}
 use Rattle.qh_plane.proofs.RepeatedIds.{none_told, repeat_told, new_told, told_all}
-use Rattle.qh_plane.proofs.repeats.repeats_told.Goals.{then-is_repeat+in_ok-push, else-is_repeat+else-j-ge2, else-j-ge2-via-then-j-ge2+else-hash_in}
-use Rattle.qh_plane.{proofs.repeats.repeats_told.Goals.else-j-ge2-via-else-j-ge2, specs.steps.HashedKeys.RepeatsTold}
+use Rattle.std.proofs.Common.{◌∙◌, ℕ, ◌+◌, ◌++◌, ◌∷◌, [], true, false, arith, ap, sym, Vec, Global}
 use Rattle.qh_plane.proofs.repeats.repeats_told.Goals as goal
 
 pub loop-j-init : goal.loop-j-init
 loop-j-init c = (omega arith, rw c.new-repeats.ensures.items (none_told c.args.pts.now c.args.keys.now))
-
-clash : true ≡ false → ⊥
-clash e = cc
 
 pub loop-j-preserved : goal.loop-j-preserved
 loop-j-preserved c =
@@ -17,15 +14,14 @@ loop-j-preserved c =
       omega arith,
       elim c.if-is_repeat.branch [
         | then-is_repeat+in_ok-push w ↦
-            subst (RepeatsTold pts keys (j + 1))
-            (sym (ap (λ (v : Vec ℕ Global). v.items) w.repeats-is ∙ w.in_ok-push.ensures.items ∙ ap (λ i. ids ++ i ∷ []) w.id_in.ensures))
+            rw (ap (λ (v : Vec ℕ Global). v.items) w.repeats-is ∙ w.in_ok-push.ensures.items ∙ ap (λ i. ids ++ i ∷ []) w.id_in.ensures)
             (repeat_told pts keys j ids some told c.loop-j-test.true (c.is_repeat.ensures.0 w.if-is_repeat.true))
         | else-is_repeat+else-j-ge2 w ↦
-            subst (RepeatsTold pts keys (j + 1)) (sym (ap (λ (v : Vec ℕ Global). v.items) w.repeats-is))
-            (new_told pts keys j ids some told (λ r. clash (sym (c.is_repeat.ensures.1 r) ∙ w.if-is_repeat.false)) (λ two e.
+            rw (ap (λ (v : Vec ℕ Global). v.items) w.repeats-is)
+            (new_told pts keys j ids some told (λ r. false≢true (sym w.if-is_repeat.false ∙ c.is_repeat.ensures.1 r)) (λ two e.
             elim w.else-j-ge2.branch [
               | else-j-ge2-via-then-j-ge2+else-hash_in w' ↦ absurd (w'.if-hash_in.false (w'.hash_in.ensures ∙ e ∙ sym w'.hash_in-then-j-ge2.ensures))
-              | else-j-ge2-via-else-j-ge2 w' ↦ let t = w'.if-j-ge2.false in absurd (omega (arith, two, t))
+              | else-j-ge2-via-else-j-ge2 w' ↦ absurd (omega (arith, two, w'.if-j-ge2.false))
             ]))
       ],
     )

@@ -1,5 +1,4 @@
-use Rattle.std.proofs.Common.{◌≤◌}
-use Rattle.qh_plane.specs.steps.HashedKeys.{RepeatsTold}
+use Rattle.{std.proofs.Common.◌≤◌, qh_plane.specs.steps.HashedKeys.RepeatsTold}
 use Rattle.qh_plane.proofs.repeats.repeats_told.Given as goal
 
 -- the keys before j are decided

@@ -1,11 +1,9 @@
-use Rattle.qh_plane.proofs.shared_slots.keys_in_slots.Goals as goal
+use Rattle.{std.proofs.lemmas.Bool.false≢true, qh_plane.proofs.SeenPlaces.point_read, qh_plane.specs.steps.SharedSlots.MarkedHashes}
+use Rattle.qh_plane.{specs.declared.hashed_keys.TheConstants.ID_ROOM, proofs.KeysBelow.key_added, proofs.KeysBelow.key_left_out}
+use Rattle.qh_plane.proofs.shared_slots.keys_in_slots.Goals.{then-is_marked+in_ok-push, else-is_marked}
+use Rattle.qh_plane.specs.steps.HashedKeys.{Hashes, place_hash, hash_at, AreKeysBelow}
 use Rattle.std.proofs.Common.{◌≡◌, ◌∙◌, arith, ℕ, ◌+◌, ◌*◌, ◌∷◌, ◌++◌, [], true, false, ap, sym, subst, Vec, Global}
-use Rattle.qh_plane.proofs.{KeysBelow.key_added, KeysBelow.key_left_out, SeenPlaces.point_read, shared_slots.keys_in_slots.Goals.then-is_marked+in_ok-push}
-use Rattle.qh_plane.{proofs.shared_slots.keys_in_slots.Goals.else-is_marked, specs.declared.hashed_keys.TheConstants.ID_ROOM}
-use Rattle.qh_plane.specs.steps.{HashedKeys.Hashes, HashedKeys.place_hash, HashedKeys.hash_at, HashedKeys.AreKeysBelow, SharedSlots.MarkedHashes}
-
-clash : true ≡ false → ⊥
-clash e = cc
+use Rattle.qh_plane.proofs.shared_slots.keys_in_slots.Goals as goal
 
 pub loop-number-preserved : goal.loop-number-preserved
 loop-number-preserved c =
@@ -20,5 +18,5 @@ loop-number-preserved c =
           (key_added pts some 0 n keys before (omega arith) (subst some hash (c.is_marked.ensures.0 w.if-is_marked.true)))
       | else-is_marked w ↦
           subst (AreKeysBelow pts some (n + 1)) (sym (ap (λ (v : Vec ℕ Global). v.items) w.keys-is))
-          (key_left_out pts some 0 n keys before (λ p. clash (sym (c.is_marked.ensures.1 (subst some (sym hash) p)) ∙ w.if-is_marked.false)))
+          (key_left_out pts some 0 n keys before (λ p. false≢true (sym w.if-is_marked.false ∙ c.is_marked.ensures.1 (subst some (sym hash) p))))
     ]

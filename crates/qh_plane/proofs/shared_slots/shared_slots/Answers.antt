@@ -1,7 +1,7 @@
-use Rattle.qh_model.proofs.Common.{◌≡◌, ◌∙◌, ◌<◌, ◌+◌, ◌*◌, ◌||◌, false, true, length, set, ap, sym, subst, get_or, get_or_read, length-set}
-use Rattle.qh_plane.proofs.shared_slots.shared_slots.Goals as goal
+use Rattle.qh_model.proofs.Common.{◌≡◌, ◌∙◌, ◌<◌, ◌*◌, ◌||◌, false, true, length, ap, sym, subst, get_or, get_or_read, length-set}
 use Rattle.qh_plane.proofs.{SeenPlaces.point_read, SharedSlots.taken_more, SharedSlots.shared_more}
-use Rattle.qh_plane.specs.steps.{HashedKeys.place_hash, HashedKeys.hash_at, SharedSlots.slot_in, SharedSlots.AreShared}
+use Rattle.qh_plane.specs.steps.{HashedKeys.place_hash, HashedKeys.hash_at, SharedSlots.slot_in}
+use Rattle.qh_plane.proofs.shared_slots.shared_slots.Goals as goal
 
 pub loop-point-preserved : goal.loop-point-preserved
 loop-point-preserved c =
@@ -17,7 +17,6 @@ loop-point-preserved c =
       taken_len = length-set taken s true ∙ before.taken_len;
       shared_len = length-set shared s (c.index.result.now || c.index-in-loop-point.result.now) ∙ before.shared_len;
       are_taken = taken_more pts n slots s is within taken before.taken_len before.are_taken;
-      are_shared = subst (λ v. AreShared pts (n + 1) (set shared s v))
-          (ap (λ v. v || get_or taken s false) (sym was_shared) ∙ ap (λ v. c.index.result.now || v) (sym was_taken))
+      are_shared = rw (ap (λ v. v || get_or taken s false) (sym was_shared) ∙ ap (λ v. c.index.result.now || v) (sym was_taken)) at
           (shared_more pts n slots s is within taken shared before.taken_len before.shared_len before.are_taken before.are_shared);
     }

@@ -1,9 +1,8 @@
-use Rattle.qh_read.proofs.numbers.few_digits.Goals as goal
 use Rattle.std.proofs.Common.{arith, ◌≡◌, ◌≤◌, ◌<◌, ◌+◌, ◌-◌, ◌*◌, ◌∙◌, ℕ, Bool, List, true, length, add-one}
-use Rattle.std.{proofs.lemmas.Grind.common_steps, specs.Char.is_ascii_digit, specs.Prelude.get_or}
-use Rattle.qh_model.specs.declared.form.Form.{Form}
+use Rattle.{std.proofs.lemmas.Grind.common_steps, std.specs.Char.is_ascii_digit, std.specs.Prelude.get_or, qh_model.specs.declared.form.Form.Form}
 use Rattle.qh_read.{proofs.CursorLaws.step, proofs.DigitLaws.greatest, proofs.DigitLaws.greatest-rises, specs.contract.Holding.next_held}
 use Rattle.qh_read.specs.{contract.Progress.Progress, declared.token.TheConstants.MAGNITUDE_CAP, declared.token.Token.TheVariants.Digits, steps.Numbers.quiet}
+use Rattle.qh_read.proofs.numbers.few_digits.Goals as goal
 
 -- one more digit, below the cap
 digit_more : (form : Form) (p : Progress) (line : ℕ) (minus : Bool) (n d : ℕ) → is_ascii_digit d ≡ true
@@ -21,9 +20,7 @@ returns-then-digit-gt9-clause-small c = omega (arith, greatest-rises c.loop-i.i 
 
 pub loop-i-preserved : goal.loop-i-preserved
 loop-i-preserved c =
-    let bytes : List ℕ = c.args.bytes.now in
-    let at : ℕ = c.args.at + c.loop-i.i in
-    let n : ℕ = c.loop-i.magnitude in
+    let bytes : List ℕ = c.args.bytes.now in let at : ℕ = c.args.at + c.loop-i.i in let n : ℕ = c.loop-i.magnitude in
     let digit : ℕ = c.digit_of-digit.result in
     let h : is_ascii_digit (get_or bytes at 0) ≡ true = c.digit_of-digit.ensures.digit c.if-digit-gt9.false in
     let value : digit ≡ get_or bytes at 0 - 48 = c.digit_of-digit.ensures.value c.if-digit-gt9.false in

@@ -1,8 +1,7 @@
-use Rattle.qh_read.proofs.numbers.few_digits.Given as goal
-use Rattle.std.proofs.Common.{◌≡◌, ◌≤◌, ◌+◌, ℕ, Bool, drop}
-use Rattle.qh_model.specs.declared.form.Form.{Form}
+use Rattle.{qh_model.specs.declared.form.Form.Form, qh_read.proofs.DigitLaws.greatest}
 use Rattle.qh_read.specs.{contract.Holding.held_by, contract.Progress.Progress, declared.token.Token.TheVariants.Digits, steps.Numbers.quiet}
-use Rattle.qh_read.proofs.DigitLaws.{greatest}
+use Rattle.std.proofs.Common.{◌≡◌, ◌≤◌, ◌+◌, ℕ, Bool, drop}
+use Rattle.qh_read.proofs.numbers.few_digits.Given as goal
 
 -- the bytes so far are the digits of the magnitude
 abbrev pub invariant-loop-i : goal.invariant-loop-i

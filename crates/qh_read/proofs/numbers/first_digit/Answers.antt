@@ -1,10 +1,9 @@
-use Rattle.qh_read.proofs.numbers.first_digit.Goals as goal
 use Rattle.std.proofs.Common.{arith, ◌≡◌, ◌<◌, ◌+◌, ◌-◌, ◌∙◌, ℕ, Bool, List, true, false, cond, drop, length, ap, subst, refl}
-use Rattle.std.{proofs.lemmas.Grind.common_steps, specs.Char.is_ascii_digit, specs.Prelude.get_or}
-use Rattle.qh_model.specs.declared.form.Form.{Form, TheVariants.Qhull, TheVariants.Off}
+use Rattle.{std.proofs.lemmas.Grind.common_steps, std.specs.Char.is_ascii_digit, std.specs.Prelude.get_or, qh_model.specs.declared.form.Form.Form}
 use Rattle.qh_read.specs.{contract.Holding.next_held, contract.Progress.Progress, steps.Numbers.quiet, steps.Numbers.IsBegun, steps.Signs.is_minus}
 use Rattle.qh_read.specs.declared.token.Token.TheVariants.{Empty, Sign, Digits}
 use Rattle.qh_read.proofs.{CursorLaws.step, numbers.first_digit.Goals.then-bytes-at-eq43, numbers.first_digit.Goals.else-bytes-at-eq43}
+use Rattle.qh_read.proofs.numbers.first_digit.Goals as goal
 
 unsigned : (form : Form) (p : Progress) (line d : ℕ) → is_ascii_digit d ≡ true
     → next_held (quiet form p line Empty) d ≡ quiet form p line (Digits false (d - 48))
@@ -15,10 +14,7 @@ after_sign : (form : Form) (p : Progress) (line : ℕ) (minus : Bool) (d : ℕ) 
 after_sign form p line minus d h = grind (arith, common_steps)
 
 sign : (form : Form) (p : Progress) (line : ℕ) (minus : Bool) → next_held (quiet form p line Empty) (cond minus 45 43) ≡ quiet form p line (Sign minus)
-sign Qhull p line true = refl
-sign Qhull p line false = refl
-sign Off p line true = refl
-sign Off p line false = refl
+sign form p line minus = grind (arith, common_steps)
 
 -- a digit
 one : (bytes : List ℕ) (start : ℕ) (digit : ℕ) → start < length bytes → is_ascii_digit (get_or bytes start 0) ≡ true
@@ -38,10 +34,8 @@ two bytes at start minus digit e within byte h value form p line =
 
 pub returns-clause-held : goal.returns-clause-held
 returns-clause-held c =
-    let bytes : List ℕ = c.args.bytes.now in
-    let start : ℕ = c.if-bytes-at-eq43.start in
-    let minus : Bool = is_minus c.if-minus-2.sign in
-    let digit : ℕ = c.digit_of-digit.result in
+    let bytes : List ℕ = c.args.bytes.now in let start : ℕ = c.if-bytes-at-eq43.start in
+    let minus : Bool = is_minus c.if-minus-2.sign in let digit : ℕ = c.digit_of-digit.result in
     let h : is_ascii_digit (get_or bytes start 0) ≡ true = c.digit_of-digit.ensures.digit c.if-digit-gt9.false in
     let value : digit ≡ get_or bytes start 0 - 48 = c.digit_of-digit.ensures.value c.if-digit-gt9.false in
     elim c.if-bytes-at-eq43.branch [

@@ -1,6 +1,5 @@
 use Rattle.std.proofs.Common.{◌≡◌, ◌+◌, ◌*◌, ◌++◌, ℕ, List, take, length}
-use Rattle.qh_model.specs.declared.form.Form.{Form}
-use Rattle.qh_read.specs.contract.Holding.{Fed}
+use Rattle.{qh_model.specs.declared.form.Form.Form, qh_read.specs.contract.Holding.Fed}
 use Rattle.qh_read.proofs.segments.feed_all.Given as goal
 
 -- the segments so far

@@ -1,7 +1,6 @@
 use Rattle.std.proofs.Common.{◌≡◌, ◌≤◌, ◌+◌, ◌-◌, ◌*◌, ◌++◌, true, cond, length}
-use Rattle.std.specs.Io.KnownBytes.{IsAtEnd}
-use Rattle.qh_model.specs.declared.limits.TheConstants.{BYTE_LIMIT}
-use Rattle.qh_read.{proofs.SourceLemmas.FedBut, specs.steps.Segments.batch_text, specs.steps.Segments.IsParsed}
+use Rattle.{std.specs.Io.KnownBytes.IsAtEnd, qh_model.specs.declared.limits.TheConstants.BYTE_LIMIT, qh_read.proofs.SourceLemmas.FedBut}
+use Rattle.qh_read.specs.steps.Segments.{batch_text, IsParsed}
 use Rattle.qh_read.proofs.threads.feed_batches.Given as goal
 
 -- the bytes read from the source are those fed to the reader, followed by the two batches

@@ -1,7 +1,6 @@
-use Rattle.qh_read.proofs.whole.feed_from.Given as goal
 use Rattle.std.proofs.Common.{◌≡◌, ◌≤◌, ◌-◌, vec_len}
-use Rattle.qh_model.specs.declared.limits.TheConstants.{BYTE_LIMIT}
-use Rattle.qh_read.specs.{declared.whole.TheConstants.PIECE_LENGTH, steps.Sources.FedOn}
+use Rattle.{qh_model.specs.declared.limits.TheConstants.BYTE_LIMIT, qh_read.specs.declared.whole.TheConstants.PIECE_LENGTH, qh_read.specs.steps.Sources.FedOn}
+use Rattle.qh_read.proofs.whole.feed_from.Given as goal
 
 -- the reader was fed all bytes read from the source so far, and no read failed
 abbrev pub invariant-loop-source : goal.invariant-loop-source

@@ -1,7 +1,5 @@
-use Rattle.std.proofs.Common.{◌≡◌, ◌<◌, ◌++◌, ℕ, List}
-use Rattle.std.specs.Slice.Iter.{chunks_rest, chunks_size}
-use Rattle.qh_model.specs.declared.form.Form.{Form}
-use Rattle.qh_read.specs.contract.Holding.{Reading, Fed}
+use Rattle.{qh_model.specs.declared.form.Form.Form, qh_read.specs.contract.Holding.Reading, qh_read.specs.contract.Holding.Fed, std.proofs.Common.◌≡◌}
+use Rattle.std.{proofs.Common.◌<◌, proofs.Common.◌++◌, proofs.Common.ℕ, proofs.Common.List, specs.Slice.Iter.chunks_rest, specs.Slice.Iter.chunks_size}
 use Rattle.qh_read.proofs.whole.read_form.Given as goal
 
 -- the bytes fed, followed by the remaining bytes, are all bytes

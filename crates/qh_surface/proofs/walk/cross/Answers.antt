@@ -1,10 +1,8 @@
 -- The neighbour joins the walk if it passes and has no mark.
 use Rattle.qh_model.proofs.Common.{◌≡◌, ◌∙◌, ◌<◌, ℕ, ap, sym, subst, arith, set, length, false, ◌||◌, ◌↔◌, IsTrue, surface_of}
-use Rattle.qh_mesh.specs.contract.Edges.{facet_of, nth_side}
-use Rattle.qh_mesh.proofs.Rewiring.{over-twin}
-use Rattle.qh_surface.specs.contract.Walks.{mark_at, IsMet}
-use Rattle.qh_surface.proofs.{LiveFacets.live_below, WalkSteps.joined, WalkSteps.joined_further, WalkSteps.met, walk.cross.Goals.After-push_reserved}
-use Rattle.qh_surface.proofs.walk.cross.Given.{Over}
+use Rattle.qh_mesh.{specs.contract.Edges.facet_of, specs.contract.Edges.nth_side, proofs.Rewiring.over-twin}
+use Rattle.qh_surface.{specs.contract.Walks.mark_at, specs.contract.Walks.IsMet, proofs.LiveFacets.live_below}
+use Rattle.qh_surface.proofs.{WalkSteps.joined, WalkSteps.joined_further, WalkSteps.met, walk.cross.Goals.After-push_reserved, walk.cross.Given.Over}
 use Rattle.qh_surface.proofs.walk.cross.Goals as goal
 
 -- the neighbour is marked if it passes, whether it is entered or not
@@ -22,14 +20,12 @@ module _ (g : Over) (c : After-push_reserved g) where
   over = over-twin c.args.mesh.now c.args.side.facet (nth_side c.args.side.number) ∙ ap facet_of (sym c.across-twin.ensures.twin)
 
   within : place < length c.args.marks.now
-  within = let b = live_below c.args.mesh.now (facet_of c.across-twin.result) c.across-twin.ensures.live in
-      let r = c.requires.marks in let e = at in omega (arith, b, r, e)
+  within = omega (arith, live_below c.args.mesh.now (facet_of c.across-twin.result) c.across-twin.ensures.live, c.requires.marks, at)
 
   crossed : IsMet P (set c.args.marks.now place (mark_at c.args.marks.now place || c.enters-is_entered.result))
       ((surface_of c.args.mesh.now).over c.args.side.facet (nth_side c.args.side.number))
   crossed = subst (IsMet P (set c.args.marks.now place (mark_at c.args.marks.now place || c.enters-is_entered.result)))
-      (at ∙ sym over)
-      (met (P place) c.args.marks.now place c.enters-is_entered.result within
+      (at ∙ sym over) (met (P place) c.args.marks.now place c.enters-is_entered.result within
       (subst (λ f. IsTrue c.enters-is_entered.result ↔ ((mark_at c.args.marks.now place ≡ false) × P f)) (sym at)
       (rw c.at.ensures at c.enters-is_entered.ensures)))
 

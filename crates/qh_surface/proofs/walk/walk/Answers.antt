@@ -1,7 +1,6 @@
 -- A walk goes over one facet after the other.
 use Rattle.qh_model.proofs.Common.{rules, ◌∙◌, ◌<◌, [], length, arith, subst, get_or_read}
-use Rattle.qh_surface.specs.contract.Walks.{IsCrossed}
-use Rattle.qh_surface.proofs.WalkSteps.{facets_fit, further_trans, crossed_more}
+use Rattle.qh_surface.{specs.contract.Walks.IsCrossed, proofs.WalkSteps.facets_fit, proofs.WalkSteps.further_trans, proofs.WalkSteps.crossed_more}
 use Rattle.qh_surface.proofs.walk.walk.Goals as goal
 
 pub loop-next-smaller : goal.loop-next-smaller

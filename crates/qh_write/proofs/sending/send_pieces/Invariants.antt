@@ -1,6 +1,5 @@
 -- The pieces so far were sent.
-use Rattle.std.{proofs.Common.◌≡◌, proofs.Common.take, specs.Io.KnownBytes.Appends}
-use Rattle.qh_write.specs.contract.Pieces.{bytes_of}
+use Rattle.{std.proofs.Common.◌≡◌, std.proofs.Common.take, std.specs.Io.KnownBytes.Appends, qh_write.specs.contract.Pieces.bytes_of}
 use Rattle.qh_write.proofs.sending.send_pieces.Given as goal
 
 abbrev pub invariant-loop-piece : goal.invariant-loop-piece

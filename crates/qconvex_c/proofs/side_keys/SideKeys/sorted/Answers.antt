@@ -5,8 +5,7 @@ use Rattle.qconvex_c.proofs.side_keys.SideKeys.sorted.Goals as goal
 
 pub loop-side-preserved : goal.loop-side-preserved
 loop-side-preserved c =
-    let from = side_from c.args.triangles.now in
-    let to = side_to c.args.triangles.now in
+    let from = side_from c.args.triangles.now in let to = side_to c.args.triangles.now in
     let room : c.loop-side.side < SIDE_ROOM = omega arith in record {
       up = one_more from to _ _ _ room c.loop-side.invariant.up c.in_ok-add.ensures.up c.in_ok-add.ensures.down;
       down = one_more to from _ _ _ room c.loop-side.invariant.down c.in_ok-add-2.ensures.up c.in_ok-add-2.ensures.down;

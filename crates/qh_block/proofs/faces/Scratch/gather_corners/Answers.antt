@@ -1,8 +1,6 @@
 -- The corners of the facets, sorted and without duplicates.
 use Rattle.std.proofs.{Common.eqb, lemmas.List.Filters.dedup_is, lemmas.Map.Keys.IsStrictlyIncreasing-dedup}
-use Rattle.qh_surface.specs.contract.NamedMeshes.{named}
-use Rattle.qh_block.proofs.finished.Corners.{in_corners}
-use Rattle.qh_polygon.proofs.KeptIds.{kept_members}
+use Rattle.{qh_surface.specs.contract.NamedMeshes.named, qh_block.proofs.finished.Corners.in_corners, qh_polygon.proofs.KeptIds.kept_members}
 use Rattle.qh_block.proofs.faces.Scratch.gather_corners.Goals as goal
 
 pub returns-clause-rising : goal.returns-clause-rising

@@ -1,6 +1,5 @@
 -- Points that the corner box holds are not extreme in the set.
-use Rattle.qh_block.specs.contract.CornerBoxes.{IsHeldBy}
-use Rattle.qh_block.proofs.{CornerBoxes.box_has_no_extreme, InnerPoints.kept_part}
+use Rattle.qh_block.{specs.contract.CornerBoxes.IsHeldBy, proofs.CornerBoxes.box_has_no_extreme, proofs.InnerPoints.kept_part}
 use Rattle.qh_block.proofs.interior.culling.ids_outside_box.Goals as goal
 
 pub returns-clause-part : goal.returns-clause-part

@@ -1,9 +1,6 @@
 -- No extreme id is below the planes of a sample's hull.
-use Rattle.std.proofs.Common.{subst, sym}
-use Rattle.qh_model.proofs.Members.{rising_once}
-use Rattle.qh_surface.proofs.runs.FirstSimplexes.{simplex_is}
-use Rattle.qh_block.specs.steps.InnerPoints.{HasPlanes}
-use Rattle.qh_block.proofs.InnerPoints.{columns_are_inner}
+use Rattle.{std.proofs.Common.subst, std.proofs.Common.sym, qh_model.proofs.Members.rising_once, qh_surface.proofs.runs.FirstSimplexes.simplex_is}
+use Rattle.qh_block.{specs.steps.InnerPoints.HasPlanes, proofs.InnerPoints.columns_are_inner}
 use Rattle.qh_block.proofs.interior.sample.inner_columns.Goals as goal
 
 pub surface_from-requires-clause-first : goal.surface_from-requires-clause-first

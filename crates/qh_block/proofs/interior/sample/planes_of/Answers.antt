@@ -1,16 +1,13 @@
 -- The planes of the facets so far.
-use Rattle.qh_model.proofs.Common.{ℕ, List, ◌∙◌, sym, subst, pos, ◌<ℤ◌}
-use Rattle.qh_pred.specs.contract.Planes.{PlaneValue}
-use Rattle.qh_block.proofs.InnerPoints.{AreListed, none_listed, next_listed, all_listed}
+use Rattle.qh_block.proofs.InnerPoints.{none_listed, next_listed, all_listed}
+use Rattle.qh_model.proofs.Common.{◌∙◌, subst, pos, ◌<ℤ◌}
 use Rattle.qh_surface.proofs.LiveFacets.{next_live}
 use Rattle.qh_block.proofs.interior.sample.planes_of.Goals as goal
 
 pub loop-facet-init : goal.loop-facet-init
 loop-facet-init c =
     let pts = c.args.pts.now in let fs = c.args.mesh.now in
-    subst (λ (xs : List ℕ). AreListed pts fs xs c.new-planes.result.items)
-    (sym (c.into_iter-facet-iterator.ensures.into_iter_gives ∙ c.live-facet-items.ensures))
-    (rw c.new-planes.ensures.items (none_listed pts fs))
+    rw (c.into_iter-facet-iterator.ensures.into_iter_gives ∙ c.live-facet-items.ensures) (rw c.new-planes.ensures.items (none_listed pts fs))
 
 pub plane_of-requires-clause-live : goal.plane_of-requires-clause-live
 plane_of-requires-clause-live c =
@@ -19,7 +16,7 @@ plane_of-requires-clause-live c =
 
 pub loop-facet-preserved : goal.loop-facet-preserved
 loop-facet-preserved c =
-    subst (λ (xs : List PlaneValue). AreListed c.args.pts.now c.args.mesh.now c.next.new.self xs) (sym c.in_ok-push.ensures.items)
+    rw c.in_ok-push.ensures.items
     (next_listed c.loop-facet.invariant c.in-Some.ensures.steps c.under.result
     (λ p at h. subst (λ n. n <ℤ pos 0) (c.plane_of.ensures p) (c.under.ensures p at h)))
 

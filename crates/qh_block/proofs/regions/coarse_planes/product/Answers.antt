@@ -1,6 +1,5 @@
 -- A product of two coordinates fits 64 bits.
-use Rattle.qh_model.proofs.Common.{lit<, w32, w64}
-use Rattle.qh_model.specs.declared.limits.TheConstants.{COORDINATE_LIMIT}
+use Rattle.qh_model.{proofs.Common.lit<, proofs.Common.w32, proofs.Common.w64, specs.declared.limits.TheConstants.COORDINATE_LIMIT}
 use Rattle.qh_block.proofs.Numbers.{product_fits, product_is, product_size}
 use Rattle.qh_block.proofs.regions.coarse_planes.product.Goals as goal
 

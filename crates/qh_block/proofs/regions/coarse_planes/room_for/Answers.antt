@@ -1,16 +1,13 @@
 -- The rests of the three components after the steps.
+use Rattle.{qh_pred.specs.contract.Bounds.normal_limit, qh_model.specs.declared.limits.TheConstants.COORDINATE_LIMIT, qh_block.proofs.CoarsePlanes.room_of}
+use Rattle.qh_block.proofs.{CoarsePlanes.same_product, CoarsePlanes.same_rest, Numbers.held_is, Numbers.held_as, Numbers.held_size, Numbers.held_within}
 use Rattle.qh_model.proofs.Common.{◌≡◌, ◌^◌, lit<, refl, to_z-of_z, ◌+ℤ◌, pos, w32, w64, w128, to_z, of_z}
-use Rattle.qh_model.specs.declared.limits.TheConstants.{COORDINATE_LIMIT}
-use Rattle.qh_block.proofs.CoarsePlanes.{room_of, same_product, same_rest}
-use Rattle.qh_block.proofs.Numbers.{held_is, held_as, held_size, held_within}
-use Rattle.qh_pred.specs.contract.Bounds.{normal_limit}
 use Rattle.qh_block.proofs.regions.coarse_planes.room_for.Goals as goal
 
 pub returns-clause-room : goal.returns-clause-room
 returns-clause-room c =
     let n = c.args.normal.now in let tip = c.args.tip in let step = c.args.step in
-    let x = c.in_ok-x.x in let y = c.in_ok-y.y in let z = c.in_ok-z.z in
-    let step_is = to_z-of_z w64 step c.ranges.step in
+    let x = c.in_ok-x.x in let y = c.in_ok-y.y in let z = c.in_ok-z.z in let step_is = to_z-of_z w64 step c.ranges.step in
     let total : c.total.result ≡ x +ℤ y +ℤ z =
     rw (
       held_is w128 x (2 ^ 64) c.in_ok-x.ensures.limit (lit< tt),

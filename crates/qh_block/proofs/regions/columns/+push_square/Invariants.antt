@@ -1,6 +1,5 @@
 -- A quarter has half the side; the cells so far are cells between all planes if the cells before were.
-use Rattle.std.specs.List.{All}
-use Rattle.qh_block.specs.contract.Cells.{IsCellOf}
+use Rattle.{std.specs.List.All, qh_block.specs.contract.Cells.IsCellOf}
 use Rattle.qh_block.proofs.regions.columns.+push_square.Given as goal
 
 abbrev pub decreases-push_square : goal.decreases-push_square

@@ -1,9 +1,7 @@
 -- An id whose point is in the region is removed.
 use Rattle.qh_model.proofs.Common.{◌≡◌, ◌∷◌, ◌++◌, ◌+◌, drop, ap, sym, subst, ◌∙◌, drop_more, append_assoc, append-nil, drop_all, Members}
-use Rattle.qh_model.proofs.Members.{In-get_or}
-use Rattle.qh_block.specs.contract.KeptIds.{KeepsExtremes}
-use Rattle.qh_block.proofs.KeptIds.{all_kept, held_goes}
-use Rattle.qh_block.proofs.regions.sieves.ids_outside.Goals.{then-not-has+in_ok-push, else-not-has}
+use Rattle.{qh_model.proofs.Members.In-get_or, qh_block.specs.contract.KeptIds.KeepsExtremes, qh_block.proofs.KeptIds.all_kept}
+use Rattle.qh_block.proofs.{KeptIds.held_goes, regions.sieves.ids_outside.Goals.then-not-has+in_ok-push, regions.sieves.ids_outside.Goals.else-not-has}
 use Rattle.qh_block.proofs.regions.sieves.ids_outside.Goals as goal
 
 pub loop-id-init : goal.loop-id-init
@@ -18,8 +16,8 @@ loop-id-preserved g c =
     let member : Members ids x = subst (Members ids) (sym c.id-item.is) (In-get_or ids i x c.loop-id-test.true) in
     elim c.if-not-has.branch [
       | then-not-has+in_ok-push w ↦ rw (w.kept-is, w.in_ok-push.ensures.items, append_assoc) before
-      | else-not-has w ↦ let found = c.has.ensures w.if-not-has.false in
-          rw w.kept-is (held_goes pts cs ids c.loop-id.kept.items rest x member (subst cs c.point_at.ensures found) before)
+      | else-not-has w ↦
+          rw w.kept-is (held_goes pts cs ids c.loop-id.kept.items rest x member (subst cs c.point_at.ensures (c.has.ensures w.if-not-has.false)) before)
     ]
 
 pub returns : goal.returns

@@ -1,36 +1,29 @@
 -- The kept ids of one more part are added.
 use Rattle.qh_model.proofs.Common.{◌≡◌, ◌≤◌, ◌++◌, ◌*◌, ◌+◌, ◌∙◌, ℕ, List, [], arith, ap, sym, subst, take, drop, length, mul-le-mul_right, take-add, take_all}
-use Rattle.qh_block.specs.contract.{Cells.HoldsPoint, KeptIds.KeepsExtremes}
-use Rattle.qh_block.proofs.KeptIds.{all_kept, both_kept}
+use Rattle.qh_block.{specs.contract.Cells.HoldsPoint, specs.contract.KeptIds.KeepsExtremes, proofs.KeptIds.all_kept, proofs.KeptIds.both_kept}
 use Rattle.qh_block.proofs.regions.sieves.joined.Goals as goal
 
 pub loop-part-init : goal.loop-part-init
 loop-part-init c =
-    let pts = c.args.set.pts.now in let cs = HoldsPoint c.args.columns.now in let ids = c.args.set.ids.now in
+    let pts = c.args.set.pts.now in let cs = HoldsPoint c.args.columns.now in
     let zero : 0 * c.args.size ≡ 0 = omega arith in
-    subst (λ (ys : List ℕ). KeepsExtremes pts cs ys c.new-kept.result.items) (sym (ap (λ n. take n ids) zero))
+    rw (ap (λ n. take n c.args.set.ids.now) zero)
     (subst (λ (xs : List ℕ). KeepsExtremes pts cs [] xs) (sym c.new-kept.ensures.items) (all_kept pts cs []))
 
 pub loop-part-preserved : goal.loop-part-preserved
 loop-part-preserved c =
     let pts = c.args.set.pts.now in let cs = HoldsPoint c.args.columns.now in let ids = c.args.set.ids.now in
-    let i = c.loop-part.part-index in let size = c.args.size in
-    let front = take (i * size) ids in let back = take size (drop (i * size) ids) in
+    let i = c.loop-part.part-index in let size = c.args.size in let back = take size (drop (i * size) ids) in
     let part : KeepsExtremes pts cs back c.in-Ok.ids.items = rw c.in-Ok.is at
     (rw (sym c.part-item.is) at (c.requires.parts i c.part-item.result c.loop-part-test.true)) in
     let items : c.extend_from_slice.new.self.items ≡ c.loop-part.kept.items ++ c.in-Ok.ids.items =
     c.in_ok-extend_from_slice-in-Ok.ensures.items ∙ ap (λ (v : List ℕ). c.loop-part.kept.items ++ v) c.deref.ensures.value in
     let next : i * size + size ≡ (i + 1) * size = omega arith in
-    let both = both_kept pts cs front back c.loop-part.kept.items c.in-Ok.ids.items c.loop-part.invariant part in
-    subst (λ (v : List ℕ). KeepsExtremes pts cs (take ((i + 1) * size) ids) v) (sym items)
-    (subst (λ (v : List ℕ). KeepsExtremes pts cs v (c.loop-part.kept.items ++ c.in-Ok.ids.items))
-    (sym (take-add (i * size) size ids) ∙ ap (λ n. take n ids) next) both)
+    let both = both_kept pts cs (take (i * size) ids) back c.loop-part.kept.items c.in-Ok.ids.items c.loop-part.invariant part in
+    rw items (rw (sym (take-add (i * size) size ids) ∙ ap (λ n. take n ids) next) at both)
 
 pub returns : goal.returns
 returns c =
-    let pts = c.args.set.pts.now in let cs = HoldsPoint c.args.columns.now in let ids = c.args.set.ids.now in
     let more : length c.args.parts.now * c.args.size ≤ c.loop-part.part-index * c.args.size =
     mul-le-mul_right c.args.size c.loop-part-test.false in
-    let all = c.requires.all in
-    subst (λ (v : List ℕ). KeepsExtremes pts cs v c.loop-part.kept.items)
-    (take_all (c.loop-part.part-index * c.args.size) ids (omega (arith, more, all))) c.loop-part.invariant
+    rw (take_all (c.loop-part.part-index * c.args.size) c.args.set.ids.now (omega (arith, more, c.requires.all))) at c.loop-part.invariant

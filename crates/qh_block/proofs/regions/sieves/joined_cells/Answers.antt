@@ -1,7 +1,6 @@
 -- The cells of one more part.
 use Rattle.qh_model.proofs.Common.{List, All, Vec, Global, sym, subst, All-nil, All-head, All-tail, All-append, IfOk, Result}
-use Rattle.qh_model.specs.declared.memory.Memory.{Memory}
-use Rattle.qh_pred.specs.contract.Planes.{PlaneValue}
+use Rattle.{qh_model.specs.declared.memory.Memory.Memory, qh_pred.specs.contract.Planes.PlaneValue}
 use Rattle.qh_block.specs.{contract.Cells.IsCellOf, declared.regions.cells.Cell.Cell}
 use Rattle.qh_block.proofs.regions.sieves.joined_cells.Goals as goal
 
@@ -17,8 +16,7 @@ loop-part-init c = λ planes all. (
 
 pub loop-part-preserved : goal.loop-part-preserved
 loop-part-preserved c = λ planes all.
-    let so_far = c.loop-part.invariant planes all in
-    let left = rw c.in-Some.ensures.steps.0 at so_far.1 in
+    let so_far = c.loop-part.invariant planes all in let left = rw c.in-Some.ensures.steps.0 at so_far.1 in
     let own = rw c.in_ok-own.was at (All-head (HasCellsOf planes) _ _ left) in (
       rw c.in_ok-append.ensures.items (All-append (IsCellOf planes) _ _ so_far.0 own),
       All-tail (HasCellsOf planes) _ _ left,

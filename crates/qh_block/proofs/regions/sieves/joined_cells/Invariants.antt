@@ -1,7 +1,6 @@
 -- The cells so far, and those of the remaining parts, are cells between planes if those of all parts are.
 use Rattle.qh_model.proofs.Common.{List, All, IfOk, into_iter_items}
-use Rattle.qh_pred.specs.contract.Planes.{PlaneValue}
-use Rattle.qh_block.specs.contract.Cells.{IsCellOf}
+use Rattle.{qh_pred.specs.contract.Planes.PlaneValue, qh_block.specs.contract.Cells.IsCellOf}
 use Rattle.qh_block.proofs.regions.sieves.joined_cells.Given as goal
 
 abbrev pub invariant-loop-part : goal.invariant-loop-part

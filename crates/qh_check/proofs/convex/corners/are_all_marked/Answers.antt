@@ -1,6 +1,5 @@
 -- The corners of the current triangle are marked.
-use Rattle.qh_check.specs.steps.CornerMarks.{IsMarked}
-use Rattle.qh_check.proofs.Marks.{corners_more}
+use Rattle.qh_check.{specs.steps.CornerMarks.IsMarked, proofs.Marks.corners_more}
 use Rattle.qh_check.proofs.convex.corners.are_all_marked.Goals as goal
 
 pub loop-t-preserved : goal.loop-t-preserved

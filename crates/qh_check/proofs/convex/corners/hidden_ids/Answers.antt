@@ -1,14 +1,11 @@
 -- Marked corners are ids, and ids without a mark are hidden.
-use Rattle.qh_model.proofs.Common.{Bool, List, ℕ, subst, sym, ◌⊎◌, In, IsCornerOf}
-use Rattle.qh_model.proofs.lists.Filters.{of_filter}
-use Rattle.qh_check.specs.steps.CornerMarks.{IsMarked, is_unmarked}
-use Rattle.qh_check.proofs.Marks.{corner_or_unmarked}
+use Rattle.qh_model.proofs.{Common.Bool, Common.List, Common.ℕ, Common.subst, Common.sym, Common.◌⊎◌, Common.In, Common.IsCornerOf, lists.Filters.of_filter}
+use Rattle.qh_check.{specs.steps.CornerMarks.IsMarked, specs.steps.CornerMarks.is_unmarked, proofs.Marks.corner_or_unmarked}
 use Rattle.qh_check.proofs.convex.corners.hidden_ids.Goals as goal
 
 pub returns : goal.returns
 returns c =
-    let ids = c.args.ids.now in
-    let seen = c.in_ok-seen.seen.items in
+    let ids = c.args.ids.now in let seen = c.in_ok-seen.seen.items in
     let left = rw c.deref-2.ensures.value at c.in_ok-hidden.ensures in
     record {
       listed = λ l m. c.in_ok-listed.ensures.marks l

@@ -1,6 +1,5 @@
 -- The corners of the current triangle are marked too.
-use Rattle.std.proofs.{Common.◌∙◌, lemmas.List.length-set}
-use Rattle.qh_check.proofs.Marks.{marked_corners}
+use Rattle.{std.proofs.Common.◌∙◌, std.proofs.lemmas.List.length-set, qh_check.proofs.Marks.marked_corners}
 use Rattle.qh_check.proofs.convex.corners.marks_of_corners.Goals as goal
 
 pub loop-t-preserved : goal.loop-t-preserved

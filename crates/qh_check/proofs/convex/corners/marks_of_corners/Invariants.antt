@@ -4,5 +4,4 @@ use Rattle.qh_check.specs.steps.CornerMarks.{IsMarked}
 use Rattle.qh_check.proofs.convex.corners.marks_of_corners.Given as goal
 
 abbrev pub invariant-loop-t : goal.invariant-loop-t
-invariant-loop-t l =
-    (length l.marks.items ≡ length l.pts) × ((k : ℕ) → IsMarked l.marks.items k → IsCornerOf (take l.t-index l.triangles) k)
+invariant-loop-t l = (length l.marks.items ≡ length l.pts) × ((k : ℕ) → IsMarked l.marks.items k → IsCornerOf (take l.t-index l.triangles) k)

@@ -1,7 +1,6 @@
 -- The current id is marked too.
 use Rattle.qh_model.proofs.Common.{◌≡◌, ◌∙◌, ◌⊎◌, ℕ, ◌+◌, get_or, inl, inr, subst, sym, take, length-set, In}
-use Rattle.qh_check.specs.steps.CornerMarks.{IsMarked}
-use Rattle.qh_check.proofs.{Marks.marked_more, Prefixes.in_more, Prefixes.last_more}
+use Rattle.qh_check.{specs.steps.CornerMarks.IsMarked, proofs.Marks.marked_more, proofs.Prefixes.in_more, proofs.Prefixes.last_more}
 use Rattle.qh_check.proofs.convex.corners.marks_of_ids.Goals as goal
 
 pub loop-id-preserved : goal.loop-id-preserved

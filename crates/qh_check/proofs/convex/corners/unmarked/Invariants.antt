@@ -1,6 +1,5 @@
 -- Those of the ids so far that are not marked.
-use Rattle.std.proofs.Common.{◌≡◌, filter, take}
-use Rattle.qh_check.specs.steps.CornerMarks.{is_unmarked}
+use Rattle.{std.proofs.Common.◌≡◌, std.proofs.Common.filter, std.proofs.Common.take, qh_check.specs.steps.CornerMarks.is_unmarked}
 use Rattle.qh_check.proofs.convex.corners.unmarked.Given as goal
 
 abbrev pub invariant-loop-id : goal.invariant-loop-id

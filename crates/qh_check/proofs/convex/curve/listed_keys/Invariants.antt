@@ -1,6 +1,5 @@
 -- The keys of the ids so far.
-use Rattle.std.proofs.Common.{◌≡◌, map, take}
-use Rattle.qh_check.specs.steps.Hidden.{id_in}
+use Rattle.{std.proofs.Common.◌≡◌, std.proofs.Common.map, std.proofs.Common.take, qh_check.specs.steps.Hidden.id_in}
 use Rattle.qh_check.proofs.convex.curve.listed_keys.Given as goal
 
 abbrev pub invariant-loop-id : goal.invariant-loop-id

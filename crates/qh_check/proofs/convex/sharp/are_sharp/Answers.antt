@@ -1,7 +1,6 @@
 -- The result of each test.
 use Rattle.std.proofs.Common.{◌<◌, length, subst}
-use Rattle.qh_model.proofs.Members.{All-In, All-of}
-use Rattle.qh_check.specs.steps.{CornerMarks.AreHidden, StepKeys.EdgesRise}
+use Rattle.{qh_model.proofs.Members.All-In, qh_model.proofs.Members.All-of, qh_check.specs.steps.CornerMarks.AreHidden, qh_check.specs.steps.StepKeys.EdgesRise}
 use Rattle.qh_check.proofs.convex.sharp.are_sharp.Goals as goal
 
 pub are_sharp_pairs-requires-clause-up : goal.are_sharp_pairs-requires-clause-up

@@ -5,5 +5,4 @@ use Rattle.qh_check.proofs.naming.Named.all_renamed.Given as goal
 
 abbrev pub invariant-loop-position : goal.invariant-loop-position
 invariant-loop-position l = (length l.polygons.items ≡ l.position)
-    × ((k : ℕ) → k < l.position
-    → AreNamed l.self.pts.now l.self.ids.now l.self.list.now (get_or l.faces k []) (get_or l.polygons.items k []))
+    × ((k : ℕ) → k < l.position → AreNamed l.self.pts.now l.self.ids.now l.self.list.now (get_or l.faces k []) (get_or l.polygons.items k []))

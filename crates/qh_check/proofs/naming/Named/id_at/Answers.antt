@@ -1,6 +1,5 @@
 -- The point of the id at the position is at the place.
-use Rattle.qh_model.proofs.Common.{◌≡◌, ◌∙◌, ap, get_or, sym, get_or_default, place}
-use Rattle.qh_model.proofs.Members.{In-get_or}
+use Rattle.qh_model.proofs.{Common.◌≡◌, Common.◌∙◌, Common.ap, Common.get_or, Common.sym, Common.get_or_default, Common.place, Members.In-get_or}
 use Rattle.qh_check.proofs.naming.Named.id_at.Goals as goal
 
 pub returns-then-are_same : goal.returns-then-are_same

@@ -14,5 +14,5 @@ returns-then-are_same c =
 
 pub returns : goal.returns
 returns c = λ i m e.
-    let ids = c.args.self.ids.now in let (k, l, same) = in_at ids i m in let done = c.loop-id-test.false in
-    c.loop-id.invariant k (omega (arith, done, l)) (ap (place c.args.self.pts.now) same ∙ e)
+    let (k, l, same) = in_at c.args.self.ids.now i m in
+    c.loop-id.invariant k (omega (arith, c.loop-id-test.false, l)) (ap (place c.args.self.pts.now) same ∙ e)

@@ -1,6 +1,5 @@
 -- The current number represents no id.
-use Rattle.qh_model.proofs.Common.{◌≡◌, ◌∙◌, get_or, subst, sym, get_or_default, In}
-use Rattle.qh_model.proofs.Members.{In-get_or}
+use Rattle.qh_model.proofs.{Common.◌≡◌, Common.◌∙◌, Common.get_or, Common.subst, Common.sym, Common.get_or_default, Common.In, Members.In-get_or}
 use Rattle.qh_check.proofs.naming.Named.renamed.Goals as goal
 
 pub returns-in-None : goal.returns-in-None

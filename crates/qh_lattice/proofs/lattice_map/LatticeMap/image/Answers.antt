@@ -1,5 +1,4 @@
-use Rattle.std.proofs.Common.{◌∙◌}
-use Rattle.qh_lattice.proofs.Rows.{coordinate_read, rows_moved}
+use Rattle.{std.proofs.Common.◌∙◌, qh_lattice.proofs.Rows.coordinate_read, qh_lattice.proofs.Rows.rows_moved}
 use Rattle.qh_lattice.proofs.lattice_map.LatticeMap.image.Goals as goal
 
 pub returns : goal.returns

@@ -1,6 +1,5 @@
 use Rattle.qh_model.proofs.Common.{◌∙◌, ap, length, [], ◌∷◌, ◌+◌, length-append, place}
-use Rattle.qh_lattice.specs.{contract.LatticeMaps.moved, steps.Rows.matrix_of, steps.Rows.shift_of}
-use Rattle.qh_lattice.proofs.Rows.{one_more, own_place}
+use Rattle.qh_lattice.{specs.contract.LatticeMaps.moved, specs.steps.Rows.matrix_of, specs.steps.Rows.shift_of, proofs.Rows.one_more, proofs.Rows.own_place}
 use Rattle.qh_lattice.proofs.lattice_map.LatticeMap.images.Goals as goal
 
 pub loop-p-preserved : goal.loop-p-preserved

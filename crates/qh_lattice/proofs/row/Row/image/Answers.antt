@@ -1,5 +1,4 @@
-use Rattle.std.proofs.lemmas.Option.{IfSome_then}
-use Rattle.qh_lattice.proofs.Rows.{offset_scaled}
+use Rattle.{std.proofs.lemmas.Option.IfSome_then, qh_lattice.proofs.Rows.offset_scaled}
 use Rattle.qh_lattice.proofs.row.Row.image.Goals as goal
 
 pub returns-then-unsigned_abs-from : goal.returns-then-unsigned_abs-from

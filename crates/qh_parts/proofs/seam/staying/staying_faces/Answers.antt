@@ -1,6 +1,5 @@
 -- The faces of the facets that stay are those of the set, and all faces of the part close up.
-use Rattle.std.proofs.Common.{get_or}
-use Rattle.qh_surface.specs.contract.Walks.{mark_at}
+use Rattle.{std.proofs.Common.get_or, qh_surface.specs.contract.Walks.mark_at}
 use Rattle.qh_parts.proofs.StayingParts.{part_set, part_finished, face_of_part}
 use Rattle.qh_parts.proofs.seam.staying.staying_faces.Goals as goal
 

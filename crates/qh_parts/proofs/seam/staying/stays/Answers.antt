@@ -1,10 +1,9 @@
 -- The part is tested against each other part in order.
 use Rattle.qh_model.proofs.Common.{◌≡◌, ◌<◌, ◌⊎◌, inl, inr, length, get_or, sym, subst, arith, cases_lt, surface_of, place, In}
 use Rattle.qh_surface.specs.contract.{NamedMeshes.named, Walks.mark_at}
-use Rattle.qh_parts_join.specs.{contract.Parts.own_in, declared.parts.Part.Part}
-use Rattle.qh_parts.specs.steps.{Apart.IsApart, Witnesses.IsRingOver}
-use Rattle.qh_parts.proofs.{Answers.apart_of, seam.staying.stays.Goals.then-other-number+in_ok-apart+else-not-apart, seam.staying.stays.Goals.else-other-number}
-use Rattle.qh_parts.proofs.StayingParts.{shared_indices, apart_at, staying_part}
+use Rattle.{qh_parts_join.specs.contract.Parts.own_in, qh_parts_join.specs.declared.parts.Part.Part, qh_parts.specs.steps.Apart.IsApart}
+use Rattle.qh_parts.{specs.steps.Witnesses.IsRingOver, proofs.Answers.apart_of, proofs.seam.staying.stays.Goals.then-other-number+in_ok-apart+else-not-apart}
+use Rattle.qh_parts.proofs.{seam.staying.stays.Goals.else-other-number, StayingParts.shared_indices, StayingParts.apart_at, StayingParts.staying_part}
 use Rattle.qh_parts.proofs.seam.staying.stays.Goals as goal
 
 pub four_of-requires : goal.four_of-requires
@@ -17,31 +16,27 @@ pub loop-other-preserved : goal.loop-other-preserved
 loop-other-preserved c = λ j h d e. elim (cases_lt j c.loop-other.other) [
   | inl l ↦ c.loop-other.invariant j l d e
   | inr g ↦ (let same : c.loop-other.other ≡ j = omega (arith, g, h) in
-      subst (λ k. (k ≡ c.args.number) ⊎ IsApart c.args.set.pts.now (get_or c.args.set.parts.now c.args.number d)
-      (mark_at c.args.guess.stay.now) (own_in (get_or c.args.set.parts.now k e))) same (at_other d e))
+      rw same at (at_other d e))
 ]
   where
     within : c.loop-other.other < length c.args.set.parts.now
     within = c.loop-other-test.true
 
     at_other : (d e : Part) → (c.loop-other.other ≡ c.args.number) ⊎ IsApart c.args.set.pts.now
-        (get_or c.args.set.parts.now c.args.number d) (mark_at c.args.guess.stay.now)
-        (own_in (get_or c.args.set.parts.now c.loop-other.other e))
+        (get_or c.args.set.parts.now c.args.number d) (mark_at c.args.guess.stay.now) (own_in (get_or c.args.set.parts.now c.loop-other.other e))
     at_other d e =
-        let pts = c.args.set.pts.now in let shared = c.args.set.shared.now in let parts = c.args.set.parts.now in
+        let pts = c.args.set.pts.now in let parts = c.args.set.parts.now in
         let stay = mark_at c.args.guess.stay.now in let own = c.index-set-number.result in
         elim c.if-other-number.branch [
           | then-other-number+in_ok-apart+else-not-apart w ↦ (
               let other = w.index-set-other.result in let ids = own_in (get_or parts c.loop-other.other other) in
               let held = (c.requires.parts c.loop-other.other other within).places in
               let ring : IsRingOver (place pts) (surface_of (named (get_or parts c.args.number own).surface)) stay ids =
-              λ f r. w.in_ok-apart.ensures.ring w.if-not-apart.false ids held f
-              (subst (In f) (sym w.deref.ensures.value) (c.in_ok-ring.ensures.all f r)) in
+              λ f r. w.in_ok-apart.ensures.ring w.if-not-apart.false ids held f (subst (In f) (sym w.deref.ensures.value) (c.in_ok-ring.ensures.all f r)) in
               inr (apart_at pts parts stay c.args.number c.loop-other.other own other d e c.requires.number within
-              (apart_of pts shared c.in-Some.four c.in-Some.ensures (get_or parts c.args.number own)
-              (c.requires.parts c.args.number own c.requires.number) stay ids
-              (w.in_ok-apart.ensures.answers w.if-not-apart.false ids held) ring)))
-          | else-other-number w ↦ inl (let same = w.if-other-number.false in omega (arith, same))
+              (apart_of pts c.args.set.shared.now c.in-Some.four c.in-Some.ensures (get_or parts c.args.number own)
+              (c.requires.parts c.args.number own c.requires.number) stay ids (w.in_ok-apart.ensures.answers w.if-not-apart.false ids held) ring)))
+          | else-other-number w ↦ inl (omega (arith, w.if-other-number.false))
         ]
 
 pub returns-clause-part : goal.returns-clause-part

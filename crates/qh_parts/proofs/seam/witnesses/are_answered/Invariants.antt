@@ -1,8 +1,6 @@
 -- The points that do not remain have witnesses.
-use Rattle.qh_model.specs.{contract.StoredSurface.surface_of, headline.Predicates.place}
-use Rattle.qh_surface.specs.contract.{NamedMeshes.named, Walks.mark_at}
-use Rattle.qh_parts.specs.steps.Witnesses.{IsAnswered}
-use Rattle.qh_parts_join.proofs.Runs.{AreLeft}
+use Rattle.{qh_model.specs.contract.StoredSurface.surface_of, qh_model.specs.headline.Predicates.place, qh_surface.specs.contract.NamedMeshes.named}
+use Rattle.{qh_surface.specs.contract.Walks.mark_at, qh_parts.specs.steps.Witnesses.IsAnswered, qh_parts_join.proofs.Runs.AreLeft}
 use Rattle.qh_parts.proofs.seam.witnesses.are_answered.Given as goal
 
 abbrev pub invariant-loop-run : goal.invariant-loop-run

@@ -1,9 +1,6 @@
 -- One more point is settled.
-use Rattle.qh_model.proofs.Common.{◌≡◌, ◌<◌, ◌∙◌, inl, inr, length, get_or, arith, ap, sym, subst, cases_lt, get_or_default, surface_of, place}
-use Rattle.qh_model.proofs.Members.{to_contains}
-use Rattle.qh_surface.specs.contract.{NamedMeshes.named, Walks.mark_at}
-use Rattle.qh_parts.specs.steps.Witnesses.{IsAnswered}
-use Rattle.qh_parts.proofs.Answers.{answered}
+use Rattle.qh_model.proofs.Common.{◌≡◌, ◌<◌, ◌∙◌, inl, inr, length, arith, ap, sym, cases_lt, get_or_default}
+use Rattle.{qh_model.proofs.Members.to_contains, qh_parts.proofs.Answers.answered, qh_surface.specs.contract.Walks.mark_at}
 use Rattle.qh_parts.proofs.seam.witnesses.is_witness.Goals as goal
 
 pub loop-point-preserved : goal.loop-point-preserved
@@ -14,18 +11,12 @@ loop-point-preserved c = λ k h d. elim (cases_lt k c.loop-point.point-index) [
       let within : c.loop-point.point-index < length c.args.points.now = omega arith in
       let item = c.point-item.is ∙ get_or_default c.args.points.now c.loop-point.point-index c.point-item.result d within in
       let corners = c.triangle-triangle.ensures in
-      subst (λ n. IsAnswered (place part.pts.now) (surface_of (named part.surface.now)) (mark_at part.stay.now) c.args.four.now
-      (get_or c.args.points.now n d)) same
-      (subst (IsAnswered (place part.pts.now) (surface_of (named part.surface.now)) (mark_at part.stay.now) c.args.four.now) item
-      (answered part.pts.now part.surface.now part.stay.now c.args.four.now c.args.f (sym c.is_live.ensures ∙ c.if-not-is_live.false) _
-      (ap (mark_at part.stay.now) c.index-2.ensures) _ _ _ _ corners.a corners.b corners.c
-      (c.settles.ensures c.if-not-settles.false))))
+      rw same at
+      (rw item at (answered part.pts.now part.surface.now part.stay.now c.args.four.now c.args.f (sym c.is_live.ensures ∙ c.if-not-is_live.false) _
+      (ap (mark_at part.stay.now) c.index-2.ensures) _ _ _ _ corners.a corners.b corners.c (c.settles.ensures c.if-not-settles.false))))
 ]
 
 pub returns : goal.returns
 returns c = λ _ p i.
-    let part = c.args.part in
-    let (k, h, e) = to_contains c.args.points.now p i in
-    let end = c.loop-point-test.false in
-    subst (IsAnswered (place part.pts.now) (surface_of (named part.surface.now)) (mark_at part.stay.now) c.args.four.now) e
-    (c.loop-point.invariant k (omega (arith, h, end)) p)
+    let part = c.args.part in let (k, h, e) = to_contains c.args.points.now p i in
+    rw e at (c.loop-point.invariant k (omega (arith, h, c.loop-point-test.false)) p)

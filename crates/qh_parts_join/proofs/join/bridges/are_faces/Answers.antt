@@ -1,7 +1,5 @@
 -- One more group consists of faces.
-use Rattle.std.proofs.Common.{arith}
-use Rattle.qh_model.proofs.Members.{All-In, All-of}
-use Rattle.qh_parts_join.specs.steps.Bridges.{IsBridge}
+use Rattle.{std.proofs.Common.arith, qh_model.proofs.Members.All-In, qh_model.proofs.Members.All-of, qh_parts_join.specs.steps.Bridges.IsBridge}
 use Rattle.qh_parts_join.proofs.Runs.{left_at_start, left_behind, all_done}
 use Rattle.qh_parts_join.proofs.join.bridges.are_faces.Goals as goal
 
@@ -16,4 +14,4 @@ loop-rest-preserved c =
 pub returns : goal.returns
 returns c = λ _.
     All-of (IsBridge c.args.kept.pts.now c.args.kept.corners.now c.args.kept.shared.now) c.args.polygons.now
-    (all_done _ _ _ c.loop-rest.invariant (let t = c.loop-rest-test.false in omega (arith, t)))
+    (all_done _ _ _ c.loop-rest.invariant (omega (arith, c.loop-rest-test.false)))

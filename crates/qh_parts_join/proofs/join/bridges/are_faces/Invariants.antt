@@ -1,7 +1,5 @@
 -- The polygons that do not remain are faces.
-use Rattle.std.proofs.Common.{length}
-use Rattle.qh_parts_join.specs.steps.Bridges.{IsBridge}
-use Rattle.qh_parts_join.proofs.Runs.{AreLeft}
+use Rattle.{std.proofs.Common.length, qh_parts_join.specs.steps.Bridges.IsBridge, qh_parts_join.proofs.Runs.AreLeft}
 use Rattle.qh_parts_join.proofs.join.bridges.are_faces.Given as goal
 
 abbrev pub invariant-loop-rest : goal.invariant-loop-rest

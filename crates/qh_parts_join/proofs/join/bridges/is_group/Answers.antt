@@ -1,6 +1,5 @@
 -- One more polygon is a face.
-use Rattle.qh_places.proofs.Listed.{all_ends, all_goes}
-use Rattle.qh_parts_join.specs.steps.Bridges.{IsBridge}
+use Rattle.{qh_places.proofs.Listed.all_ends, qh_places.proofs.Listed.all_goes, qh_parts_join.specs.steps.Bridges.IsBridge}
 use Rattle.qh_parts_join.proofs.join.bridges.is_group.Goals as goal
 
 pub loop-claimed-preserved : goal.loop-claimed-preserved

@@ -1,7 +1,6 @@
 -- The ids in the plane are ids that the places hold, or shared ids.
 use Rattle.qh_model.proofs.Common.{[], flat_map}
-use Rattle.qh_parts_join.specs.contract.Kept.{held_in}
-use Rattle.qh_parts_join.proofs.{LevelPlanes.none_level, LevelPlanes.level_for, BridgeLevels.held_kept}
+use Rattle.qh_parts_join.{specs.contract.Kept.held_in, proofs.LevelPlanes.none_level, proofs.LevelPlanes.level_for, proofs.BridgeLevels.held_kept}
 use Rattle.qh_parts_join.proofs.join.bridges.level_of.Goals as goal
 
 pub returns-clause-level : goal.returns-clause-level

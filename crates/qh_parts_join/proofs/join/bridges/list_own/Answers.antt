@@ -1,9 +1,7 @@
 -- The ids of one more part in the plane are listed.
-use Rattle.qh_model.proofs.Common.{◌<◌, ◌++◌, length, map, sym, subst, arith, append-nil, take_all, flat_map, In}
-use Rattle.qh_model.proofs.{Members.All-In, Members.In-get_or, lists.Images.in_map}
-use Rattle.qh_places.specs.contract.Places.{AreLevel}
-use Rattle.qh_parts_join.specs.{contract.Kept.held_in, contract.Kept.ArePlaced, steps.Bridges.places_in}
-use Rattle.qh_parts_join.proofs.LevelPlanes.{level_both, flat_next}
+use Rattle.qh_model.proofs.Common.{◌<◌, length, map, sym, subst, arith, append-nil, take_all, In}
+use Rattle.{qh_model.proofs.Members.All-In, qh_model.proofs.Members.In-get_or, qh_model.proofs.lists.Images.in_map, qh_parts_join.specs.contract.Kept.held_in}
+use Rattle.qh_parts_join.{specs.contract.Kept.ArePlaced, specs.steps.Bridges.places_in, proofs.LevelPlanes.level_both, proofs.LevelPlanes.flat_next}
 use Rattle.qh_parts_join.proofs.join.bridges.list_own.Goals as goal
 
 pub loop-part-init : goal.loop-part-init
@@ -21,6 +19,4 @@ loop-part-preserved c = λ pts placed ids start.
 
 pub returns : goal.returns
 returns c = λ _ pts placed ids start.
-    let nears = c.args.nears.now in
-    subst (λ ns. AreLevel pts (ids ++ flat_map held_in (map places_in ns)) c.args.plane.now c.loop-part.level.items)
-    (take_all c.loop-part.part-index nears c.loop-part-test.false) (c.loop-part.invariant pts placed ids start)
+    rw (take_all c.loop-part.part-index c.args.nears.now c.loop-part-test.false) at (c.loop-part.invariant pts placed ids start)

@@ -6,5 +6,4 @@ use Rattle.qh_parts_join.proofs.join.bridges.list_own.Given as goal
 
 abbrev pub invariant-loop-part : goal.invariant-loop-part
 invariant-loop-part l = (pts : List Vector) → All (ArePlaced pts) (map places_in l.nears) → (ids : List ℕ)
-    → AreLevel pts ids l.plane l.initial.level.items
-    → AreLevel pts (ids ++ flat_map held_in (map places_in (take l.part-index l.nears))) l.plane l.level.items
+    → AreLevel pts ids l.plane l.initial.level.items → AreLevel pts (ids ++ flat_map held_in (map places_in (take l.part-index l.nears))) l.plane l.level.items

@@ -1,6 +1,5 @@
 -- The parts so far.
-use Rattle.std.proofs.Common.{◌≡◌, map, take}
-use Rattle.qh_parts_join.specs.steps.Bridges.{places_in}
+use Rattle.{std.proofs.Common.◌≡◌, std.proofs.Common.map, std.proofs.Common.take, qh_parts_join.specs.steps.Bridges.places_in}
 use Rattle.qh_parts_join.proofs.join.bridges.nears_of.Given as goal
 
 abbrev pub invariant-loop-places : goal.invariant-loop-places

@@ -1,9 +1,7 @@
 -- A finished mesh of the sorted ids, and its corners.
 use Rattle.qh_model.proofs.Common.{ℕ, ◌<◌, ◌⊎◌, inl, inr, List, All, length, sym, subst, AreIndices, IsFinished, surface_of, Surface, IsCorner, Vector, place}
-use Rattle.qh_model.proofs.Common.{In, IsLiveCorner}
-use Rattle.qh_model.proofs.Members.{All-In, All-of}
-use Rattle.qh_surface.specs.contract.NamedMeshes.{named}
-use Rattle.qh_parts_join.proofs.{OnceListed.finished_for, Runs.all_of_part}
+use Rattle.qh_model.proofs.{Common.In, Common.IsLiveCorner, Members.All-In, Members.All-of}
+use Rattle.{qh_surface.specs.contract.NamedMeshes.named, qh_parts_join.proofs.OnceListed.finished_for, qh_parts_join.proofs.Runs.all_of_part}
 use Rattle.qh_parts_join.proofs.parts.Part.of.Goals as goal
 
 pub simplex_of-requires : goal.simplex_of-requires
@@ -43,8 +41,7 @@ marks_of-requires c =
     let finished = finished_for (place c.args.pts.now) c.in_ok-order.order.items c.in_ok-ids.ids.items (surface_of (named c.in_ok-surface.surface))
     (c.in_ok-surface.ensures.finished c.in_ok-order.ensures.once) (rw c.deref-3.ensures.value at c.in_ok-order.ensures.same) in
     subst (All (λ i. i < length pts)) (sym c.deref-4.ensures.value)
-    (All-of (λ i. i < length pts) _
-    (λ l i. corner_index pts ids (surface_of (named c.in_ok-surface.surface)) finished ok l (c.in_ok-corners.ensures.only l i)))
+    (All-of (λ i. i < length pts) _ (λ l i. corner_index pts ids (surface_of (named c.in_ok-surface.surface)) finished ok l (c.in_ok-corners.ensures.only l i)))
 
 pub in_order-requires : goal.in_order-requires
 in_order-requires c =
@@ -71,8 +68,7 @@ returns-clause-part c = record {
     corners : let m = surface_of (named c.in_ok-surface.surface) in (f : ℕ) → In f m.live → (l : ℕ) → IsCorner m f l
         → In l c.in_ok-own.own.items ⊎ In l c.args.shared.now
     corners f live l k =
-        let listed = c.in_ok-corners.ensures.all l (f, live, k) in
-        let marked = (rw c.deref-4.ensures.value at c.in_ok-marks.ensures) l listed in
+        let marked = (rw c.deref-4.ensures.value at c.in_ok-marks.ensures) l (c.in_ok-corners.ensures.all l (f, live, k)) in
         elim (c.in_ok-unshared.ensures.all l ((c.in_ok-ids.ensures.members l).0 (finished.corners f live l k))) [
           | inl u ↦ inl ((rw (c.deref-5.ensures.value, c.deref-6.ensures.value) at c.in_ok-own.ensures.all) l u marked)
           | inr s ↦ inr s

@@ -1,7 +1,6 @@
 -- The ends of the three ranges that lie furthest.
-use Rattle.qh_model.proofs.Common.{ap, Vector}
+use Rattle.{qh_model.proofs.Common.ap, qh_model.proofs.Common.Vector, qh_places.proofs.Coordinates.made_far}
 use Rattle.qh_pred.proofs.Coordinates.{one_of_two, read_is}
-use Rattle.qh_places.proofs.Coordinates.{made_far}
 use Rattle.qh_places.proofs.boxes.PointBox.far_corner.Goals as goal
 
 pub returns : goal.returns

@@ -3,8 +3,7 @@ use Rattle.qh_places.proofs.PointBoxes.{le_trans}
 use Rattle.qh_places.proofs.boxes.PointBox.with.Goals as goal
 
 pub returns-clause-own : goal.returns-clause-own
-returns-clause-own c =
-    let l = c.least_of.ensures.two in let h = c.greatest_of.ensures.two in record { x = (l.x, h.x); y = (l.y, h.y); z = (l.z, h.z) }
+returns-clause-own c = let l = c.least_of.ensures.two in let h = c.greatest_of.ensures.two in record { x = (l.x, h.x); y = (l.y, h.y); z = (l.z, h.z) }
 
 pub returns-clause-others : goal.returns-clause-others
 returns-clause-others c = λ q w.

@@ -1,6 +1,5 @@
 -- The share and the rest bound the heights.
-use Rattle.qh_model.proofs.Common.{to_z-of_z, w128, SFits}
-use Rattle.qh_places.proofs.BundleSlabs.{block_is_below}
+use Rattle.{qh_model.proofs.Common.to_z-of_z, qh_model.proofs.Common.w128, qh_model.proofs.Common.SFits, qh_places.proofs.BundleSlabs.block_is_below}
 use Rattle.qh_places.proofs.bundles.Bundle.is_above.Goals as goal
 
 pub returns : goal.returns

@@ -1,8 +1,6 @@
 -- One more block is made.
-use Rattle.std.proofs.Common.{ℕ, ◌<◌, subst, sym}
-use Rattle.std.proofs.lemmas.Nat.{pow_pos}
-use Rattle.qh_places.specs.steps.Levels.{AreBlocks}
-use Rattle.qh_places.proofs.BlockBoxes.{blocks_start, blocks_grow}
+use Rattle.std.proofs.{Common.ℕ, Common.◌<◌, Common.subst, Common.sym, lemmas.Nat.pow_pos}
+use Rattle.qh_places.{specs.steps.Levels.AreBlocks, proofs.BlockBoxes.blocks_start, proofs.BlockBoxes.blocks_grow}
 use Rattle.qh_places.proofs.levels.Level.over.Goals as goal
 
 pub loop-rest-init : goal.loop-rest-init

@@ -1,6 +1,5 @@
 -- The blocks so far are made.
-use Rattle.std.proofs.Common.{length}
-use Rattle.qh_places.specs.steps.Levels.{HasBlocks}
+use Rattle.{std.proofs.Common.length, qh_places.specs.steps.Levels.HasBlocks}
 use Rattle.qh_places.proofs.levels.Level.over.Given as goal
 
 abbrev pub invariant-loop-rest : goal.invariant-loop-rest

@@ -1,7 +1,6 @@
 -- The points are below the planes so far.
 use Rattle.qh_model.proofs.Common.{ℕ, ◌<◌, List, get_or, pos, ◌<ℤ◌, Vector, place, In}
-use Rattle.qh_pred.specs.contract.Planes.{PlaneValue, height}
-use Rattle.qh_places.specs.contract.Places.{ArePlaces}
+use Rattle.{qh_pred.specs.contract.Planes.PlaneValue, qh_pred.specs.contract.Planes.height, qh_places.specs.contract.Places.ArePlaces}
 use Rattle.qh_places.proofs.places.Places.are_below.Given as goal
 
 abbrev pub invariant-loop-plane : goal.invariant-loop-plane

@@ -7,9 +7,7 @@ points_of-requires c = rw (c.deref.ensures.value, c.in_ok-ids.ensures.items) c.r
 
 pub invariant_of-result : goal.invariant_of-result
 invariant_of-result c = record {
-  same =
-      ap length c.in_ok-points.ensures ∙ length-map c.deref.result.now (place c.args.pts.now)
-      ∙ ap length c.deref.ensures.value;
+  same = ap length c.in_ok-points.ensures ∙ length-map c.deref.result.now (place c.args.pts.now) ∙ ap length c.deref.ensures.value;
   blocks = rw c.deref-2.ensures.value at c.in_ok-levels.ensures;
   lowest = rw c.deref-3.ensures.value at c.in_ok-leaves.ensures;
 }

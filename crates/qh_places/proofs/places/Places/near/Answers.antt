@@ -1,7 +1,6 @@
 -- A block below all planes is skipped, or its first positions are near.
 use Rattle.std.proofs.Common.{arith, ◌≤◌, ◌+◌}
-use Rattle.qh_places.specs.declared.places.TheConstants.{LEAF}
-use Rattle.qh_places.proofs.NearPositions.{near_start, near_skip, near_add}
+use Rattle.qh_places.{specs.declared.places.TheConstants.LEAF, proofs.NearPositions.near_start, proofs.NearPositions.near_skip, proofs.NearPositions.near_add}
 use Rattle.qh_places.proofs.places.Places.near.Goals as goal
 
 pub loop-from-init : goal.loop-from-init
@@ -21,4 +20,4 @@ loop-from-preserved c =
 
 pub returns : goal.returns
 returns c = λ plane o k l m.
-    c.loop-from.invariant plane o k (let t = c.loop-from-test.false in omega (arith, t, l, c.len.ensures)) m
+    c.loop-from.invariant plane o k (omega (arith, c.loop-from-test.false, l, c.len.ensures)) m

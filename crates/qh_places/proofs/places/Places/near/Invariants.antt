@@ -1,6 +1,5 @@
 -- The starts so far cover the near positions up to a position.
-use Rattle.std.proofs.Common.{◌-◌, length}
-use Rattle.qh_places.specs.contract.Near.{IsNearUpTo}
+use Rattle.{std.proofs.Common.◌-◌, std.proofs.Common.length, qh_places.specs.contract.Near.IsNearUpTo}
 use Rattle.qh_places.proofs.places.Places.near.Given as goal
 
 abbrev pub invariant-loop-from : goal.invariant-loop-from

@@ -9,8 +9,7 @@ loop-index-init c = rw c.clear.ensures.items (seen_start _ _ _ _)
 
 pub loop-index-preserved : goal.loop-index-preserved
 loop-index-preserved c =
-    let t = c.loop-index-test.true in
-    let l : c.loop-index.index < length c.args.near.now.starts.items = omega (arith, t, c.len-index-end.ensures) in
+    let l : c.loop-index.index < length c.args.near.now.starts.items = omega (arith, c.loop-index-test.true, c.len-index-end.ensures) in
     seen_goes _ _ _ _ _ _ _ _ c.loop-index.invariant l c.index-start.ensures (rw c.in_default.is at c.in_ok-id.ensures)
 
 pub returns-in-Some : goal.returns-in-Some
@@ -24,7 +23,6 @@ returns-then-not-has c =
 
 pub returns : goal.returns
 returns c = λ pts ids are.
-    let t = c.loop-index-test.false in
-    let l : length c.args.near.now.starts.items ≤ c.loop-index.index = omega (arith, t, c.len-index-end.ensures) in
+    let l : length c.args.near.now.starts.items ≤ c.loop-index.index = omega (arith, c.loop-index-test.false, c.len-index-end.ensures) in
     level_of_near pts ids c.args.self.now are c.args.plane.now c.args.near.now _ c.requires (c.has.ensures (let n = c.if-not-has.false in cc))
     (seen_all _ _ _ _ _ _ c.loop-index.invariant l)

@@ -19,10 +19,8 @@ returns-clause-value c = λ n w hn hw.
     let taken = simp to_z-of_z at c.share-taken.ensures.value in
     let low = rw taken at (simp to_z-of_z at c.end_rest-low.ensures.value) in
     let high = rw taken at (simp to_z-of_z at c.end_rest-high.ensures.value) in
-    let f = simp to_z-of_z at c.far_product.ensures.value in
-    let t = simp to_z-of_z at c.far_product-2.ensures.value in
-    let a = simp to_z-of_z at c.greater.ensures.above_a in
-    let b = simp to_z-of_z at c.greater.ensures.above_b in
+    let f = simp to_z-of_z at c.far_product.ensures.value in let t = simp to_z-of_z at c.far_product-2.ensures.value in
+    let a = simp to_z-of_z at c.greater.ensures.above_a in let b = simp to_z-of_z at c.greater.ensures.above_b in
     simp to_z-of_z (rest_top n w c.args.self.now.low c.args.self.now.high c.args.from c.args.to
     (pos c.args.times *ℤ c.args.component) c.end_rest-low.result c.end_rest-high.result c.far_product.result
     c.far_product-2.result c.greater.result hn hw low high f t a b)

@@ -11,8 +11,7 @@ returns-then-first c same =
     let below : i < k = seen_id pts f.close f.slots.items k f.ids.items c.requires.seen c.slot-slot.result i (search rules)
     c.index-first.ensures c.if-first.true in
     let is : place pts i ≡ place pts k =
-    sym (point_read pts i c.index-pts-first.result (omega (arith, below, within)) c.index-pts-first.is)
-    ∙ c.same_point.ensures.0 same
+    sym (point_read pts i c.index-pts-first.result (omega (arith, below, within)) c.index-pts-first.is) ∙ c.same_point.ensures.0 same
     ∙ point_read pts k c.index-pts-number-then-first.result within c.index-pts-number-then-first.is in
     repeat_seen pts f.close f.slots.items k f.ids.items c.requires.seen within c.requires.few i below is
 
@@ -27,5 +26,4 @@ returns c _ =
     let next = new_seen pts f.close slots k f.ids.items c.requires.seen within c.requires.few (subst (λ n. n < length slots) at room)
     (subst (λ n. slot_at slots n ≡ NO_ID) at free) in
     let items : c.push.new.self.items ≡ f.ids.items ++ k ∷ [] = c.in_ok-push.ensures.items ∙ ap (λ n. f.ids.items ++ n ∷ []) c.new.ensures in
-    subst (λ n. HaveFirsts pts f.close (set slots n k) (k + 1) c.push.new.self.items) (sym at)
-    (subst (HaveFirsts pts f.close (set slots (slot_of f.close (place pts k)) k) (k + 1)) (sym items) next)
+    rw (at) (subst (HaveFirsts pts f.close (set slots (slot_of f.close (place pts k)) k) (k + 1)) (sym items) next)

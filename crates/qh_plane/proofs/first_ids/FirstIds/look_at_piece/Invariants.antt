@@ -1,6 +1,5 @@
 -- All points before the next first one are processed.
-use Rattle.std.proofs.Common.{◌+◌, ◌-◌, slice_index_or}
-use Rattle.qh_plane.specs.steps.FirstIds.{AreSeen}
+use Rattle.{std.proofs.Common.◌+◌, std.proofs.Common.◌-◌, std.proofs.Common.slice_index_or, qh_plane.specs.steps.FirstIds.AreSeen}
 use Rattle.qh_plane.proofs.first_ids.FirstIds.look_at_piece.Given as goal
 
 abbrev pub invariant-loop-first : goal.invariant-loop-first

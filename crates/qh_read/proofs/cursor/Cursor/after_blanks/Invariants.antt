@@ -1,8 +1,7 @@
-use Rattle.qh_read.proofs.cursor.Cursor.after_blanks.Given as goal
 use Rattle.std.proofs.Common.{◌≡◌, ◌≤◌, ◌+◌, drop, ℕ}
-use Rattle.qh_model.specs.declared.form.Form.{Form}
-use Rattle.qh_read.specs.{contract.Holding.held_by, contract.Progress.Progress, declared.token.Token.TheVariants.Empty}
-use Rattle.qh_read.specs.steps.{Cursors.held_from, Numbers.quiet}
+use Rattle.{qh_model.specs.declared.form.Form.Form, qh_read.specs.contract.Holding.held_by}
+use Rattle.qh_read.specs.{contract.Progress.Progress, declared.token.Token.TheVariants.Empty, steps.Cursors.held_from, steps.Numbers.quiet}
+use Rattle.qh_read.proofs.cursor.Cursor.after_blanks.Given as goal
 
 -- the bytes so far are separators, and a line ends at one of them for each further line
 abbrev pub invariant-loop-i : goal.invariant-loop-i

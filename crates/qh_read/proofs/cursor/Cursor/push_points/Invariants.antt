@@ -1,5 +1,4 @@
-use Rattle.std.proofs.Common.{◌≤◌, ◌-◌, vec_len, vec_capacity}
-use Rattle.qh_read.specs.steps.Cursors.{ArePushed}
+use Rattle.{std.proofs.Common.◌≤◌, std.proofs.Common.◌-◌, std.proofs.Common.vec_len, std.proofs.Common.vec_capacity, qh_read.specs.steps.Cursors.ArePushed}
 use Rattle.qh_read.proofs.cursor.Cursor.push_points.Given as goal
 
 -- the points so far

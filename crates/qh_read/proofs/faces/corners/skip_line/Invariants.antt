@@ -1,6 +1,5 @@
 -- The words after the line stay the same.
-use Rattle.std.proofs.Common.{◌≡◌, length}
-use Rattle.qh_read.specs.contract.FaceWords.{after_line}
+use Rattle.{std.proofs.Common.◌≡◌, std.proofs.Common.length, qh_read.specs.contract.FaceWords.after_line}
 use Rattle.qh_read.proofs.faces.corners.skip_line.Given as goal
 
 abbrev pub invariant-loop : goal.invariant-loop

@@ -1,8 +1,7 @@
 -- For any further corners, the first ones are those so far.
 use Rattle.std.{proofs.Common.ℕ, proofs.Common.◌≡◌, proofs.Common.◌++◌, proofs.Common.List, proofs.Common.length, specs.Prelude.Option}
-use Rattle.qh_model.specs.declared.read_fault.ReadFault.{ReadFault}
-use Rattle.qh_read.specs.{declared.numerals.Numeral.Numeral, contract.FaceFaults.line_fault, contract.FaceFaults.line_face_fault}
-use Rattle.qh_read.specs.contract.FaceWords.{AreNumbers, IsLineFace, after_line, on_line}
+use Rattle.qh_read.specs.contract.{FaceFaults.line_fault, FaceFaults.line_face_fault, FaceWords.AreNumbers, FaceWords.IsLineFace, FaceWords.after_line}
+use Rattle.{qh_read.specs.contract.FaceWords.on_line, qh_model.specs.declared.read_fault.ReadFault.ReadFault, qh_read.specs.declared.numerals.Numeral.Numeral}
 use Rattle.qh_read.proofs.faces.corners.take_line.Given as goal
 
 abbrev pub invariant-loop-word : goal.invariant-loop-word

@@ -1,6 +1,5 @@
 -- The words that arrive from the first byte on are those of the text.
-use Rattle.std.proofs.Common.{◌∙◌}
-use Rattle.qh_read.proofs.ArrivingLaws.{arriving-all}
+use Rattle.{std.proofs.Common.◌∙◌, qh_read.proofs.ArrivingLaws.arriving-all}
 use Rattle.qh_read.proofs.numerals.Numerals.of.Goals as goal
 
 pub returns : goal.returns

@@ -1,7 +1,6 @@
+use Rattle.{std.proofs.Common.◌≡◌, std.proofs.Common.◌≤◌, std.proofs.Common.false, std.proofs.Common.drop, qh_read.specs.contract.Holding.held_by}
+use Rattle.qh_read.specs.{declared.token.TheConstants.MAGNITUDE_CAP, declared.token.Token.TheVariants.Digits, steps.Scanning.held, steps.Scanning.under_way}
 use Rattle.qh_read.proofs.scanner.Scanner.digits.Given as goal
-use Rattle.std.proofs.Common.{◌≡◌, ◌≤◌, false, drop}
-use Rattle.qh_read.specs.{contract.Holding.held_by, declared.token.TheConstants.MAGNITUDE_CAP, declared.token.Token.TheVariants.Digits}
-use Rattle.qh_read.specs.steps.Scanning.{held, under_way}
 
 -- the digits so far, followed by the remaining bytes, are all bytes
 abbrev pub invariant-loop-i : goal.invariant-loop-i

@@ -18,8 +18,7 @@ loop-byte-preserved c =
     let count : length c.loop-byte.rest.now ≡ length c.in-Some.after.now + 1 = rw cut (omega arith) in
     record {
       told = c.points-rest.ensures.held ∙ c.digits-digits.ensures.held
-          ∙ ap (λ (h : Held). held_by h c.in-Some.after.now) c.step-grown.ensures.held
-          ∙ ap (held_by before) (sym cut) ∙ c.loop-byte.invariant.told;
+          ∙ ap (λ (h : Held). held_by h c.in-Some.after.now) c.step-grown.ensures.held ∙ ap (held_by before) (sym cut) ∙ c.loop-byte.invariant.told;
       small = c.digits-digits.ensures.small;
       room = c.points-rest.ensures.room;
       line = omega (arith, c.digits-digits.ensures.left, c.step-grown.ensures.line, c.points-rest.ensures.line);

@@ -1,7 +1,6 @@
 -- The first orphan is removed.
 use Rattle.std.proofs.Common.{arith, ap, refl, length-drop}
-use Rattle.qh_surface.specs.contract.OutsideSets.{listed}
-use Rattle.qh_surface.proofs.Steps.{value_after, kept_some, dropped}
+use Rattle.qh_surface.{specs.contract.OutsideSets.listed, proofs.Steps.value_after, proofs.Steps.kept_some, proofs.Steps.dropped}
 use Rattle.qh_surface.proofs.outside_sets.OutsideSets.drop_orphan.Goals as goal
 
 pub invariant_of-self : goal.invariant_of-self

@@ -1,7 +1,6 @@
 -- All positions are orphans.
 use Rattle.std.proofs.{Common.◌∙◌, Common.arith, Common.ap, lemmas.List.FromFn.length-range_with_len}
-use Rattle.qh_surface.specs.contract.OutsideSets.{listed}
-use Rattle.qh_surface.proofs.{Steps.value_is, NewSets.new_kept}
+use Rattle.qh_surface.{specs.contract.OutsideSets.listed, proofs.Steps.value_is, proofs.NewSets.new_kept}
 use Rattle.qh_surface.proofs.outside_sets.OutsideSets.new.Goals as goal
 
 pub invariant_of-result : goal.invariant_of-result

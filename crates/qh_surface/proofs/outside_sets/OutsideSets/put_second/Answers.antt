@@ -17,5 +17,4 @@ returns c =
     let s = drop-cons (set_of now c.index-place.result) 0 0 (rw (← c.index-place.ensures) at c.requires.first) in
     let l = ap (λ xs. length (joined false (get_or now.orphans 0 0) xs)) s in
     rw (← c.index-place.ensures) (answered c.self.invariant c.self.view_is (length-set _ _ _ ∙ length-set _ _ _) _ _
-    (invariant_of-self c).2 (rw (← c.index-place.ensures) at c.requires.place)
-    (omega (arith, ap length s, length-drop 1 now.orphans, c.requires.some)))
+    (invariant_of-self c).2 (rw (← c.index-place.ensures) at c.requires.place) (omega (arith, ap length s, length-drop 1 now.orphans, c.requires.some)))

@@ -1,7 +1,6 @@
 -- The positions of a set become orphans.
 use Rattle.std.proofs.Common.{length-append, length-set, arith}
-use Rattle.qh_surface.specs.contract.OutsideSets.{set_of}
-use Rattle.qh_surface.proofs.Steps.{kept, answered, released}
+use Rattle.qh_surface.{specs.contract.OutsideSets.set_of, proofs.Steps.kept, proofs.Steps.answered, proofs.Steps.released}
 use Rattle.qh_surface.proofs.outside_sets.OutsideSets.release.Goals as goal
 
 pub invariant_of-self : goal.invariant_of-self

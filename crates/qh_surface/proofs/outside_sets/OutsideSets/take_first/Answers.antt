@@ -1,14 +1,13 @@
 -- The first position of a set is removed.
 use Rattle.qh_model.proofs.Common.{length, drop, arith, rules, ap, refl, [], sum_by-set}
-use Rattle.qh_surface.specs.contract.OutsideSets.{set_of, listed}
-use Rattle.qh_surface.proofs.Steps.{kept, value_after, taken}
+use Rattle.qh_surface.{specs.contract.OutsideSets.set_of, specs.contract.OutsideSets.listed, proofs.Steps.kept, proofs.Steps.value_after, proofs.Steps.taken}
 use Rattle.qh_surface.proofs.outside_sets.OutsideSets.take_first.Goals as goal
 
 pub invariant_of-self : goal.invariant_of-self
 invariant_of-self c =
-    let k = kept c.self.invariant c.self.view_is in let place = rw (← c.index-place.ensures) at c.requires in
+    let place = rw (← c.index-place.ensures) at c.requires in
     let first = rw (← c.index-place.ensures) at c.in_ok-first.ensures.first in
-    (_, _, taken k place _ c.index_mut.ensures.value _ _ first _ (rw c.index.ensures at c.index-2.ensures))
+    (_, _, taken (kept c.self.invariant c.self.view_is) place _ c.index_mut.ensures.value _ _ first _ (rw c.index.ensures at c.index-2.ensures))
 
 pub returns : goal.returns
 unfolding invariant_of-self

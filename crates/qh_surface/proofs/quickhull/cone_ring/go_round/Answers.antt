@@ -1,19 +1,15 @@
 -- One more wedge of the ring.
-use Rattle.qh_model.proofs.Common.{sym, subst, ◌<◌, length, All-weaker}
-use Rattle.qh_model.proofs.Members.{All-In}
-use Rattle.qh_mesh.specs.contract.Replacement.{IsLive}
-use Rattle.qh_surface.specs.steps.{Runs.IsPlaneOf, Cones.IsWedge, Cones.apex_of}
-use Rattle.qh_surface.proofs.runs.ConeRings.{fan_next, read_wedge, each_more}
+use Rattle.qh_model.proofs.{Common.sym, Common.subst, Common.◌<◌, Common.length, Common.All-weaker, Members.All-In}
+use Rattle.{qh_mesh.specs.contract.Replacement.IsLive, qh_surface.specs.steps.Runs.IsPlaneOf, qh_surface.specs.steps.Cones.IsWedge}
+use Rattle.qh_surface.{specs.steps.Cones.apex_of, proofs.runs.ConeRings.fan_next, proofs.runs.ConeRings.read_wedge, proofs.runs.ConeRings.each_more}
 use Rattle.qh_surface.proofs.quickhull.cone_ring.go_round.Goals as goal
 
 pub first_facet-facet-requires-clause-planes : goal.first_facet-facet-requires-clause-planes
-first_facet-facet-requires-clause-planes c =
-    All-weaker (IsPlaneOf _ _ _) (λ f. f < length c.args.planes.now) (λ f h. h.0) c.args.made.now c.requires.planes
+first_facet-facet-requires-clause-planes c = All-weaker (IsPlaneOf _ _ _) (λ f. f < length c.args.planes.now) (λ f h. h.0) c.args.made.now c.requires.planes
 
 pub wedge_of-requires-clause-plane : goal.wedge_of-requires-clause-plane
 wedge_of-requires-clause-plane c =
-    let is = IsPlaneOf c.args.pts.now c.args.mesh.now c.args.planes.now in
-    (All-In is c.args.made.now c.loop.facet c.requires.planes c.loop.invariant.named).0
+    (All-In (IsPlaneOf c.args.pts.now c.args.mesh.now c.args.planes.now) c.args.made.now c.loop.facet c.requires.planes c.loop.invariant.named).0
 
 pub wedge_of-requires-clause-live : goal.wedge_of-requires-clause-live
 wedge_of-requires-clause-live c = All-In (IsLive c.args.mesh.now) c.args.made.now c.loop.facet c.requires.live c.loop.invariant.named

@@ -1,6 +1,5 @@
 -- The planes of the facets so far are written.
-use Rattle.std.proofs.Common.{◌≡◌, length}
-use Rattle.qh_surface.proofs.runs.RenewedPlanes.{AreRenewed}
+use Rattle.{std.proofs.Common.◌≡◌, std.proofs.Common.length, qh_surface.proofs.runs.RenewedPlanes.AreRenewed}
 use Rattle.qh_surface.proofs.quickhull.planes.renew.Given as goal
 
 abbrev pub invariant-loop-facet : goal.invariant-loop-facet

@@ -1,7 +1,6 @@
 -- The point is not above one more facet.
 use Rattle.std.proofs.{Common.take_all, Common.pos, Common.◌≤ℤ◌, lemmas.List.get_or_read, lemmas.List.Elements.All-more}
-use Rattle.qh_model.proofs.{Members.In-get_or, algebra.Signs.at_most_zero}
-use Rattle.qh_pred.specs.contract.Planes.{height}
+use Rattle.{qh_model.proofs.Members.In-get_or, qh_model.proofs.algebra.Signs.at_most_zero, qh_pred.specs.contract.Planes.height}
 use Rattle.qh_surface.specs.steps.Planes.{no_plane, plane_at}
 use Rattle.qh_surface.proofs.quickhull.settling.first_below.Goals as goal
 
@@ -14,8 +13,7 @@ loop-at-preserved c =
     (rw (← is) (at_most_zero _ (λ h. let b = c.if-sees.ensures.1 h in cc)))
 
 pub returns-then-sees-clause-named : goal.returns-then-sees-clause-named
-returns-then-sees-clause-named c =
-    rw (c.index-made-at.is) (In-get_or c.args.made.now c.loop-at.at _ c.loop-at-test.true)
+returns-then-sees-clause-named c = rw (c.index-made-at.is) (In-get_or c.args.made.now c.loop-at.at _ c.loop-at-test.true)
 
 pub returns-clause-none : goal.returns-clause-none
 returns-clause-none c = rw (take_all c.loop-at.at c.args.made.now c.loop-at-test.false) at c.loop-at.invariant

@@ -1,8 +1,6 @@
 -- The results of the first facets, the ring and a test of all facets for a point.
-use Rattle.std.proofs.Common.{◌<◌, length, take}
-use Rattle.qh_model.{specs.headline.Sets.In, proofs.Members.All-In, proofs.Members.All-of}
-use Rattle.std.proofs.lemmas.List.Elements.{All-take}
-use Rattle.qh_surface.proofs.runs.ConeRings.{among_unseen}
+use Rattle.{qh_model.proofs.Members.All-In, qh_model.proofs.Members.All-of, qh_model.specs.headline.Sets.In, qh_surface.proofs.runs.ConeRings.among_unseen}
+use Rattle.std.proofs.{Common.◌<◌, Common.length, Common.take, lemmas.List.Elements.All-take}
 use Rattle.qh_surface.proofs.quickhull.settling.one_below.Goals as goal
 
 pub returns-in-Unseen-clause-none : goal.returns-in-Unseen-clause-none

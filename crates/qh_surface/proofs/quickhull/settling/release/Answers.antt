@@ -17,5 +17,4 @@ loop-facet-preserved c =
     }
 
 pub returns-clause-released : goal.returns-clause-released
-returns-clause-released c =
-    rw (take_all c.loop-facet.facet-index c.args.gone.now c.loop-facet-test.false) at c.loop-facet.invariant.released
+returns-clause-released c = rw (take_all c.loop-facet.facet-index c.args.gone.now c.loop-facet-test.false) at c.loop-facet.invariant.released

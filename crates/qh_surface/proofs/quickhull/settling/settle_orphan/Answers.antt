@@ -1,6 +1,5 @@
 -- The facet that an orphan is above has an outside set.
-use Rattle.std.proofs.Common.{◌<◌, length}
-use Rattle.qh_model.proofs.Members.{All-In}
+use Rattle.{std.proofs.Common.◌<◌, std.proofs.Common.length, qh_model.proofs.Members.All-In}
 use Rattle.qh_surface.proofs.quickhull.settling.settle_orphan.Goals as goal
 
 pub is_furthest-requires-clause-place : goal.is_furthest-requires-clause-place

@@ -1,6 +1,5 @@
 -- One more orphan is settled.
-use Rattle.std.proofs.Common.{◌∙◌, arith}
-use Rattle.qh_surface.proofs.runs.SettledOrphans.{one_settled}
+use Rattle.{std.proofs.Common.◌∙◌, std.proofs.Common.arith, qh_surface.proofs.runs.SettledOrphans.one_settled}
 use Rattle.qh_surface.proofs.quickhull.settling.settle_orphans.Goals as goal
 
 pub loop-orphan-preserved : goal.loop-orphan-preserved

@@ -1,9 +1,8 @@
 -- An id of a list has a position.
-use Rattle.std.proofs.Common.{◌≡◌, ◌≢◌, rules, arith}
-use Rattle.std.proofs.lemmas.Iterator.{IsFirst-from_position, YieldsList-from_slice}
+use Rattle.std.proofs.{Common.◌≡◌, Common.◌≢◌, Common.rules, Common.arith, lemmas.Iterator.IsFirst-from_position, lemmas.Iterator.YieldsList-from_slice}
 use Rattle.qh_model.proofs.Members.{in_at}
-use Rattle.qh_surface.proofs.quickhull.surfaces.position_of.Goals as goal
 use borrow.Author.Tests.{tests}
+use Rattle.qh_surface.proofs.quickhull.surfaces.position_of.Goals as goal
 
 pub unreachable-requires : goal.unreachable-requires
 unreachable-requires c =

@@ -1,9 +1,7 @@
 -- A set of dimension 3 has a simplex, and the surface of a run from it is that of the hull.
-use Rattle.qh_model.specs.headline.Predicates.{place}
+use Rattle.qh_mesh.proofs.{Rewiring.in_live, SoundMeshes.finished_is_closed}
 use Rattle.qh_model.proofs.{Members.rising_once, extremes.Dimensions.dimension_is_unique, surfaces.Finished.facets_support}
-use Rattle.qh_polygon.specs.contract.Shapes.{dimension_of}
-use Rattle.qh_mesh.proofs.{SoundMeshes.finished_is_closed, Rewiring.in_live}
-use Rattle.qh_polygon.proofs.ShapeIds.{solid_only}
+use Rattle.{qh_model.specs.headline.Predicates.place, qh_polygon.proofs.ShapeIds.solid_only, qh_polygon.specs.contract.Shapes.dimension_of}
 use Rattle.qh_surface.proofs.quickhull.surfaces.surface.Goals as goal
 
 pub unreachable-requires : goal.unreachable-requires

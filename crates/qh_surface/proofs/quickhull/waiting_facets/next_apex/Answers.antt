@@ -1,7 +1,6 @@
 -- A facet without an outside set is skipped, and the first point of a set is the apex.
-use Rattle.std.proofs.Common.{◌<◌, ◌≡◌, ◌∙◌, ◌∷◌, sym, subst, length, refl, arith, IsPermutation}
+use Rattle.std.proofs.Common.{◌<◌, ◌≡◌, ◌∙◌, ◌∷◌, length, refl, arith, IsPermutation}
 use Rattle.std.proofs.lemmas.List.{nil_from_length, Elements.All-head, Elements.All-tail, Sorted.All-permutation, Sorted.IsPermutation-swap_remove}
-use Rattle.qh_surface.specs.{contract.OutsideSets.OutsideValue, steps.Runs.with_waiting, steps.Runs.IsUnderWay, steps.Runs.IsPicked}
 use Rattle.qh_surface.proofs.runs.PickedApexes.{taken_is, none_taken, passed_over, picked, all_done}
 use Rattle.qh_surface.proofs.quickhull.waiting_facets.next_apex.Goals as goal
 
@@ -9,23 +8,19 @@ use Rattle.qh_surface.proofs.quickhull.waiting_facets.next_apex.Goals as goal
 taken_out : (c : goal.After-take_first-arg-1)
     → IsPermutation c.loop-pending.pending.items (c.swap_remove-facet.result ∷ c.swap_remove-facet.new.self.items)
 taken_out c =
-    let pending = c.loop-pending.pending in let i = c.next.result in let f = c.swap_remove-facet.result in
-    let next = c.next.ensures in let len = c.len-in-loop-pending.ensures in let long = pending.ok.0 in
-    subst (λ rest. IsPermutation pending.items (f ∷ rest)) (sym c.swap_remove-facet.ensures.items)
-    (IsPermutation-swap_remove pending.items i f (omega (arith, next, len, long)) c.swap_remove-facet.ensures.value)
+    let pending = c.loop-pending.pending in let f = c.swap_remove-facet.result in let len = c.len-in-loop-pending.ensures in
+    rw c.swap_remove-facet.ensures.items
+    (IsPermutation-swap_remove pending.items c.next.result f (omega (arith, c.next.ensures, len, pending.ok.0)) c.swap_remove-facet.ensures.value)
 
 pub take_first-requires : goal.take_first-requires
 take_first-requires c =
     let v = c.loop-pending.sets in
-    All-head (λ f. f < length v.sets) _ _
-    (All-permutation (λ f. f < length v.sets) _ _ (taken_out c) c.loop-pending.invariant.within)
+    All-head (λ f. f < length v.sets) _ _ (All-permutation (λ f. f < length v.sets) _ _ (taken_out c) c.loop-pending.invariant.within)
 
 pub returns-in-Some-clause-picked : goal.returns-in-Some-clause-picked
 returns-in-Some-clause-picked c s k =
-    let e = c.in-Some.ensures in let rest = c.swap_remove-facet.new.self.items in
-    subst (λ (v : OutsideValue). IsPicked (with_waiting s v rest) c.swap_remove-facet.result c.in-Some.apex)
-    (sym (taken_is _ _ _ e.positions e.orphans e.sets))
-    (picked (c.loop-pending.invariant.under_way s k) _ _ (taken_out c.before.before) e.first e.position)
+    let e = c.in-Some.ensures in
+    rw (taken_is _ _ _ e.positions e.orphans e.sets) (picked (c.loop-pending.invariant.under_way s k) _ _ (taken_out c.before.before) e.first e.position)
 
 pub loop-pending-preserved : goal.loop-pending-preserved
 loop-pending-preserved c =
@@ -35,11 +30,11 @@ loop-pending-preserved c =
     let same : c.take_first.new.self ≡ v = taken_is _ _ _ e.positions e.orphans e.sets ∙ none_taken v f empty in record {
       within = rw same (All-tail (λ g. g < length v.sets) f rest (All-permutation (λ g. g < length v.sets) _ _ out old.within));
       same = same ∙ old.same;
-      under_way = λ s k. subst (λ (w : OutsideValue). IsUnderWay (with_waiting s w rest)) (sym same)
+      under_way = λ s k. rw same
           (passed_over (old.under_way s k) _ _ out empty);
     }
 
 pub returns-clause-done : goal.returns-clause-done
 returns-clause-done c s k =
-    let pending = c.loop-pending.pending in let long = pending.ok.0 in let len = c.len.ensures in let none = c.loop-pending-test.false in
-    all_done (nil_from_length pending.items (omega (arith, len, none, long))) (c.loop-pending.invariant.under_way s k)
+    let pending = c.loop-pending.pending in
+    all_done (nil_from_length pending.items (omega (arith, c.len.ensures, c.loop-pending-test.false, pending.ok.0))) (c.loop-pending.invariant.under_way s k)

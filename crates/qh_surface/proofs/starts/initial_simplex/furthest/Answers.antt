@@ -6,7 +6,7 @@ use Rattle.qh_surface.proofs.starts.initial_simplex.furthest.Goals as goal
 
 -- a part begins within the list
 begins : (n q k : ℕ) → k < n / (q + 1) → k * (q + 1) < n
-begins n q k h = let d = div-mul-le_self n (q + 1) in let m = mul-le-mul_right (q + 1) h in omega (arith, d, m)
+begins n q k h = omega (arith, div-mul-le_self n (q + 1), mul-le-mul_right (q + 1) h)
 
 pub loop-part-preserved : goal.loop-part-preserved
 loop-part-preserved c = elim c.if-distance-most.branch [

@@ -1,6 +1,5 @@
 -- The pairs of the remaining sides complete those of the face.
-use Rattle.qh_model.specs.headline.Fan.{pairs_round}
-use Rattle.qh_write.{proofs.EdgeKeyLemmas.pairs_along_sides, specs.steps.EdgeKeys.Completes}
+use Rattle.{qh_model.specs.headline.Fan.pairs_round, qh_write.proofs.EdgeKeyLemmas.pairs_along_sides, qh_write.specs.steps.EdgeKeys.Completes}
 use Rattle.qh_write.proofs.texts.edges.push_round.Given as goal
 
 abbrev pub invariant-loop-from : goal.invariant-loop-from

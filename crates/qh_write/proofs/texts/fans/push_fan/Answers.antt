@@ -8,14 +8,12 @@ pub loop-triangle-init : goal.loop-triangle-init
 loop-triangle-init c =
     let items = c.into_iter-triangle-iterator.ensures.into_iter_gives ∙ c.fan-triangle-items.ensures in record {
       grown = ap (λ ts. c.args.text.now.items ++ flat_map (face_by_numbers c.args.numbers.now) ts) items;
-      numbered = subst (All (AreNumbered c.args.numbers.now)) (sym items)
-          (triangles_all (HasNumber c.args.numbers.now) c.args.face.now c.requires);
+      numbered = subst (All (AreNumbered c.args.numbers.now)) (sym items) (triangles_all (HasNumber c.args.numbers.now) c.args.face.now c.requires);
     }
 
 pub push_face-requires-in-loop-triangle : goal.push_face-requires-in-loop-triangle
 push_face-requires-in-loop-triangle c =
-    All-head (AreNumbered c.args.numbers.now) _ _
-    (subst (All (AreNumbered c.args.numbers.now)) c.in-Some.ensures.steps c.loop-triangle.invariant.numbered)
+    All-head (AreNumbered c.args.numbers.now) _ _ (subst (All (AreNumbered c.args.numbers.now)) c.in-Some.ensures.steps c.loop-triangle.invariant.numbered)
 
 pub loop-triangle-preserved : goal.loop-triangle-preserved
 loop-triangle-preserved c = record {

@@ -1,5 +1,4 @@
-use Rattle.std.{proofs.Common.◌≡◌, proofs.Common.◌++◌, proofs.Common.take, specs.List.flat_map}
-use Rattle.qh_write.specs.steps.Numberings.{face_by_numbers}
+use Rattle.{std.proofs.Common.◌≡◌, std.proofs.Common.◌++◌, std.proofs.Common.take, std.specs.List.flat_map, qh_write.specs.steps.Numberings.face_by_numbers}
 use Rattle.qh_write.proofs.texts.off.push_faces.Given as goal
 
 abbrev pub invariant-loop-face : goal.invariant-loop-face

@@ -4,8 +4,7 @@ use Rattle.qh_block.proofs.regions.bounds.Bounds.common.Goals as goal
 
 pub returns : goal.returns
 returns c p w =
-    let low = c.greatest_of.ensures.one in let high = c.least_of.ensures.one in
-    let x = w.x in let y = w.y in let z = w.z in
+    let low = c.greatest_of.ensures.one in let high = c.least_of.ensures.one in let x = w.x in let y = w.y in let z = w.z in
     record {
       x = (omega (arith, ints, low.x, x), omega (arith, ints, high.x, x));
       y = (omega (arith, ints, low.y, y), omega (arith, ints, high.y, y));

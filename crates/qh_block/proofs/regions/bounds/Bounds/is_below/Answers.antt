@@ -1,6 +1,5 @@
 -- A box whose furthest corner is below a plane is below it.
-use Rattle.std.proofs.Common.{refl}
-use Rattle.qh_pred.proofs.Ranges.{below_by_corner}
+use Rattle.{std.proofs.Common.refl, qh_pred.proofs.Ranges.below_by_corner}
 use Rattle.qh_block.proofs.regions.bounds.Bounds.is_below.Goals as goal
 
 pub returns : goal.returns

@@ -1,6 +1,6 @@
 -- A plane that is not listed again is above all of the part.
-use Rattle.qh_model.proofs.Common.{◌≡◌, ◌∷◌, ◌+◌, ℕ, drop, ap, slice_index, sym, ◌∙◌, List, subst, drop_more, drop_all}
-use Rattle.qh_block.proofs.CellParts.{AreSifted, none_sifted, next_above, next_kept, part_is_cell}
+use Rattle.qh_model.proofs.Common.{◌≡◌, ◌∷◌, ◌+◌, ℕ, drop, ap, slice_index, sym, ◌∙◌, List, drop_more, drop_all}
+use Rattle.qh_block.proofs.CellParts.{none_sifted, next_above, next_kept, part_is_cell}
 use Rattle.qh_block.proofs.regions.cells.Cell.part.Goals.{then-not-is_far+in_ok-push, else-not-is_far}
 use Rattle.qh_block.proofs.regions.cells.Cell.part.Goals as goal
 
@@ -14,10 +14,8 @@ loop-number-preserved c =
     let next : drop i near ≡ slice_index items.result.now i ∷ rest =
     drop_more near i 0 (rw items.ensures.value at c.loop-number-test.true) ∙ ap (λ (xs : List ℕ). slice_index xs i ∷ rest) (sym items.ensures.value) in
     elim c.if-not-is_far.branch [
-      | then-not-is_far+in_ok-push w ↦ subst (λ (xs : List ℕ). AreSifted planes c.common-bounds.result near xs rest)
-          (sym (ap (λ v. v.items) w.near-is ∙ w.in_ok-push.ensures.items)) (next_kept next c.loop-number.invariant)
-      | else-not-is_far w ↦ subst (λ (xs : List ℕ). AreSifted planes c.common-bounds.result near xs rest)
-          (sym (ap (λ v. v.items) w.near-is)) (next_above next c.loop-number.invariant (c.is_far.ensures w.if-not-is_far.false))
+      | then-not-is_far+in_ok-push w ↦ rw (ap (λ v. v.items) w.near-is ∙ w.in_ok-push.ensures.items) (next_kept next c.loop-number.invariant)
+      | else-not-is_far w ↦ rw (ap (λ v. v.items) w.near-is) (next_above next c.loop-number.invariant (c.is_far.ensures w.if-not-is_far.false))
     ]
 
 pub returns : goal.returns

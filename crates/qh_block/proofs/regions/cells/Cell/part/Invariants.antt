@@ -1,6 +1,5 @@
 -- Each plane is above all of the part, listed, or among the remaining ones.
-use Rattle.std.proofs.Common.{drop}
-use Rattle.qh_block.proofs.CellParts.{AreSifted}
+use Rattle.{std.proofs.Common.drop, qh_block.proofs.CellParts.AreSifted}
 use Rattle.qh_block.proofs.regions.cells.Cell.part.Given as goal
 
 abbrev pub invariant-loop-number : goal.invariant-loop-number

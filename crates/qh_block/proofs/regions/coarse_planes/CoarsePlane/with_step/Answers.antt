@@ -1,7 +1,6 @@
 -- The plane of the whole steps, with room for the rests.
 use Rattle.qh_model.proofs.Common.{◌≡◌, ◌^◌, arith, lit<, subst, sym, ints, to_z-of_z, w64, w128, to_z, of_z}
-use Rattle.qh_pred.proofs.Bounds.{fits_wide}
-use Rattle.qh_block.specs.contract.CoarsePlanes.{IsUnder}
+use Rattle.{qh_pred.proofs.Bounds.fits_wide, qh_block.specs.contract.CoarsePlanes.IsUnder}
 use Rattle.qh_block.proofs.CoarsePlanes.{same_lowered, same_room, steps_are_under}
 use Rattle.qh_block.proofs.regions.coarse_planes.CoarsePlane.with_step.Goals as goal
 

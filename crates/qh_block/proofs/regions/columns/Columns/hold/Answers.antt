@@ -1,7 +1,6 @@
 -- The tested cell is one of the cells.
 use Rattle.qh_model.proofs.Common.{arith, subst, sym, In}
-use Rattle.qh_model.proofs.Members.{In-get_or}
-use Rattle.qh_block.specs.declared.regions.cells.Cell.{Cell}
+use Rattle.{qh_model.proofs.Members.In-get_or, qh_block.specs.declared.regions.cells.Cell.Cell}
 use Rattle.qh_block.proofs.regions.columns.Columns.hold.Goals as goal
 
 pub returns-in-Some : goal.returns-in-Some

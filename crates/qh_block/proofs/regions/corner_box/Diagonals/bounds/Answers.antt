@@ -1,7 +1,6 @@
 -- Each side of the box is no further out than the four ends in its direction.
-use Rattle.qh_model.proofs.Common.{◌∙◌, ap, Vector}
 use Rattle.qh_block.proofs.CornerBoxes.{box_is_outward, four_under, under_four}
-use Rattle.qh_pred.proofs.Coordinates.{read_is}
+use Rattle.{qh_model.proofs.Common.◌∙◌, qh_model.proofs.Common.ap, qh_model.proofs.Common.Vector, qh_pred.proofs.Coordinates.read_is}
 use Rattle.qh_block.proofs.regions.corner_box.Diagonals.bounds.Goals as goal
 
 pub returns : goal.returns

@@ -1,6 +1,5 @@
 -- The bitwise or of numbers of 32 bits has 32 bits.
-use Rattle.std.proofs.Common.{ℕ, ◌^◌, ◌<◌, Fits, w64, arith}
-use Rattle.std.proofs.lemmas.Nat.{or_of_32}
+use Rattle.std.proofs.{Common.ℕ, Common.◌^◌, Common.◌<◌, Common.Fits, Common.w64, Common.arith, lemmas.Nat.or_of_32}
 use Rattle.qh_block.proofs.regions.grid.Grid.number.Goals as goal
 
 fits : (n : ℕ) → n < 2 ^ 32 → Fits w64 n

@@ -1,7 +1,6 @@
 -- The point of the current key lies under a triangle.
-use Rattle.qh_model.proofs.Common.{◌∙◌, ap, get_or, refl, subst, Vector, place}
-use Rattle.qh_check.specs.steps.Hidden.{id_in, IsUnderOne}
-use Rattle.qh_check.proofs.Prefixes.{each_more}
+use Rattle.qh_model.proofs.Common.{◌∙◌, ap, get_or, refl, place}
+use Rattle.qh_check.{specs.steps.Hidden.id_in, specs.steps.Hidden.IsUnderOne, proofs.Prefixes.each_more}
 use Rattle.qh_check.proofs.convex.hidden.Surroundings.are_under.Goals as goal
 
 pub loop-key-preserved : goal.loop-key-preserved
@@ -10,6 +9,5 @@ loop-key-preserved c =
       c.walk-step.ensures,
       each_more (λ key. IsUnderOne (place s.pts.now) s.up.now s.middle (place s.pts.now (id_in key))) keys i (get_or keys i 0) 0
           c.loop-key-test.true refl c.loop-key.invariant.1
-          (subst (λ (p : Vector). IsUnderOne (place s.pts.now) s.up.now s.middle p) (c.point_at-p.ensures ∙ ap (place s.pts.now) c.id_of.ensures)
-          (c.is_under_step.ensures c.if-not-is_under_step.false)),
+          (rw (c.point_at-p.ensures ∙ ap (place s.pts.now) c.id_of.ensures) at (c.is_under_step.ensures c.if-not-is_under_step.false)),
     )

@@ -1,6 +1,5 @@
 -- The step stays one of ids of points.
-use Rattle.std.proofs.Common.{length}
-use Rattle.qh_check.specs.steps.Hidden.{IsStepBelow}
+use Rattle.{std.proofs.Common.length, qh_check.specs.steps.Hidden.IsStepBelow}
 use Rattle.qh_check.proofs.convex.hidden.Surroundings.walk.Given as goal
 
 abbrev pub invariant-loop-budget : goal.invariant-loop-budget

@@ -1,22 +1,15 @@
 -- The current triangle is met, or missed.
 use Rattle.qh_model.proofs.Common.{◌≡◌, ◌∙◌, ◌+◌, ap, inl, inr, subst, sym, true, false, ◌⊎◌, place}
 use Rattle.std.proofs.lemmas.List.Sums.{count_by_more_yes, count_by_more_no}
-use Rattle.qh_laws.specs.contract.LocallyConvex.{is_met, IsMissed}
-use Rattle.qh_check.specs.steps.Rays.{IsInside, IsPassage}
-use Rattle.qh_check.proofs.{Prefixes.each_more, convex.rays.Ray.meets_once.Goals.in-Met, convex.rays.Ray.meets_once.Goals.in-Missed}
+use Rattle.{qh_laws.specs.contract.LocallyConvex.is_met, qh_laws.specs.contract.LocallyConvex.IsMissed, qh_check.proofs.convex.rays.Ray.meets_once.Goals.in-Met}
+use Rattle.qh_check.{proofs.convex.rays.Ray.meets_once.Goals.in-Missed, specs.steps.Rays.IsInside, specs.steps.Rays.IsPassage, proofs.Prefixes.each_more}
 use Rattle.qh_check.proofs.convex.rays.Ray.meets_once.Goals as goal
 
 pub loop-triangle-preserved : goal.loop-triangle-preserved
 loop-triangle-preserved c =
-    let at = place c.args.pts.now in
-    let z = c.args.self.now.from in
-    let d = c.args.self.now.through in
-    let ts = c.args.triangles.now in
-    let i = c.loop-triangle.triangle-index in
-    let own = c.triangle-item.result in
-    let is = c.triangle-item.is in
-    let l = c.loop-triangle-test.true in
-    let sofar = c.loop-triangle.invariant in
+    let at = place c.args.pts.now in let z = c.args.self.now.from in let d = c.args.self.now.through in
+    let ts = c.args.triangles.now in let i = c.loop-triangle.triangle-index in let own = c.triangle-item.result in
+    let is = c.triangle-item.is in let l = c.loop-triangle-test.true in let sofar = c.loop-triangle.invariant in
     elim c.match-passage.branch [
       | in-Met w ↦ (
           let e = subst (IsPassage at z d own) w.in-Met.is c.passage.ensures in (

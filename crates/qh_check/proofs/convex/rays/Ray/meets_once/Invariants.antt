@@ -1,7 +1,6 @@
 -- The triangles so far, and the number of those that the ray meets.
 use Rattle.qh_model.proofs.Common.{◌≡◌, ◌⊎◌, take, true, count_by, place, In, Triple}
-use Rattle.qh_laws.specs.contract.LocallyConvex.{is_met, IsMissed}
-use Rattle.qh_check.specs.steps.Rays.{IsInside}
+use Rattle.{qh_laws.specs.contract.LocallyConvex.is_met, qh_laws.specs.contract.LocallyConvex.IsMissed, qh_check.specs.steps.Rays.IsInside}
 use Rattle.qh_check.proofs.convex.rays.Ray.meets_once.Given as goal
 
 abbrev pub invariant-loop-triangle : goal.invariant-loop-triangle

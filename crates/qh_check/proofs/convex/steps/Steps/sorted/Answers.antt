@@ -1,7 +1,6 @@
 -- The sorted keys are those of the same steps.
 use Rattle.qh_model.proofs.Common.{IsPermutation, List, map, subst, IsPermutation-map, Triple}
-use Rattle.qh_check.specs.steps.StepKeys.{step_in}
-use Rattle.qh_check.proofs.StepLists.{ups_below, downs_below}
+use Rattle.qh_check.{specs.steps.StepKeys.step_in, proofs.StepLists.ups_below, proofs.StepLists.downs_below}
 use Rattle.qh_check.proofs.convex.steps.Steps.sorted.Goals as goal
 
 pub returns-clause-steps : goal.returns-clause-steps

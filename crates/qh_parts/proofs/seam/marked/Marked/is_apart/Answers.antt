@@ -1,6 +1,5 @@
 -- The points of the other part are those of the ids that its places hold.
-use Rattle.qh_model.proofs.Common.{IfOk-weaker, place}
-use Rattle.qh_model.proofs.lists.Images.{in_map}
+use Rattle.qh_model.proofs.{Common.IfOk-weaker, Common.place, lists.Images.in_map}
 use Rattle.qh_parts.proofs.seam.marked.Marked.is_apart.Goals as goal
 
 pub returns-clause-answers : goal.returns-clause-answers

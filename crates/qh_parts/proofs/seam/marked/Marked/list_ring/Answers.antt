@@ -8,6 +8,6 @@ returns-then-not-is_ring c = inr (λ r. both_ways _ c.if-not-is_ring.true (c.is_
 
 pub returns : goal.returns
 returns c =
-    let keys = c.args.keys.now.items in let key = c.ring_key.result in
-    inl (ap (map facet_in) c.in_ok-push.ensures.items ∙ map-append facet_in keys (key ∷ [])
+    let keys = c.args.keys.now.items in
+    inl (ap (map facet_in) c.in_ok-push.ensures.items ∙ map-append facet_in keys (c.ring_key.result ∷ [])
     ∙ ap (λ f. map facet_in keys ++ f ∷ []) c.ring_key.ensures)

@@ -1,8 +1,6 @@
 -- One more facet has its plane.
 use Rattle.qh_model.proofs.Common.{◌<◌, below_more, length, subst, arith, ◌∙◌, get_or_default_zero, surface_of, place}
-use Rattle.qh_surface.specs.contract.NamedMeshes.{named}
-use Rattle.qh_parts.specs.steps.Witnesses.{HasPlane}
-use Rattle.qh_places.proofs.Listed.{each_listed}
+use Rattle.{qh_surface.specs.contract.NamedMeshes.named, qh_parts.specs.steps.Witnesses.HasPlane, qh_places.proofs.Listed.each_listed}
 use Rattle.qh_parts.proofs.{RingFacets.plane_among_more, RingFacets.plane_at_end, StayingParts.named_there}
 use Rattle.qh_parts.proofs.seam.marked.Marked.planes_of.Goals as goal
 

@@ -1,7 +1,6 @@
 -- The facets so far have their planes.
 use Rattle.qh_model.proofs.Common.{ℕ, ◌<◌, slice_index, surface_of, place}
-use Rattle.qh_surface.specs.contract.NamedMeshes.{named}
-use Rattle.qh_parts.specs.steps.Witnesses.{HasPlane}
+use Rattle.{qh_surface.specs.contract.NamedMeshes.named, qh_parts.specs.steps.Witnesses.HasPlane}
 use Rattle.qh_parts.proofs.seam.marked.Marked.planes_of.Given as goal
 
 abbrev pub invariant-loop-f : goal.invariant-loop-f

@@ -1,6 +1,5 @@
 -- A round: the walk, the replacement, and the orphans to settle.
-use Rattle.qh_model.proofs.Common.{sym, subst, place}
-use Rattle.qh_surface.specs.steps.Cones.{IsFan}
+use Rattle.{qh_model.proofs.Common.sym, qh_model.proofs.Common.subst, qh_model.proofs.Common.place, qh_surface.specs.steps.Cones.IsFan}
 use Rattle.qh_surface.proofs.runs.{ConeRings.cone_fan, PickedApexes.apex_outside, Rounds.remade, Rounds.read_point}
 use Rattle.qh_surface.proofs.quickhull.run.QuickhullRun.add.Goals as goal
 

@@ -4,10 +4,7 @@ use Rattle.qh_surface.specs.{contract.OutsideSets.listed, steps.Runs.IsUnderWay,
 use Rattle.qh_surface.proofs.quickhull.run.QuickhullRun.finish.Given as goal
 
 abbrev pub invariant-loop-facet : goal.invariant-loop-facet
-invariant-loop-facet l = record {
-  points : l.self.points.items ≡ l.initial.self.points.items;
-  under_way : IsUnderWay (state_of l.self);
-}
+invariant-loop-facet l = record { points : l.self.points.items ≡ l.initial.self.points.items; under_way : IsUnderWay (state_of l.self) }
 
 abbrev pub decreases-loop-facet : goal.decreases-loop-facet
 decreases-loop-facet l = listed l.self.sets

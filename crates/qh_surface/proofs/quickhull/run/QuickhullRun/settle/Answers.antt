@@ -6,8 +6,7 @@ use Rattle.qh_surface.proofs.quickhull.run.QuickhullRun.settle.Goals as goal
 
 pub take-requires-clause-below : goal.take-requires-clause-below
 take-requires-clause-below c =
-    subst (λ (pts : List Vector). HasNoCornerAbove pts c.args.self.now.mesh) (sym c.deref-2.ensures.value)
-    (grown_corners c.requires.remade.grown)
+    subst (λ (pts : List Vector). HasNoCornerAbove pts c.args.self.now.mesh) (sym c.deref-2.ensures.value) (grown_corners c.requires.remade.grown)
 
 pub returns-clause-under_way : goal.returns-clause-under_way
 returns-clause-under_way c =
@@ -19,12 +18,11 @@ returns-clause-under_way c =
       right = λ f l p.
           (renewed f l (roomy pts fs self.planes.items c.make_room.new.planes.items c.args.made.now room.kept f (k.planes f l))).1 p;
     } in
-    let sets = c.in_ok-make_room-2.ensures.sets in let new = replicate (c.len.result - length old) [] in
-    let more = ap (λ (xs : List (List ℕ)). length xs) sets ∙ length-append old new in
+    let sets = c.in_ok-make_room-2.ensures.sets in
+    let more = ap (λ (xs : List (List ℕ)). length xs) sets ∙ length-append old (replicate (c.len.result - length old) []) in
     let settle = c.settle_orphans.ensures in
     let settled = rw (c.deref-4.ensures.value, c.deref-5.ensures.value) at settle.settled in
-    next_round k planes
-    (settled fs self.pending.items k.made_live planes (same_settling
+    next_round k planes (settled fs self.pending.items k.made_live planes (same_settling
     (λ f. ap (λ (xs : List (List ℕ)). get_or xs f []) sets ∙ grown-set old _ f) c.make_room-2.ensures.orphans k.settling))
     settle.none (settle.positions ∙ c.make_room-2.ensures.positions)
     (omega (arith, places, room.room, c.len.ensures, c.in_ok-make_room-2.ensures.places, settle.places))

@@ -20,10 +20,9 @@ first c = record {
 
 pub settle-requires-clause-remade : goal.settle-requires-clause-remade
 settle-requires-clause-remade c =
-    let count = c.in-Ok.ensures.1 ∙ c.len.ensures ∙ c.args.points.ok.0 in
-    let pts = c.args.points.items in let fs = c.in_ok-mesh.mesh in let v = c.in_ok-sets.sets in let s = c.args.first in
+    let count = c.in-Ok.ensures.1 ∙ c.len.ensures ∙ c.args.points.ok.0 in let v = c.in_ok-sets.sets in let s = c.args.first in
     let ps = c.room_for.result.items in let pending = c.room_for-2.result.items in
     rw (c.ask_for_room.ensures, c.ask_for_room-2.ensures, c.new-4.ensures, c.new-5.ensures, c.new-6.ensures, c.new-7.ensures)
-    (first_remade (record { points = pts; mesh = fs; planes = ps; sets = v; pending = pending }) s.i s.j s.k s.l (first c)
+    (first_remade (record { points = c.args.points.items; mesh = c.in_ok-mesh.mesh; planes = ps; sets = v; pending = pending }) s.i s.j s.k s.l (first c)
     (c.in_ok-sets.ensures.positions ∙ count) (c.in_ok-sets.ensures.orphans ∙ ap (range_with_len 0) count) c.in_ok-sets.ensures.sets
     c.room_for-2.ensures)

@@ -1,10 +1,9 @@
 -- The concatenated parts of the faces are all faces.
-use Rattle.qh_write.proofs.texts.scribes.InThreadsScribe.push_faces.Goals as goal
 use Rattle.std.proofs.Common.{rules, ◌≡◌, ◌<◌, ◌≤◌, ◌*◌, ◌/◌, ◌+◌, ◌∙◌, ℕ, List, length, take, drop, get_or, Result, Vec, Global, arith, ap}
 use Rattle.std.proofs.lemmas.{Grind.flat_map-append, Result.on_ok_weaker}
-use Rattle.std.specs.{List.flat_map, Prelude.IfOk, declared.alloc.AllocError.AllocError}
-use Rattle.qh_write.specs.steps.{Forms.shown, Numberings.face_by_numbers}
-use Rattle.qh_write.proofs.{FormLemmas.shown_append, FormLemmas.shown_none, PartLemmas.parts_of_list}
+use Rattle.{std.specs.List.flat_map, std.specs.Prelude.IfOk, std.specs.declared.alloc.AllocError.AllocError, qh_write.specs.steps.Forms.shown}
+use Rattle.qh_write.{specs.steps.Numberings.face_by_numbers, proofs.FormLemmas.shown_append, proofs.FormLemmas.shown_none, proofs.PartLemmas.parts_of_list}
+use Rattle.qh_write.proofs.texts.scribes.InThreadsScribe.push_faces.Goals as goal
 
 pub returns : goal.returns
 returns g c =

@@ -1,10 +1,9 @@
 -- The concatenated parts of the vertices are all vertices.
-use Rattle.qh_write.proofs.texts.scribes.InThreadsScribe.push_vertices.Goals as goal
 use Rattle.std.proofs.Common.{rules, ◌≡◌, ◌<◌, ◌≤◌, ◌*◌, ◌/◌, ◌+◌, ℕ, List, length, take, drop, get_or, Result, Vec, Global, arith, refl, ap}
 use Rattle.std.proofs.lemmas.{Grind.flat_map-append, Result.on_ok_weaker}
 use Rattle.std.specs.{List.flat_map, Prelude.IfOk, declared.alloc.AllocError.AllocError}
-use Rattle.qh_model.specs.headline.{Predicates.place, Text.vertex_text}
-use Rattle.qh_write.proofs.PartLemmas.{parts_of_list}
+use Rattle.{qh_model.specs.headline.Predicates.place, qh_model.specs.headline.Text.vertex_text, qh_write.proofs.PartLemmas.parts_of_list}
+use Rattle.qh_write.proofs.texts.scribes.InThreadsScribe.push_vertices.Goals as goal
 
 pub returns : goal.returns
 returns g c =

@@ -1,1 +1,0 @@
--- Past the end and below the plane, no id is found.
