@@ -9,7 +9,7 @@ use qh_block::{block_size, cull_interior};
 use qh_hull::hull_of_body;
 use qh_lattice::reduced;
 use qh_model::{Body, Cut, CutError, Hull, Id, Memory, Point};
-use qh_run::{Gate, RunError, run_body, run_hull};
+use qh_run::{Gate, RunError, run_body};
 use std::alloc::Global;
 use std::thread::Threads;
 
@@ -25,9 +25,7 @@ fn even_cut(alloc: Global, count: u32, wanted: u32) -> Result<Cut, Memory>
     match Cut::even(alloc, count, size) {
         Ok(cut) => Ok(cut),
         Err(CutError::Memory) => Err(Memory),
-        Err(CutError::ZeroSize) => unreachable!(),
-        Err(CutError::TooManyBlocks) => unreachable!(),
-        Err(CutError::BadBounds) => unreachable!(),
+        Err(_) => unreachable!(),
     }
 }
 
@@ -54,28 +52,6 @@ fn body_by_workers<R: Threads + Sync, G: Gate>(
     }
 }
 
-/// Returns the hull of a list of points by the workers in the settings, observed by the gate.
-fn hull_by_workers<R: Threads + Sync, G: Gate>(
-    rt: &R,
-    alloc: Global,
-    pts: &[Point],
-    ids: &[Id],
-    settings: &Settings,
-    gate: &G,
-) -> Result<Hull, Memory>
-    requires few { length pts.now ≤ POINT_LIMIT }
-    requires some { 0 < length ids.now }
-    requires distinct { AreDistinctIds pts.now ids.now }
-    ensures { IfOk result (λ h. IsHull pts.now h) }
-{
-    let cut = even_cut(alloc, ids.len() as u32, settings.block())?;
-    match run_hull(rt, alloc, pts, ids, &cut, settings.workers(), gate) {
-        Ok(hull) => Ok(hull),
-        Err(RunError::Memory) => Err(Memory),
-        Err(RunError::BadWorkers) => unreachable!(),
-    }
-}
-
 /// Returns the hull of a list of points without a map. The interior points of a large list are removed first.
 fn hull_as_given<R: Threads + Sync, G: Gate>(
     rt: &R,
@@ -90,13 +66,11 @@ fn hull_as_given<R: Threads + Sync, G: Gate>(
     requires distinct { AreDistinctIds pts.now ids.now }
     ensures { IfOk result (λ h. IsHull pts.now h) }
 {
-    match cull_interior(rt, alloc, pts, ids, settings.threads())? {
-        Some(outer) => {
-            let body = body_by_workers(rt, alloc, pts, &outer, settings, gate)?;
-            Ok(hull_of_body(pts, ids, body))
-        }
-        None => hull_by_workers(rt, alloc, pts, ids, settings, gate),
-    }
+    let body = match cull_interior(rt, alloc, pts, ids, settings.threads())? {
+        Some(outer) => body_by_workers(rt, alloc, pts, &outer, settings, gate)?,
+        None => body_by_workers(rt, alloc, pts, ids, settings, gate)?,
+    };
+    Ok(hull_of_body(pts, ids, body))
 }
 
 /// Returns the hull of a list of points, given its distinct ids; it is computed from images of the points where a map
