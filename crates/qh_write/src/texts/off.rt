@@ -1,9 +1,9 @@
 //! The texts of `Fx` and of OFF files.
 ghost use Rattle.std.specs.{List.flat_map, Prelude.◌≡◌, Prelude.◌++◌, Prelude.◌<◌, Prelude.OnOk, Prelude.All, Prelude.length, Prelude.decimal};
-ghost use Rattle.qh_model.specs.{contract.Bodies.IsBodyInOrder, contract.IdSets.AreIndices, headline.Predicates.place};
-ghost use Rattle.qh_model.specs.headline.Text.{line, spaced, extremes_text, vertex_text, face_text, off_text};
-ghost use Rattle.qh_write.specs.{contract.Pieces.bytes_in, steps.Forms.shown, steps.Forms.body_shown};
-ghost use Rattle.qh_write.specs.steps.Numberings.{AreNumbered, face_by_numbers, number_in};
+ghost use Rattle.qh_model.specs.{contract.IdSets.AreIndices, headline.Predicates.place};
+ghost use Rattle.qh_model.specs.headline.Text.{line, spaced, extremes_text, vertex_text, off_text};
+ghost use Rattle.qh_write.specs.{contract.Pieces.bytes_in, steps.Forms.body_shown};
+ghost use Rattle.qh_write.specs.steps.Numberings.{AreNumbered, face_by_numbers};
 
 use super::forms::FaceForm;
 use super::lines::{push_line_end, push_number, push_signed, push_spaced};
