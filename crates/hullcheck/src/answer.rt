@@ -1,8 +1,8 @@
-//! What the program writes on standard output.
-ghost use Rattle.std.specs.Prelude.{Some};
-ghost use Rattle.hullcheck.specs.contract.Answering.{answer_text};
+//! What the program writes on standard output, and the exit statuses.
+ghost use Rattle.std.specs.Prelude.{◌≡◌, Some};
+ghost use Rattle.hullcheck.specs.contract.{Answering.answer_text, Statuses.answer_status};
 
-use qh_check::Judgement;
+use qh_check::{Judgement, SurfaceVerdict};
 use std::fmt;
 
 /// The text that `--help` prints, without the last line end.
@@ -49,5 +49,15 @@ impl fmt::Display for Answer {
             Answer::Help => write!(f, "{HELP}"),
             Answer::Told(judgement) => write!(f, "{judgement}"),
         }
+    }
+}
+
+/// Returns the exit status of an answer: 1 if the faces are not right, else 0.
+pub fn status_of(answer: &Answer) -> u8
+    ensures { result ≡ answer_status answer.now }
+{
+    match answer {
+        Answer::Help | Answer::Told(Judgement::Told(SurfaceVerdict::Right)) => 0,
+        _ => 1,
     }
 }

@@ -1,8 +1,8 @@
 //! The words of a command line.
-ghost use Rattle.std.specs.Prelude.{◌≡◌, ◌==◌, ◌∷◌, ℕ, List, None, Some, IfOk, IsSome, MatchResult, map, slice_index, string_bytes};
+ghost use Rattle.std.specs.Prelude.{◌≡◌, ◌∷◌, ℕ, List, None, Some, IfOk, IsSome, MatchResult, map, string_bytes};
 ghost use Rattle.hullcheck.specs.declared.fault.Fault.TheVariants.{Usage};
 ghost use Rattle.hullcheck.specs.declared.command_line.Next.TheVariants.{Any};
-ghost use Rattle.hullcheck.specs.contract.CommandLine.{asked_by, asked_by_default, asked_in, requests_help, with_file, with_word};
+ghost use Rattle.hullcheck.specs.contract.CommandLine.{asked_by, asked_in, requests_help, with_file, with_word};
 ghost use Rattle.hullcheck.specs.contract.CommandLine.{workers_in};
 ghost use Rattle.hullcheck.specs.steps.Words.{with_next};
 
@@ -46,38 +46,14 @@ fn workers_of(word: &str) -> Result<u32, Fault>
     Ok(workers)
 }
 
-/// Returns true if a word begins with a minus sign, as options do.
-fn is_option(word: &str) -> bool
-    ensures { result ≡ (slice_index word.now 0 == 45) }
-{
-    match word.as_bytes() {
-        [first, ..] => *first == b'-',
-        [] => false,
-    }
-}
-
 impl<'a> Settings<'a> {
-    /// Returns the settings of a command line without words.
-    fn none() -> Settings<'a>
-        ensures { asked_in result ≡ asked_by_default }
-    {
-        Settings {
-            workers: 4,
-            reading: Reading {
-                layout: Layout::Off,
-                orientation: Orientation::Counterclockwise,
-            },
-            points: None,
-            faces: None,
-        }
-    }
-
     /// Records a file name: the first is the file of points, the second the file of faces.
     fn take_file(&mut self, word: &'a str) -> Result<(), Fault>
         ensures { MatchResult result (λ _. with_file (asked_in self.old) word.entry.now ≡ Some (asked_in self.new))
             (λ f. (f ≡ Usage) × (with_file (asked_in self.old) word.entry.now ≡ None)) }
     {
-        if is_option(word) {
+        // Options begin with a minus sign.
+        if let [b'-', ..] = word.as_bytes() {
             return Err(Fault::Usage);
         }
         match (self.points, self.faces) {
@@ -148,7 +124,15 @@ pub fn settings_of<'a>(words: &'a [String]) -> Result<Settings<'a>, Fault>
     let [_, rest @ ..] = words else {
         return Err(Fault::Usage);
     };
-    let mut settings = Settings::none();
+    let mut settings = Settings {
+        workers: 4,
+        reading: Reading {
+            layout: Layout::Off,
+            orientation: Orientation::Counterclockwise,
+        },
+        points: None,
+        faces: None,
+    };
     let mut next = Next::Any;
     for word in rest {
         next = settings.take(next, word.as_str())?;

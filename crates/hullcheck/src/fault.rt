@@ -1,6 +1,6 @@
 //! The faults that keep the program from a verdict.
 ghost use Rattle.std.specs.Prelude.{◌≡◌, Some};
-ghost use Rattle.hullcheck.specs.contract.Statuses.{fault_status, read_fault_status};
+ghost use Rattle.hullcheck.specs.contract.Statuses.{fault_status};
 ghost use Rattle.hullcheck.specs.contract.FaultTexts.{fault_text, read_fault_text};
 ghost use Rattle.hullcheck.specs.declared.fault.Fault.TheVariants.{Memory};
 
@@ -24,17 +24,6 @@ pub enum Fault {
     Faces(ReadFault),
 }
 
-/// Returns the exit status for a file that could not be read.
-fn read_status(fault: ReadFault) -> u8
-    ensures { result ≡ read_fault_status fault }
-{
-    match fault {
-        ReadFault::Memory => 3,
-        ReadFault::Device => 4,
-        _ => 5,
-    }
-}
-
 impl Fault {
     /// Returns the exit status.
     pub fn status(self) -> u8
@@ -44,7 +33,11 @@ impl Fault {
             Fault::Usage => 2,
             Fault::Memory => 3,
             Fault::Device | Fault::Output => 4,
-            Fault::Points(fault) | Fault::Faces(fault) => read_status(fault),
+            Fault::Points(fault) | Fault::Faces(fault) => match fault {
+                ReadFault::Memory => 3,
+                ReadFault::Device => 4,
+                _ => 5,
+            },
         }
     }
 }

@@ -1,7 +1,7 @@
 //! The program `hullcheck`: checks whether faces, written by any program, are the convex hull of points.
 //!
 //! `command_line` parses the settings. `judging` reads points and faces and calls `judge_faces` of qh_check. `answer`
-//! defines what is written, and `statuses` the exit statuses. `program` connects these to the words, the `files` and the
+//! and `fault` define what is written, and the exit statuses. `program` connects these to the words, the `files` and the
 //! output lines. `system` supplies those of the operating system.
 #![tactic(auto)]
 
@@ -11,7 +11,6 @@ mod fault;
 mod files;
 mod judging;
 mod program;
-mod statuses;
 mod system;
 #[cfg(test)]
 mod tests;

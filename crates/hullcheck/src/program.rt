@@ -1,34 +1,22 @@
 //! The program, given the words of a command line, files, and devices for lines of text.
-ghost use Rattle.std.specs.Prelude.{◌≡◌, ◌≢◌, ◌⊎◌, ◌^◌, ◌-◌, ◌<◌, IfErr, IfOk, IfSome, Some, false, true, map};
-ghost use Rattle.std.specs.{Prelude.string_bytes, Option.option_map, declared.io.ErrorKind.TheVariants.OutOfMemory};
+ghost use Rattle.std.specs.Prelude.{◌≡◌, ◌⊎◌, ◌^◌, ◌-◌, ◌<◌, IfErr, IfOk, IfSome, Some, false, true, map};
+ghost use Rattle.std.specs.{Prelude.string_bytes, Option.option_map};
 ghost use Rattle.qh_write.specs.contract.LineDevices.{LineDevice};
 ghost use Rattle.hullcheck.specs.contract.{Checking.IsJudgeFault, Judging.IsToldBy, Judging.IsWhole};
 ghost use Rattle.hullcheck.specs.contract.Runs.{IsAnswered, IsEnd, IsRefusal, IsRun};
-ghost use Rattle.hullcheck.specs.declared.fault.Fault.TheVariants.{Device, Memory, Usage};
+ghost use Rattle.hullcheck.specs.declared.fault.Fault.TheVariants.{Device, Memory};
 ghost use Rattle.hullcheck.specs.steps.Files.{IsUnread};
 
-use crate::answer::Answer;
+use crate::answer::{Answer, status_of};
 use crate::command_line::{asks_help, settings_of};
 use crate::fault::Fault;
 use crate::files::Files;
 use crate::judging::check_streams;
-use crate::statuses::status_of;
 use qh_check::Judgement;
 use qh_write::Lines;
 use std::alloc::Global;
 use std::io::ErrorKind;
 use std::thread::Threads;
-
-/// Returns the fault of words that could not be read: out of memory, or a word is not UTF-8.
-fn unread_words(kind: ErrorKind) -> Fault
-    ensures memory { kind ≡ OutOfMemory → result ≡ Memory }
-    ensures usage { kind ≢ OutOfMemory → result ≡ Usage }
-{
-    match kind {
-        ErrorKind::OutOfMemory => Fault::Memory,
-        _ => Fault::Usage,
-    }
-}
 
 /// Returns the fault of a file that could not be opened or read: out of memory, or the device failed.
 fn unread_file(kind: ErrorKind) -> Fault
@@ -104,7 +92,9 @@ fn answer<R: Threads + Sync, F: Files>(
     match words {
         Ok(words) if asks_help(&words) => Ok(Answer::Help),
         Ok(words) => Ok(Answer::Told(judge_words(rt, alloc, &words, processors, files)?)),
-        Err(kind) => Err(unread_words(kind)),
+        Err(ErrorKind::OutOfMemory) => Err(Fault::Memory),
+        // A word is not UTF-8.
+        Err(_) => Err(Fault::Usage),
     }
 }
 

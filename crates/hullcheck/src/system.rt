@@ -66,18 +66,8 @@ impl<R: rt::Files + Input> Files for SystemFiles<'_, R> {
 
 /// Returns the words of the command line, the program's name first.
 fn words<R: Env + AllocGlobal>(rt: &R) -> Result<Vec<String>, ErrorKind> {
-    match env::args(rt) {
-        Ok(args) => args.collect(rt.alloc()).map_err(|_| ErrorKind::OutOfMemory),
-        Err(error) => Err(error.kind()),
-    }
-}
-
-/// Returns the number of processors available to this process, or the greatest number if the system does not report it.
-fn processors<R: Threads>(rt: &R) -> usize {
-    match available_parallelism(rt) {
-        Ok(count) => count.get(),
-        Err(_) => usize::MAX,
-    }
+    let args = env::args(rt).map_err(|error| error.kind())?;
+    args.collect(rt.alloc()).map_err(|_| ErrorKind::OutOfMemory)
 }
 
 /// Runs the program with the command line, the files and the standard streams of the system.
@@ -86,11 +76,13 @@ pub fn start<R: Env + rt::Files + Input + Print + Eprint + AllocGlobal + Threads
 ) -> ExitCode {
     let mut files = SystemFiles { rt, failed: false };
     let (mut output, mut errors) = (OutLines::new(rt), ErrorLines::new(rt));
+    // The greatest number if the system does not report how many are available to this process.
+    let processors = available_parallelism(rt).map_or(usize::MAX, |count| count.get());
     ExitCode::from(run(
         rt,
         rt.alloc(),
         words(rt),
-        processors(rt),
+        processors,
         &mut files,
         &mut output,
         &mut errors,

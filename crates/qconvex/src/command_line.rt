@@ -7,12 +7,11 @@ ghost use Rattle.qh_model.specs.declared.form.Form.TheVariants as forms;
 ghost use Rattle.qh_model.specs.declared.out.Out.{Out};
 ghost use Rattle.qh_model.specs.declared.out.Out.TheVariants.{Rank, Summary, Fx, Off, OffTriangles};
 ghost use Rattle.qconvex.specs.contract.CommandLine.{AreOutsOf, AreSettingsOf, IsArgFaultOf, IsFormOf, IsProgram, NumberOf};
-ghost use Rattle.qconvex.specs.contract.CommandLine.{form_word, from_one_to, from_option, number_option, outs_rule, word_of};
+ghost use Rattle.qconvex.specs.contract.CommandLine.{form_word, from_option, number_option, outs_rule, word_of};
 ghost use Rattle.qconvex.specs.contract.CommandLine.{version_flag, words_taken};
 ghost use Rattle.qconvex.specs.steps.Matches.{AreSettingsFound, IsFindingFault, IsOutsFault, IsRefusalOf, IsTextOrMemory};
 
 use crate::help::{HELP, VERSION};
-use clap::builder::ValueParser;
 use clap::error::ErrorKind;
 use clap::{Arg, ArgAction, ArgMatches, Command, Error, value_parser};
 use qh_model::{Form, WORKER_LIMIT};
@@ -34,14 +33,6 @@ pub enum ArgFault {
 /// The words that name outputs.
 static NAMES: [&str; 5] = ["rank", "s", "Fx", "off", "offt"];
 
-/// Returns a parser of whole numbers from 1 to a limit.
-fn up_to<'a>(limit: u32) -> ValueParser<'a>
-    requires { 0 < limit }
-    ensures { result ≡ from_one_to limit }
-{
-    value_parser!(u32).range(1..=i64::from(limit))
-}
-
 /// Returns an option `--name N` with a default, for numbers from 1 to a limit.
 fn number_arg<'a>(alloc: Global, name: &'a str, default: &'a str, limit: u32) -> Arg<'a>
     requires { 0 < limit }
@@ -53,7 +44,7 @@ fn number_arg<'a>(alloc: Global, name: &'a str, default: &'a str, limit: u32) ->
         .value_name("N")
         .action(ArgAction::Set)
         .default_value(default)
-        .value_parser(up_to(limit))
+        .value_parser(value_parser!(u32).range(1..=i64::from(limit)))
 }
 
 /// The words that name forms.

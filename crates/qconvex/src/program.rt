@@ -1,10 +1,8 @@
 //! The program, given the words of a command line, a source of points and a sink of texts.
-ghost use Rattle.std.specs.Prelude.{◌≡◌, ◌≢◌, ◌-◌, ◌^◌, ◌<◌, map, string_bytes};
-ghost use Rattle.std.specs.declared.io.ErrorKind.TheVariants.{OutOfMemory};
+ghost use Rattle.std.specs.Prelude.{◌≡◌, ◌-◌, ◌^◌, ◌<◌, map, string_bytes};
 ghost use Rattle.qconvex.specs.contract.Outcomes.{IsOutcome, devices};
 ghost use Rattle.qh_write.specs.contract.LineDevices.{LineDevice};
 ghost use Rattle.qconvex.specs.contract.Runs.{IsAsked, IsRun, SaysFault, outcome_status};
-ghost use Rattle.qconvex.specs.declared.command_line.ArgFault.TheVariants.{Usage, Memory};
 
 use crate::command_line::{ArgFault, settings_of};
 use qh_read::{ReadFault, Source};
@@ -13,17 +11,6 @@ use qh_write::{Lines, Sink, send};
 use std::alloc::Global;
 use std::io::ErrorKind;
 use std::thread::Threads;
-
-/// Returns the fault of words that could not be read: out of memory, or a word is not UTF-8.
-fn unread(kind: ErrorKind) -> ArgFault
-    ensures memory { kind ≡ OutOfMemory → result ≡ Memory }
-    ensures usage { kind ≢ OutOfMemory → result ≡ Usage }
-{
-    match kind {
-        ErrorKind::OutOfMemory => ArgFault::Memory,
-        _ => ArgFault::Usage,
-    }
-}
 
 /// Returns the settings of a command line for this number of processors, if its words could be read.
 fn asked(
@@ -35,7 +22,9 @@ fn asked(
 {
     match words {
         Ok(words) => Ok(settings_of(alloc, words)?.on_processors(processors)),
-        Err(kind) => Err(unread(kind)),
+        Err(ErrorKind::OutOfMemory) => Err(ArgFault::Memory),
+        // A word is not UTF-8.
+        Err(_) => Err(ArgFault::Usage),
     }
 }
 

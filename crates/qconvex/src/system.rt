@@ -11,29 +11,21 @@ use std::{env, io};
 
 /// Returns the words of the command line, the program's name first.
 fn words<R: Env + AllocGlobal>(rt: &R) -> Result<Vec<String>, ErrorKind> {
-    match env::args(rt) {
-        Ok(args) => args.collect(rt.alloc()).map_err(|_| ErrorKind::OutOfMemory),
-        Err(error) => Err(error.kind()),
-    }
-}
-
-/// Returns the number of processors available to this process, or the greatest number if the system does not report it.
-fn processors<R: Threads>(rt: &R) -> usize {
-    match available_parallelism(rt) {
-        Ok(count) => count.get(),
-        Err(_) => usize::MAX,
-    }
+    let args = env::args(rt).map_err(|error| error.kind())?;
+    args.collect(rt.alloc()).map_err(|_| ErrorKind::OutOfMemory)
 }
 
 /// Runs the program with the command line and the standard streams of the system.
 pub fn start<R: Env + Input + Print + Eprint + AllocGlobal + Threads + Sync>(rt: &R) -> ExitCode {
     let (mut source, mut sink) = (StdSource::new(rt.reader()), StdSink::new(io::writer(rt)));
     let mut errors = ErrorLines::new(rt);
+    // The greatest number if the system does not report how many are available to this process.
+    let processors = available_parallelism(rt).map_or(usize::MAX, |count| count.get());
     ExitCode::from(run(
         rt,
         rt.alloc(),
         words(rt),
-        processors(rt),
+        processors,
         &mut source,
         &mut sink,
         &mut errors,

@@ -1,14 +1,6 @@
--- The fault of a code.
-use Rattle.std.proofs.Common.{◌≡◌, ◌↔◌, ℕ, refl, subst, arith, Result, Ok, Err}
-use Rattle.qconvex_c.specs.{steps.Codes.code_of, declared.fault.Fault.Fault}
-use Rattle.qconvex_c.specs.declared.fault.Fault.TheVariants.{NoPoint, TooMany, Range, Memory, Room}
-
-pub is_room : (f : Fault) → code_of f ≡ 5 → f ≡ Room
-is_room NoPoint e = absurd (omega (arith, e))
-is_room TooMany e = absurd (omega (arith, e))
-is_room Range e = absurd (omega (arith, e))
-is_room Memory e = absurd (omega (arith, e))
-is_room Room e = refl
+-- A successful call has no fault.
+use Rattle.std.proofs.Common.{◌≡◌, ◌↔◌, ℕ, subst, Result, Ok, Err}
+use Rattle.qconvex_c.specs.declared.fault.Fault.{Fault}
 
 abbrev is_done : {A : Type 0} → Result A Fault → Type 0
 is_done (Ok x) = Unit {0}

@@ -8,10 +8,11 @@ ghost use Rattle.qconvex_c.specs.contract.Triangles.{AreFans, NeedsFanRoom};
 ghost use Rattle.qconvex_c.specs.contract.Codes.{QCONVEX_DONE, QCONVEX_NO_POINT, QCONVEX_TOO_MANY, QCONVEX_RANGE, QCONVEX_ROOM};
 
 use crate::buffers::{Buffers, fill};
-use crate::code::{DONE, ROOM};
-use crate::fan_lists::write_fans;
+use crate::code::{DONE, MEMORY, ROOM};
+use crate::fan_lists::{fan_lists_of, fill_fans};
 use crate::given::CPoint;
 use crate::given_hull::given_hull;
+use crate::judging::judge;
 use crate::sizes::Sizes;
 use std::alloc::Global;
 
@@ -100,8 +101,16 @@ pub extern "C" fn qconvex_fans(
     ensures normals_kept { result ≢ QCONVEX_DONE → normals.new ≡ normals.old }
     ensures count_kept { result ≢ QCONVEX_DONE → result ≢ QCONVEX_ROOM → count.new ≡ count.old }
 {
-    match write_fans(alloc, points, count, triangles, normals) {
-        Ok(()) => DONE,
-        Err(fault) => fault.code(),
+    if let Err(fault) = judge(points) {
+        return fault.code();
+    }
+    let Ok(fans) = fan_lists_of(alloc, points) else {
+        return MEMORY;
+    };
+    *count = fans.count;
+    if fill_fans(&fans, triangles, normals) {
+        DONE
+    } else {
+        ROOM
     }
 }

@@ -1,25 +1,23 @@
-//! The fans of the hull of points, written to buffers.
-ghost use Rattle.std.specs.Prelude.{◌≡◌, ◌≢◌, ◌*◌, ◌≤◌, ◌<◌, ◌↔◌, ◌⊎◌, length, take, drop, true, false, IfOk, IfErr};
-ghost use Rattle.std.specs.{Prelude.IsErrOf, Prelude.OnOk, Prelude.OnErr, List.All};
+//! The fans of the hull of points, and the buffers to which they are written.
+ghost use Rattle.std.specs.Prelude.{◌≡◌, ◌≤◌, ◌<◌, ◌⊎◌, length, take, drop, true, false, IfOk};
+ghost use Rattle.std.specs.List.{All};
 ghost use Rattle.qh_model.specs.{contract.Places.IsPlace, declared.limits.TheConstants.POINT_LIMIT};
 ghost use Rattle.qh_model.specs.headline.Hull.{IsHull};
-ghost use Rattle.qconvex_c.specs.contract.Triangles.{AreFans, NeedsFanRoom};
+ghost use Rattle.qconvex_c.specs.contract.Triangles.{AreFans};
 
 use crate::buffers::put;
 use crate::fans::{body_corners, body_normals};
-use crate::fault::Fault;
 use crate::given::{CPoint, points_of};
-use crate::judging::judge;
 use qh_hull::hull_alone;
 use qh_model::{Hull, Memory, Point};
 use std::alloc::Global;
 
 /// Triangles, by their corners and their normals.
 #[derive(Drop)]
-struct FanLists {
-    count: usize,
-    triangles: Vec<u32>,
-    normals: Vec<i64>,
+pub struct FanLists {
+    pub count: usize,
+    pub triangles: Vec<u32>,
+    pub normals: Vec<i64>,
 }
 
 /// Returns the fans of a hull.
@@ -37,7 +35,11 @@ fn fan_lists(alloc: Global, pts: &[Point], hull: &Hull) -> Result<FanLists, Memo
 }
 
 /// Returns the fans of the hull of valid points.
-fn fan_lists_of(alloc: Global, points: &[CPoint]) -> Result<FanLists, Memory>
+///
+/// # Errors
+///
+/// `Memory` if an allocation failed.
+pub fn fan_lists_of(alloc: Global, points: &[CPoint]) -> Result<FanLists, Memory>
     requires some { 0 < length points.now }
     requires few { length points.now ≤ POINT_LIMIT }
     requires places { All IsPlace points.now }
@@ -49,7 +51,7 @@ fn fan_lists_of(alloc: Global, points: &[CPoint]) -> Result<FanLists, Memory>
 }
 
 /// Writes fans to buffers and returns true if each is long enough. Else leaves them unchanged and returns false.
-fn fill_fans(fans: &FanLists, triangles: &mut [u32], normals: &mut [i64]) -> bool
+pub fn fill_fans(fans: &FanLists, triangles: &mut [u32], normals: &mut [i64]) -> bool
     ensures done { result ≡ true → (take (length fans.now.triangles.items) triangles.new ≡ fans.now.triangles.items)
         × (take (length fans.now.normals.items) normals.new ≡ fans.now.normals.items) }
     ensures rest { result ≡ true → (drop (length fans.now.triangles.items) triangles.new ≡ drop (length fans.now.triangles.items) triangles.old)
@@ -63,37 +65,4 @@ fn fill_fans(fans: &FanLists, triangles: &mut [u32], normals: &mut [i64]) -> boo
     put(triangles, &fans.triangles);
     put(normals, &fans.normals);
     true
-}
-
-/// Writes the fans of the hull of points to buffers.
-///
-/// # Errors
-///
-/// `NoPoint`, `TooMany`, `Range` and `Memory` leave everything unchanged. `Room` leaves the buffers unchanged and sets
-/// the number of triangles.
-pub fn write_fans(
-    alloc: Global,
-    points: &[CPoint],
-    count: &mut usize,
-    triangles: &mut [u32],
-    normals: &mut [i64],
-) -> Result<(), Fault>
-    ensures done { OnOk result (AreFans points.now count.new (take (3 * count.new) triangles.new) (take (3 * count.new) normals.new)) }
-    ensures rest { OnOk result ((drop (3 * count.new) triangles.new ≡ drop (3 * count.new) triangles.old)
-        × (drop (3 * count.new) normals.new ≡ drop (3 * count.new) normals.old)) }
-    ensures none { IsErrOf result Fault.NoPoint ↔ (length points.now ≡ 0) }
-    ensures many { IsErrOf result Fault.TooMany ↔ (POINT_LIMIT < length points.now) }
-    ensures range { IsErrOf result Fault.Range ↔ ((0 < length points.now) × (length points.now ≤ POINT_LIMIT) × ¬ (All IsPlace points.now)) }
-    ensures room { IsErrOf result Fault.Room → NeedsFanRoom points.now count.new triangles.old normals.old }
-    ensures kept { OnErr result ((triangles.new ≡ triangles.old) × (normals.new ≡ normals.old)) }
-    ensures count_kept { IfErr result (λ f. f ≢ Fault.Room → count.new ≡ count.old) }
-{
-    judge(points)?;
-    let fans = fan_lists_of(alloc, points)?;
-    *count = fans.count;
-    if fill_fans(&fans, triangles, normals) {
-        Ok(())
-    } else {
-        Err(Fault::Room)
-    }
 }

@@ -4,26 +4,16 @@ ghost use Rattle.std.specs.List.{flat_map};
 ghost use Rattle.qh_model.specs.{contract.IdSets.AreIndices, headline.Predicates.place};
 ghost use Rattle.qconvex_c.specs.steps.FaceFans.{face_corners, face_normals};
 
-use qh_model::{Body, Id, Point, Polygon};
+use qh_model::{Body, Point, Polygon};
 use qh_pred::{Normal, cross, point_at};
 use std::alloc::{AllocError, Global};
-
-/// Appends the numbers of three ids.
-fn push_triangle(numbers: &mut Vec<u32>, u: Id, v: Id, w: Id) -> Result<(), AllocError>
-    ensures { OnOk result (numbers.new.items ≡ numbers.old.items ++ u ∷ v ∷ w ∷ []) }
-{
-    numbers.push(u.number())?;
-    numbers.push(v.number())?;
-    numbers.push(w.number())?;
-    Ok(())
-}
 
 /// Appends the corners of the triangles of a face.
 fn push_corners(numbers: &mut Vec<u32>, face: &Polygon) -> Result<(), AllocError>
     ensures { OnOk result (numbers.new.items ≡ numbers.old.items ++ face_corners face.now) }
 {
     for [u, v, w] in face.fan() {
-        push_triangle(numbers, u, v, w)?;
+        numbers.extend_from_slice(&[u.number(), v.number(), w.number()])?;
     }
     Ok(())
 }

@@ -7,13 +7,6 @@ use crate::sizes::Sizes;
 use qh_model::{Hull, Id, Memory, Polygon};
 use std::alloc::{AllocError, Global};
 
-/// The corners of faces, one face after the other, and the offsets at which each face begins and ends.
-#[derive(Drop)]
-pub struct Faces {
-    pub corners: Vec<u32>,
-    pub offsets: Vec<usize>,
-}
-
 /// A hull in flat lists.
 #[derive(Drop)]
 pub struct FlatHull {
@@ -42,10 +35,10 @@ fn numbers_of(alloc: Global, ids: &[Id]) -> Result<Vec<u32>, AllocError>
     Ok(numbers)
 }
 
-/// Returns the faces in flat lists.
-fn faces_of(alloc: Global, faces: &[Polygon]) -> Result<Faces, AllocError>
-    ensures corners { IfOk result (λ f. f.corners.items ≡ corners_of faces.now) }
-    ensures offsets { IfOk result (λ f. f.offsets.items ≡ offsets_of faces.now) }
+/// Returns the corners of faces, one face after the other, and the offsets at which each face begins and ends.
+fn faces_of(alloc: Global, faces: &[Polygon]) -> Result<(Vec<u32>, Vec<usize>), AllocError>
+    ensures corners { IfOk result (λ f. f.0.items ≡ corners_of faces.now) }
+    ensures offsets { IfOk result (λ f. f.1.items ≡ offsets_of faces.now) }
 {
     let mut corners = Vec::with_capacity(alloc, faces.len().saturating_mul(3))?;
     let mut offsets = Vec::with_capacity(alloc, faces.len().saturating_add(1))?;
@@ -54,7 +47,7 @@ fn faces_of(alloc: Global, faces: &[Polygon]) -> Result<Faces, AllocError>
         push_numbers(&mut corners, face.ids())?;
         offsets.push(corners.len())?;
     }
-    Ok(Faces { corners, offsets })
+    Ok((corners, offsets))
 }
 
 /// Returns the hull in flat lists.
@@ -66,20 +59,20 @@ pub fn flat_hull(alloc: Global, hull: &Hull) -> Result<FlatHull, Memory>
     ensures { IfOk result (λ f. (pts : List Vector) → IsHull pts hull.now → IsFlatHull pts f.sizes f.extremes.items f.offsets.items f.corners.items) }
 {
     let extremes = numbers_of(alloc, &hull.body.extremes)?;
-    let faces = faces_of(alloc, &hull.body.polygons)?;
+    let (corners, offsets) = faces_of(alloc, &hull.body.polygons)?;
     let sizes = Sizes {
         points: hull.given,
         distinct: hull.distinct,
         dimension: u32::from(hull.body.dim),
         extremes: extremes.len(),
         faces: hull.body.polygons.len(),
-        corners: faces.corners.len(),
+        corners: corners.len(),
         edges: hull.body.edges,
     };
     Ok(FlatHull {
         sizes,
         extremes,
-        offsets: faces.offsets,
-        corners: faces.corners,
+        offsets,
+        corners,
     })
 }

@@ -57,12 +57,7 @@ fn is_place(point: CPoint) -> bool
 pub fn are_places(points: &[CPoint]) -> bool
     ensures { IsTrue result ↔ All IsPlace points.now }
 {
-    for point in points {
-        if !is_place(*point) {
-            return false;
-        }
-    }
-    true
+    points.iter().all(|point| is_place(*point))
 }
 
 /// Returns the same points, in the type that hulls use.

@@ -9,20 +9,7 @@ use crate::flat_hull::{FlatHull, flat_hull};
 use crate::given::{CPoint, points_of};
 use crate::judging::judge;
 use qh_hull::hull_alone;
-use qh_model::Memory;
 use std::alloc::Global;
-
-/// Returns the hull of valid points, in flat lists.
-fn flat_hull_of(alloc: Global, points: &[CPoint]) -> Result<FlatHull, Memory>
-    requires some { 0 < length points.now }
-    requires few { length points.now ≤ POINT_LIMIT }
-    requires places { All IsPlace points.now }
-    ensures { IfOk result (λ f. IsFlatHull points.now f.sizes f.extremes.items f.offsets.items f.corners.items) }
-{
-    let pts = points_of(alloc, points)?;
-    let hull = hull_alone(alloc, &pts)?;
-    flat_hull(alloc, &hull)
-}
 
 /// Returns the hull of points, in flat lists.
 ///
@@ -37,5 +24,7 @@ pub fn given_hull(alloc: Global, points: &[CPoint]) -> Result<FlatHull, Fault>
     ensures room { ¬ (IsErrOf result Fault.Room) }
 {
     judge(points)?;
-    Ok(flat_hull_of(alloc, points)?)
+    let pts = points_of(alloc, points)?;
+    let hull = hull_alone(alloc, &pts)?;
+    Ok(flat_hull(alloc, &hull)?)
 }

@@ -30,8 +30,6 @@ mod given_hull;
 mod judging;
 mod kind;
 mod many;
-#[cfg(test)]
-mod neighbor_tests;
 mod neighbors;
 mod set_answer;
 mod set_hulls;
@@ -45,8 +43,6 @@ mod tests;
 mod told;
 mod verdict;
 mod version;
-#[cfg(test)]
-mod volume_tests;
 mod volumes;
 
 pub use checked::qconvex_check;

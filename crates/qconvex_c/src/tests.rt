@@ -1,6 +1,10 @@
-//! Rows with expected values from outside: the lists of Geomview's OFF for a cube and a point.
+//! Rows with expected values from outside: the lists of Geomview's OFF for a cube and a point, the neighbours of each face
+//! of a tetrahedron and of two triangles with one side in common, and the volume of a corner of a cube.
 use crate::set_hulls::no_sizes;
-use crate::{CPoint, DONE, Sizes, qconvex_fans, qconvex_hull};
+use crate::{
+    CPoint, DONE, NONE, Sizes, Wide, qconvex_fans, qconvex_hull, qconvex_neighbors,
+    qconvex_six_volumes,
+};
 use std::alloc::Global;
 use std::test::Fail;
 
@@ -98,5 +102,55 @@ fn fields_as_in_the_header(rt: HostRuntime) -> Result<(), Fail> {
         (size_of::<Sizes>(), size_of::<CPoint>()),
         (48usize, 12usize)
     );
+    Ok(())
+}
+
+/// Returns the code for the neighbours of triangles, and true if the buffer has the expected contents.
+fn neighbors_told(alloc: Global, triangles: &[u32], expected: &[u32; 14]) -> (u32, bool) {
+    let mut neighbors = [99u32; 14];
+    let code = qconvex_neighbors(alloc, triangles, &mut neighbors);
+    (code, neighbors.as_slice() == expected.as_slice())
+}
+
+#[test]
+fn neighbors_of_a_tetrahedron(rt: HostRuntime) -> Result<(), Fail> {
+    let outward = [0u32, 2, 1, 0, 1, 3, 0, 3, 2, 1, 2, 3];
+    let expected = [3u32, 1, 2, 3, 2, 0, 3, 0, 1, 2, 1, 0, 99, 99];
+    assert_eq!(rt;
+        neighbors_told(rt.alloc(), &outward, &expected),
+        (DONE, true)
+    );
+    Ok(())
+}
+
+#[test]
+fn neighbors_of_two_triangles(rt: HostRuntime) -> Result<(), Fail> {
+    let square = [0u32, 1, 2, 0, 2, 3, 7, 7];
+    let mut expected = [99u32; 14];
+    expected[..6].copy_from_slice(&[NONE, 1, NONE, NONE, NONE, 0]);
+    assert_eq!(rt;
+        neighbors_told(rt.alloc(), &square, &expected),
+        (DONE, true)
+    );
+    Ok(())
+}
+
+/// The tetrahedron of the origin and the unit vectors has a sixth of the unit cube's volume.
+#[test]
+fn volume_of_the_corner_of_a_cube(rt: HostRuntime) -> Result<(), Fail> {
+    let points = points_at![0 0 0, 1 0 0, 0 1 0, 0 0 1];
+    let mut volume = Wide { low: 9, high: 9 };
+    let outward = [0u32, 2, 1, 0, 1, 3, 0, 3, 2, 1, 2, 3];
+    let code = qconvex_six_volumes(&points, &outward, &mut volume);
+    assert_eq!(rt; (code, volume.low, volume.high), (DONE, 1u64, 0u64));
+    Ok(())
+}
+
+/// C accesses a field by its offset alone. `Debug` writes the fields in the order of their offsets.
+#[test]
+fn wide_as_in_the_header(rt: HostRuntime) -> Result<(), Fail> {
+    let text = format!(in rt.alloc(); "{:?}", Wide { high: 2, low: 1 })?;
+    assert_eq!(rt; text.as_str(), "Wide { low: 1, high: 2 }");
+    assert_eq!(rt; size_of::<Wide>(), 16usize);
     Ok(())
 }

@@ -1,8 +1,6 @@
 //! Converts judgements on faces to the numbers that C uses.
 ghost use Rattle.std.specs.Prelude.{◌≡◌, ◌≤◌, ◌<◌, IfOk, length};
 ghost use Rattle.std.specs.List.{All};
-ghost use Rattle.qh_check.specs.declared.verdict.SurfaceVerdict.TheVariants.{NoPiece};
-ghost use Rattle.qh_check.specs.declared.judgement.Judgement.TheVariants.{Told};
 ghost use Rattle.qh_model.specs.{contract.Places.IsPlace, declared.limits.TheConstants.POINT_LIMIT};
 ghost use Rattle.qconvex_c.specs.contract.Checked.{IsVerdictOn, of_kind, on_edge, on_face, verdict_of};
 ghost use Rattle.qconvex_c.specs.contract.Sets.{AreStarts};
@@ -50,37 +48,25 @@ fn on_edge(kind: u32, from: u32, to: u32) -> Verdict
     }
 }
 
-/// Returns the verdict on a face that is not a piece.
-fn verdict_of_fault(face: usize, fault: &FaceFault) -> Verdict
-    ensures { result ≡ verdict_of (Told (NoPiece face fault.now)) }
-{
-    match fault {
-        FaceFault::NoPlane => on_face(NO_PLANE, face, 0),
-        FaceFault::Above(point) => on_face(ABOVE, face, point.number()),
-        FaceFault::OtherFace => on_face(OTHER_FACE, face, 0),
-    }
-}
-
-/// Returns the verdict on a surface.
-fn verdict_of_surface(found: &SurfaceVerdict) -> Verdict
-    ensures { result ≡ verdict_of (Told found.now) }
-{
-    match found {
-        SurfaceVerdict::Right => of_kind(RIGHT),
-        SurfaceVerdict::OtherPolygons => of_kind(OTHERS),
-        SurfaceVerdict::NoPiece(face, fault) => verdict_of_fault(*face, fault),
-        SurfaceVerdict::Open(from, to) => on_edge(OPEN, from.number(), to.number()),
-        SurfaceVerdict::Twice(from, to) => on_edge(TWICE, from.number(), to.number()),
-    }
-}
-
 /// Returns the verdict of a judgement.
 pub fn verdict_of(judgement: Judgement) -> Verdict
     ensures { result ≡ verdict_of judgement }
 {
     match &judgement {
-        Judgement::Told(found) => verdict_of_surface(found),
         Judgement::Stranger(face) => on_face(STRANGER, *face, 0),
+        Judgement::Told(SurfaceVerdict::Right) => of_kind(RIGHT),
+        Judgement::Told(SurfaceVerdict::OtherPolygons) => of_kind(OTHERS),
+        Judgement::Told(SurfaceVerdict::NoPiece(face, fault)) => match fault {
+            FaceFault::NoPlane => on_face(NO_PLANE, *face, 0),
+            FaceFault::Above(point) => on_face(ABOVE, *face, point.number()),
+            FaceFault::OtherFace => on_face(OTHER_FACE, *face, 0),
+        },
+        Judgement::Told(SurfaceVerdict::Open(from, to)) => {
+            on_edge(OPEN, from.number(), to.number())
+        }
+        Judgement::Told(SurfaceVerdict::Twice(from, to)) => {
+            on_edge(TWICE, from.number(), to.number())
+        }
     }
 }
 

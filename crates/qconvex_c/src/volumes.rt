@@ -34,12 +34,9 @@ fn words_of(number: i128) -> Wide
 fn are_indices(corners: &[u32], points: &[CPoint]) -> bool
     ensures { IsTrue result ↔ AreIndices points.now corners.now }
 {
-    for corner in corners {
-        if *corner as usize >= points.len() {
-            return false;
-        }
-    }
-    true
+    corners
+        .iter()
+        .all(|corner| (*corner as usize) < points.len())
 }
 
 /// Returns the sum over triangles, or `None` if the sum or a partial sum does not fit into 128 bits.

@@ -1,16 +1,15 @@
 //! Ids of distinct points that are cut into blocks, and their extreme ids.
-ghost use Rattle.std.specs.Prelude.{◌≡◌, ◌<◌, ◌+◌, IfOk, length};
+ghost use Rattle.std.specs.Prelude.{◌≡◌, ◌↔◌, ◌⊎◌, ◌<◌, ◌+◌, ℕ, IfOk, length};
 ghost use Rattle.std.specs.List.Sorted.{IsStrictlyIncreasing};
 ghost use Rattle.qh_model.specs.contract.{BoardMachine.InSpan, Cut.block_count, Cut.positions};
 ghost use Rattle.qh_model.specs.contract.IdSets.{HasDistinctPoints, IsIdSet, AreIndices};
 ghost use Rattle.qh_model.specs.{contract.RightValue.RightValue, headline.Hull.AreExtremes, headline.Predicates.place};
-ghost use Rattle.qh_model.specs.headline.Sets.{Members};
+ghost use Rattle.qh_model.specs.headline.Sets.{In, Members};
 
 use crate::reduction::{Claimed, GivesUp, Reduction};
-use crate::unions::union;
 use qh_block::{Allowance, TELLING, are_few, extremes_unculled};
 use qh_board::Spans;
-use qh_model::{Cut, Id, Point};
+use qh_model::{Cut, Id, Memory, Point};
 use std::alloc::Global;
 
 /// Rising ids of distinct points, such as those that the interior filter leaves, and a cut of their positions.
@@ -86,6 +85,19 @@ impl<'a> Blocks<'a> {
         let ids = &self.ids[from as usize..to as usize];
         self.extremes_among(alloc, ids, Allowance::of_block(ids.len()))
     }
+}
+
+/// Returns the ids of two lists, rising, each once.
+fn union(alloc: Global, one: &[Id], two: &[Id]) -> Result<Vec<Id>, Memory>
+    ensures rising { IfOk result (λ v. IsStrictlyIncreasing v.items) }
+    ensures members { IfOk result (λ v. (i : ℕ) → In i v.items ↔ (In i one.now ⊎ In i two.now)) }
+{
+    let mut all = Vec::with_capacity(alloc, one.len().saturating_add(two.len()))?;
+    all.extend_from_slice(one)?;
+    all.extend_from_slice(two)?;
+    all.sort_unstable();
+    all.dedup();
+    Ok(all)
 }
 
 impl<'a> Reduction for Blocks<'a> {

@@ -18,8 +18,6 @@ mod passes;
 mod reduction;
 mod root;
 mod run;
-mod turn;
-mod unions;
 mod worker;
 
 pub use blocks::Extremes;

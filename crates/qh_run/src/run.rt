@@ -1,10 +1,10 @@
 //! The hull of a list of points, by workers.
-ghost use Rattle.std.specs.Prelude.{◌≡◌, ◌↔◌, ◌<◌, ◌≤◌, IfOk, IfSome, IsErrOf, length};
+ghost use Rattle.std.specs.Prelude.{◌≡◌, ◌↔◌, ◌<◌, ◌≤◌, IfOk, IsErrOf, length};
 ghost use Rattle.qh_model.specs.contract.{Cut.positions, IdSets.AreIndices, IdSets.IsIdSet};
 ghost use Rattle.qh_model.specs.declared.limits.TheConstants.{POINT_LIMIT, WORKER_LIMIT};
 ghost use Rattle.qh_model.specs.headline.{DistinctIds.AreDistinctIds, Hull.IsBody, Hull.IsHull, Predicates.place};
 ghost use Rattle.qh_model.specs.headline.Sets.{Members};
-ghost use Rattle.qh_run.specs.steps.Parts.{StandsFor};
+ghost use Rattle.qh_run.specs.declared.run.RunError.TheVariants as errors;
 
 use crate::blocks::Blocks;
 use crate::gate::Gate;
@@ -24,35 +24,10 @@ pub enum RunError {
 }
 
 impl From<Memory> for RunError {
-    ghost use Rattle.std.specs.Prelude.{◌≡◌};
-    ghost use Rattle.qh_run.specs.declared.run.RunError.TheVariants as errors;
-
     ghost from_gives = { λ _ e. e ≡ errors.Memory };
 
     fn from(_memory: Memory) -> RunError {
         RunError::Memory
-    }
-}
-
-/// Takes the hull of a set by the gate's `finish`: that of the found ids, which have the same hull, or that of all ids if
-/// none were found.
-fn finished<G: Gate>(
-    alloc: Global,
-    pts: &[Point],
-    ids: &[Id],
-    found: &Option<Vec<Id>>,
-    gate: &G,
-) -> Result<Body, Memory>
-    requires some { 0 < length ids.now }
-    requires indices { AreIndices pts.now ids.now }
-    requires set { IsIdSet pts.now ids.now }
-    requires found_some { IfSome found.now (λ part. 0 < length part.items) }
-    requires found { IfSome found.now (λ part. StandsFor pts.now ids.now part.items) }
-    ensures { IfOk result (λ b. IsBody (place pts.now) (Members ids.now) b) }
-{
-    match found {
-        Some(part) => gate.finish(alloc, pts, part),
-        None => gate.finish(alloc, pts, ids),
     }
 }
 
@@ -89,8 +64,11 @@ pub fn run_body<R: Threads + Sync, G: Gate>(
     if workers < 1 || workers > WORKER_LIMIT {
         return Err(RunError::BadWorkers);
     }
-    let found = root_ids(rt, alloc, Blocks { pts, ids, cut }, workers, gate);
-    Ok(finished(alloc, pts, ids, &found, gate)?)
+    // The found ids have the same hull.
+    match root_ids(rt, alloc, Blocks { pts, ids, cut }, workers, gate) {
+        Some(part) => Ok(gate.finish(alloc, pts, &part)?),
+        None => Ok(gate.finish(alloc, pts, ids)?),
+    }
 }
 
 /// Returns the hull of a list of points, that of its distinct ids as [`run_body`] takes it.

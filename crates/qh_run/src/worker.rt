@@ -8,9 +8,15 @@ ghost use Rattle.qh_run.specs.steps.Turns.{IsAnswerOf, IsTurnOf, IsWorked, answe
 use crate::gate::Gate;
 use crate::job::Job;
 use crate::reduction::{Claimed, Reduction};
-use crate::turn::TurnEnd;
-use qh_board::{Board, Claim, Delivered, Left, Pass, Task};
+use qh_board::{Board, Claim, Delivered, Left, Pass, Spans, Task};
 use std::alloc::Global;
+
+/// The end of a pass's turn at a block: the pass may claim again, or it gave up.
+#[derive(Drop)]
+enum TurnEnd<S: Spans> {
+    Ended(Pass<S>),
+    GaveUp(Left<S>),
+}
 
 /// Climbs the tree after a delivery: at each node where the pass arrived second, it combines the values of both
 /// children and delivers the parent's value.

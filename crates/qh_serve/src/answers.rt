@@ -1,7 +1,7 @@
 //! The answer to an input: the texts of its hull.
 ghost use Rattle.std.specs.Prelude.{◌≡◌, ◌≢◌, ◌<◌, ◌≤◌, IfOk, IfErr, Err, length};
 ghost use Rattle.qh_model.specs.declared.limits.TheConstants.{BYTE_LIMIT, POINT_LIMIT};
-ghost use Rattle.qh_model.specs.headline.{DistinctIds.AreDistinctIds, Forms.ReadsIn, Text.IsText};
+ghost use Rattle.qh_model.specs.headline.{Forms.ReadsIn, Text.IsText};
 ghost use Rattle.qh_model.specs.declared.read_fault.ReadFault.TheVariants as reads;
 ghost use Rattle.qh_read.specs.contract.ReadFaults.{IsFaultOf};
 ghost use Rattle.qh_serve.specs.headline.Answers.{IsAnswer, IsAnswerFault};
@@ -11,31 +11,13 @@ use crate::fault::Fault;
 use crate::hulls::hull_of;
 use crate::ranks::{are_all_ranks, rank_text};
 use crate::settings::Settings;
-use qh_model::{BYTE_LIMIT, Id, Memory, Point};
+use qh_model::{BYTE_LIMIT, Memory, Point};
 use qh_plane::distinct_in_threads;
 use qh_read::{MemSource, ReadFault, read_form_threads};
 use qh_run::Gate;
 use qh_write::{Pieces, text_in_threads};
 use std::alloc::Global;
 use std::thread::Threads;
-
-/// Returns the texts of the outputs in the settings, from the hull of the points.
-fn hull_text_of<R: Threads + Sync, G: Gate>(
-    rt: &R,
-    alloc: Global,
-    pts: &[Point],
-    ids: &[Id],
-    settings: &Settings,
-    gate: &G,
-) -> Result<Pieces, Memory>
-    requires some { 0 < length pts.now }
-    requires few { length pts.now ≤ POINT_LIMIT }
-    requires distinct { AreDistinctIds pts.now ids.now }
-    ensures { IfOk result (λ t. IsText pts.now settings.now.outs (bytes_in t)) }
-{
-    let hull = hull_of(rt, alloc, pts, ids, settings, gate)?;
-    text_in_threads(rt, alloc, &hull, pts, settings.outs(), settings.threads())
-}
 
 /// Returns the texts of the outputs in the settings, for at least one point and at most `POINT_LIMIT` points. Neither
 /// the number of workers nor the size of blocks changes them.
@@ -58,11 +40,13 @@ pub(crate) fn text_of<R: Threads + Sync, G: Gate>(
     ensures { IfOk result (λ t. IsText pts.now settings.now.outs (bytes_in t)) }
 {
     let ids = distinct_in_threads(rt, alloc, pts, settings.threads())?;
-    if are_all_ranks(settings.outs()) {
-        let text = rank_text(alloc, pts, &ids, settings.outs())?;
+    let outs = settings.outs();
+    if are_all_ranks(outs) {
+        let text = rank_text(alloc, pts, &ids, outs)?;
         return Ok(Pieces::of(alloc, text));
     }
-    hull_text_of(rt, alloc, pts, &ids, settings, gate)
+    let hull = hull_of(rt, alloc, pts, &ids, settings, gate)?;
+    text_in_threads(rt, alloc, &hull, pts, outs, settings.threads())
 }
 
 /// Returns the points in the input, or its first fault, read by the threads in the settings.

@@ -1,6 +1,6 @@
 //! Sends a text to a sink, piece by piece.
 ghost use Rattle.std.specs.Prelude.{◌≡◌, ◌+◌, ◌-◌, ◌^◌, ◌<◌, OnOk, OnErr, true};
-ghost use Rattle.std.specs.Io.KnownBytes.{Appends, Keeps};
+ghost use Rattle.std.specs.Io.KnownBytes.{Appends};
 ghost use Rattle.qh_write.specs.{contract.Pieces.bytes_in, headline.Sinks.AppendsBeginning};
 
 use crate::pieces::Pieces;
@@ -28,17 +28,6 @@ fn send_all<K: Sink>(sink: &mut K, bytes: &[u8]) -> Result<(), SendFault>
     Ok(())
 }
 
-/// Flushes a sink.
-fn flush<K: Sink>(sink: &mut K) -> Result<(), SendFault>
-    requires { K.count sink.old < 2 ^ 64 - 1 }
-    ensures flushed { OnOk result (K.is_flushed sink.new ≡ true) }
-    ensures went { Keeps (K.went sink.old) (K.went sink.new) }
-    ensures no_failure { OnOk result (K.count sink.new ≡ K.count sink.old) }
-    ensures one_failure { OnErr result (K.count sink.new ≡ K.count sink.old + 1) }
-{
-    sink.flush().map_err(|_| SendFault)
-}
-
 /// Sends all bytes in their order and flushes the sink.
 ///
 /// On `SendFault` the sink failed once in this call and was not called again; a prefix of the bytes was sent, perhaps
@@ -52,7 +41,7 @@ pub fn send<K: Sink>(sink: &mut K, bytes: &[u8]) -> Result<(), SendFault>
     ensures one_failure { OnErr result (K.count sink.new ≡ K.count sink.old + 1) }
 {
     send_all(sink, bytes)?;
-    flush(sink)
+    sink.flush().map_err(|_| SendFault)
 }
 
 /// Sends a text in pieces, and flushes the sink, as [`send`] does for all its bytes in one list.
@@ -68,5 +57,5 @@ pub fn send_pieces<K: Sink>(sink: &mut K, text: &Pieces) -> Result<(), SendFault
         send_all(sink, piece)?;
     }
     send_all(sink, &text.last)?;
-    flush(sink)
+    sink.flush().map_err(|_| SendFault)
 }

@@ -20,12 +20,8 @@ pub struct FakeFiles<'a> {
 impl<'a> FakeFiles<'a> {
     /// Returns the content of a name, if it is the name of a file.
     fn named(&self, name: &str) -> Option<Option<&'a str>> {
-        for (own, text) in self.named {
-            if *own == name {
-                return Some(*text);
-            }
-        }
-        None
+        let mut files = self.named.iter();
+        files.find(|(own, _)| *own == name).map(|(_, text)| *text)
     }
 }
 

@@ -46,11 +46,8 @@ impl<'a> Stream<'a> {
         if came.saturating_add(bytes.len()) > self.room {
             return Err(io::Error::from(ErrorKind::Other));
         }
-        let right = match self.wanted.get(came..) {
-            Some(rest) => rest.starts_with(bytes),
-            None => false,
-        };
-        let now = if right {
+        let rest = self.wanted.get(came..);
+        let now = if rest.is_some_and(|rest| rest.starts_with(bytes)) {
             came.saturating_add(bytes.len())
         } else {
             WRONG
@@ -82,9 +79,7 @@ impl<R: AllocGlobal> Alloc for StandIn<'_, '_, R> {
 
 impl<R> Env for StandIn<'_, '_, R> {
     fn arg(&self, i: usize, buf: &mut [u8]) -> Result<usize, FillError> {
-        let Some(word) = self.words.get(i) else {
-            return Err(FillError::NotPresent);
-        };
+        let word = self.words.get(i).ok_or(FillError::NotPresent)?;
         let bytes = word.as_bytes();
         if bytes.len() > buf.len() {
             return Err(FillError::TooLong);

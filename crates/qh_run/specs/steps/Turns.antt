@@ -5,7 +5,7 @@ use Rattle.qh_board.specs.declared.view.Mark.TheVariants as marks
 use Rattle.qh_board.specs.contract.Tokens.{BoardValue, Token, IsOf, IsRightAt, task_node}
 use Rattle.qh_board.specs.declared.calls.Delivered.{Delivered, TheVariants.Parked, TheVariants.Both, TheVariants.Root}
 use Rattle.qh_board.specs.declared.view.Record.{Record}
-use Rattle.qh_run.specs.declared.turn.TurnEnd.{TurnEnd, TheVariants.Ended, TheVariants.GaveUp}
+use Rattle.qh_run.specs.declared.worker.TurnEnd.{TurnEnd, TheVariants.Ended, TheVariants.GaveUp}
 
 -- the record belongs to the same pass, which has claimed nothing since
 pub record SinceClaim (r r' : Record) : Type 0 where

@@ -1,6 +1,5 @@
 //! The numbers of vertices.
 ghost use Rattle.std.specs.{List.Sorted.IsStrictlyIncreasing, Prelude.◌≡◌, Prelude.◌<◌, Prelude.IfOk, Prelude.All, Prelude.replicate};
-ghost use Rattle.qh_model.specs.headline.{Sets.In, Text.vertex_number};
 ghost use Rattle.qh_write.specs.steps.Numberings.{numbered, number_in, HasNumber, NumberExtremes};
 
 use qh_model::Id;
@@ -27,20 +26,11 @@ impl VertexNumbers<'_> {
     {
         match self {
             VertexNumbers::Table(numbers) => u64::from(numbers[id.index()]),
-            VertexNumbers::Search(extremes) => position_of(extremes, id),
+            VertexNumbers::Search(extremes) => match extremes.binary_search(&id) {
+                Ok(position) => position as u64,
+                Err(_) => unreachable!(),
+            },
         }
-    }
-}
-
-/// Returns the position of an id in a rising list that contains it.
-fn position_of(ids: &[Id], id: Id) -> u64
-    requires rising { IsStrictlyIncreasing ids.now }
-    requires has { In id ids.now }
-    ensures { result ≡ vertex_number ids.now id }
-{
-    match ids.binary_search(&id) {
-        Ok(position) => position as u64,
-        Err(_) => unreachable!(),
     }
 }
 

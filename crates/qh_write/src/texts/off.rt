@@ -1,9 +1,9 @@
 //! The texts of `Fx` and of OFF files.
 ghost use Rattle.std.specs.{List.flat_map, Prelude.◌≡◌, Prelude.◌++◌, Prelude.◌<◌, Prelude.OnOk, Prelude.All, Prelude.length, Prelude.decimal};
-ghost use Rattle.qh_model.specs.{contract.Bodies.IsBodyInOrder, contract.IdSets.AreIndices, headline.Predicates.place};
-ghost use Rattle.qh_model.specs.headline.Text.{line, spaced, extremes_text, vertex_text, face_text, off_text};
-ghost use Rattle.qh_write.specs.{contract.Pieces.bytes_in, steps.Forms.shown, steps.Forms.body_shown};
-ghost use Rattle.qh_write.specs.steps.Numberings.{AreNumbered, face_by_numbers, number_in};
+ghost use Rattle.qh_model.specs.{contract.IdSets.AreIndices, headline.Predicates.place};
+ghost use Rattle.qh_model.specs.headline.Text.{line, spaced, extremes_text, vertex_text, off_text};
+ghost use Rattle.qh_write.specs.{contract.Pieces.bytes_in, steps.Forms.body_shown};
+ghost use Rattle.qh_write.specs.steps.Numberings.{AreNumbered, face_by_numbers};
 
 use super::forms::FaceForm;
 use super::lines::{push_line_end, push_number, push_signed, push_spaced};
@@ -13,23 +13,17 @@ use crate::pieces::Pieces;
 use qh_model::{Body, Id, Point, Polygon};
 use std::alloc::{AllocError, Global};
 
-fn push_ids(text: &mut Vec<u8>, ids: &[Id]) -> Result<(), AllocError>
-    ensures { OnOk result (text.new.items ≡ text.old.items ++ flat_map (λ i. line (decimal i)) ids.now) }
-{
-    for id in ids {
-        push_number(text, u64::from(id.number()))?;
-        push_line_end(text)?;
-    }
-    Ok(())
-}
-
 /// Appends the number of extreme points and their ids.
 pub fn push_extremes(text: &mut Vec<u8>, body: &Body) -> Result<(), AllocError>
     ensures { OnOk result (text.new.items ≡ text.old.items ++ extremes_text body.now) }
 {
     push_number(text, body.extremes.len() as u64)?;
     push_line_end(text)?;
-    push_ids(text, &body.extremes)
+    for id in &body.extremes {
+        push_number(text, u64::from(id.number()))?;
+        push_line_end(text)?;
+    }
+    Ok(())
 }
 
 #[tactic(auto, using(std::proofs::Common::append_assoc))]
@@ -56,27 +50,15 @@ pub fn push_vertices(text: &mut Vec<u8>, pts: &[Point], ids: &[Id]) -> Result<()
     Ok(())
 }
 
-fn push_vertex_numbers(
-    text: &mut Vec<u8>,
-    numbers: &VertexNumbers,
-    face: &[Id],
-) -> Result<(), AllocError>
-    requires { AreNumbered numbers.now face.now }
-    ensures { OnOk result (text.new.items ≡ text.old.items ++ flat_map (λ i. spaced (number_in numbers.now i)) face.now) }
-{
-    for id in face {
-        push_spaced(text, numbers.number(*id))?;
-    }
-    Ok(())
-}
-
 /// Appends a face, each vertex by its number.
 pub fn push_face(text: &mut Vec<u8>, numbers: &VertexNumbers, face: &[Id]) -> Result<(), AllocError>
     requires { AreNumbered numbers.now face.now }
     ensures { OnOk result (text.new.items ≡ text.old.items ++ face_by_numbers numbers.now face.now) }
 {
     push_number(text, face.len() as u64)?;
-    push_vertex_numbers(text, numbers, face)?;
+    for id in face {
+        push_spaced(text, numbers.number(*id))?;
+    }
     push_line_end(text)
 }
 
@@ -92,31 +74,6 @@ pub fn push_faces(
     for face in faces {
         push_face(text, numbers, face.ids())?;
     }
-    Ok(())
-}
-
-/// Appends the faces of a hull in a form, each vertex by its number among the extreme ids, all of which are below the
-/// count.
-pub fn push_numbered<S: Scribe>(
-    scribe: &S,
-    text: &mut Pieces,
-    alloc: Global,
-    form: FaceForm,
-    body: &Body,
-    count: usize,
-) -> Result<(), AllocError>
-    requires within { All (λ i. i < count) body.now.extremes }
-    requires order { IsBodyInOrder body.now.extremes body.now.polygons }
-    requires ready { S.ready scribe.now }
-    ensures { OnOk result (bytes_in text.new ≡ bytes_in text.old ++ flat_map (face_text body.now.extremes) (shown form body.now.polygons)) }
-{
-    let numbers = vertex_numbers(alloc, &body.extremes, count)?;
-    let faces = NumberedFaces {
-        form,
-        numbers: &numbers,
-        polygons: &body.polygons,
-    };
-    scribe.push_faces(text, alloc, faces)?;
     Ok(())
 }
 
@@ -148,5 +105,12 @@ pub fn push_off<S: Scribe>(
     form.push_counts(&mut text.last, alloc, body)?;
     let ids = &body.extremes;
     scribe.push_vertices(text, alloc, Vertices { pts, ids })?;
-    push_numbered(scribe, text, alloc, form, body, pts.len())
+    let numbers = vertex_numbers(alloc, ids, pts.len())?;
+    let faces = NumberedFaces {
+        form,
+        numbers: &numbers,
+        polygons: &body.polygons,
+    };
+    scribe.push_faces(text, alloc, faces)?;
+    Ok(())
 }

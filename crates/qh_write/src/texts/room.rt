@@ -11,20 +11,18 @@ const SUMMARY: usize = 256;
 
 /// Returns an upper bound of the number of bytes of the lines of faces: of their lengths and the numbers of their corners.
 pub fn faces_room(faces: &[Polygon]) -> usize {
-    let mut numbers = faces.len();
-    for face in faces {
-        numbers = numbers.saturating_add(face.ids().len());
-    }
-    numbers.saturating_mul(NUMBER)
+    let corners = faces.iter().map(|face| face.ids().len());
+    corners
+        .fold(faces.len(), |numbers, count| numbers.saturating_add(count))
+        .saturating_mul(NUMBER)
 }
 
 /// Returns an upper bound of the number of bytes of the lines of the fans of faces, each of at most four numbers.
 pub fn fans_room(faces: &[Polygon]) -> usize {
-    let mut triangles = 0usize;
-    for face in faces {
-        triangles = triangles.saturating_add(fan_size(face.ids()));
-    }
-    triangles.saturating_mul(4 * NUMBER)
+    let triangles = faces.iter().map(|face| fan_size(face.ids()));
+    triangles
+        .fold(0usize, |all, count| all.saturating_add(count))
+        .saturating_mul(4 * NUMBER)
 }
 
 /// Returns an upper bound of the number of bytes of the lines of vertices.
@@ -45,9 +43,8 @@ fn output_room(body: &Body, out: Out) -> usize {
 
 /// Returns an upper bound of the number of bytes of the outputs.
 pub fn room_for(body: &Body, outs: &[Out]) -> usize {
-    let mut room = 0usize;
-    for out in outs {
-        room = room.saturating_add(output_room(body, *out));
-    }
-    room
+    outs.iter().fold(
+        0usize,
+        |room, out| room.saturating_add(output_room(body, *out)),
+    )
 }

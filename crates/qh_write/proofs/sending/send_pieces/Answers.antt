@@ -31,7 +31,7 @@ pub returns-clause-beginning : goal.returns-clause-beginning
 returns-clause-beginning g c =
     let done = c.args.text.now.done.items in let i = c.loop-piece.piece-index in
     let over : length done ≤ i = subst (λ (ps : List (Vec ℕ Global)). length ps ≤ i) c.deref-piece-items.ensures.value c.loop-piece-test.false in
-    always c.flush.result (beginning_kept _ _ _ _ (rw (ap₂ (λ (a b : List ℕ). a ++ b) (ap bytes_of (take_all i done over)) c.deref-2.ensures.value) at
+    always c.map_err.result (beginning_kept _ _ _ _ (rw (ap₂ (λ (a b : List ℕ). a ++ b) (ap bytes_of (take_all i done over)) c.deref-2.ensures.value) at
     (Appends-trans _ _ _ _ _ c.loop-piece.invariant.0 c.in_ok-send_all-2.ensures.sent))
     c.flush.ensures.went)
   where

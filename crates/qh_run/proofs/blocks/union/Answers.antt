@@ -1,7 +1,7 @@
 use Rattle.qh_model.proofs.Common.{◌≡◌, ◌++◌, ◌∙◌, eqb, sym, subst, ap, List, dedup_is, IsStrictlyIncreasing-dedup, ◌↔◌, ℕ, IsStrictlyIncreasing, In}
 use Rattle.qh_model.proofs.lists.Joined.{in_append, of_append}
 use Rattle.qh_polygon.proofs.KeptIds.{kept_members}
-use Rattle.qh_run.proofs.unions.union.Goals as goal
+use Rattle.qh_run.proofs.blocks.union.Goals as goal
 
 pub returns-clause-rising : goal.returns-clause-rising
 returns-clause-rising c =
