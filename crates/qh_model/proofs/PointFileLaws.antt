@@ -1,6 +1,6 @@
 -- A byte string is the point file of one list of points, or has one fault.
 use Rattle.qh_model.proofs.Common.{◌≡◌, ◌∙◌, [], ◌∷◌, ◌++◌, ◌≤◌, ◌⊎◌, ℕ, List, Bool, true, false, cond, refl, ap, sym, arith, length, map, inl, inr, subst}
-use Rattle.qh_model.proofs.Common.{nat_lt, nat_tests, append-nil, AllByRecursion, ℤ, pos, negsuc, Some, None, POINT_LIMIT, BYTE_LIMIT, ReadFault, NotThree, Big}
+use Rattle.qh_model.proofs.Common.{nat_lt, nat_tests, append-nil, AllByRecursion, ℤ, pos, Some, None, POINT_LIMIT, BYTE_LIMIT, ReadFault, NotThree, Big}
 use Rattle.qh_model.proofs.Common.{is_three, counted_fault, first_fault, IsCoordinate, number_of, coordinates, Reads, Vector, Word, data_words}
 use Rattle.qh_model.specs.headline.{FileFault.long_fault, FileFault.headed_fault, FileFault.words_fault, PointFile.IsHeader}
 use Rattle.qh_model.proofs.ReadingLaws.{same_some, same_points, numbers, Counted, counted, next_number, grouped, counted_clear, next_clear, not_big}
@@ -8,14 +8,10 @@ use Rattle.qh_model.proofs.ReadingLaws.{list_or_fault}
 
 -- a byte string is the file of one list of points at most
 pub one_reading : (bytes : List ℕ) (ps qs : List Vector) → Reads bytes ps → Reads bytes qs → ps ≡ qs
-one_reading bytes ps qs a b =
-    let all : a.first ∷ a.second ∷ coordinates ps ≡ b.first ∷ b.second ∷ coordinates qs = same_some _ _ (sym a.numbers ∙ b.numbers) in
-    let same : coordinates ps ≡ coordinates qs = cc in
-    same_points ps qs same
+one_reading = grind (arith, same_some, numbers, same_points)
 
 three : (z : ℤ) → is_three z ≡ true → z ≡ pos 3
-three (pos n) h = let e : n ≡ 3 = grind (arith, nat_tests) in ap pos e
-three (negsuc n) h = cc
+three = grind arith
 
 record Whole (ws : List Word) : Type 0 where
   first : ℤ
@@ -29,8 +25,7 @@ record Whole (ws : List Word) : Type 0 where
 
 -- no word follows the last coordinate
 none_long : (ws : List Word) → long_fault ws ≡ None → ws ≡ []
-none_long [] h = refl
-none_long (w ∷ ws) h = cc
+none_long = grind arith
 
 made : (w v : Word) (vs : List Word) (a b z : ℤ) → number_of w.text ≡ Some a → number_of v.text ≡ Some b → ((n : ℕ) → z ≡ pos n → IsHeader a b n)
     → Counted long_fault z vs → Whole (w ∷ v ∷ vs)
@@ -110,6 +105,4 @@ words_clear (w ∷ v ∷ ws) a b ps e header some few l =
 
 -- a byte string is never both
 pub never_both : (bytes : List ℕ) (ps : List Vector) → Reads bytes ps → first_fault bytes ≡ None
-never_both bytes ps r =
-    subst (λ (b : Bool). cond b (Some Big) (words_fault (data_words bytes)) ≡ None) (sym (not_big (length bytes) r.small))
-    (words_clear (data_words bytes) r.first r.second ps r.numbers r.header r.some r.few r.limit)
+never_both = grind (arith, not_big, words_clear, numbers)

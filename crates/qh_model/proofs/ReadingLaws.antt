@@ -1,10 +1,9 @@
 -- The values of the words of a file: numbers, coordinates, a count with its points; and the condition that they have no fault.
-use Rattle.qh_model.proofs.Common.{◌≡◌, [], ◌∷◌, ◌++◌, ◌*◌, ◌≤◌, ◌&&◌, ℕ, List, Bool, true, false, cond, refl, ap, sym, arith, zero, suc, length, map, subst}
-use Rattle.qh_model.proofs.Common.{nat_lt, ◌⊎◌, inl, inr, leb-true, le-leb, nat_tests, AllByRecursion, option_or, ℤ, pos, negsuc, Option, Some, None, nat_le}
-use Rattle.qh_model.proofs.Common.{POINT_LIMIT, BYTE_LIMIT, ReadFault, Count, Range, counted_fault, next_number_fault, IsCoordinate, is_coordinate, number_of}
-use Rattle.qh_model.proofs.Common.{coordinates, Vector, Word}
+use Rattle.qh_model.proofs.Common.{AllByRecursion, BYTE_LIMIT, Bool, Count, IsCoordinate, List, None, Option, POINT_LIMIT, Range, ReadFault, Some, Vector, Word}
+use Rattle.qh_model.proofs.Common.{[], ap, arith, cond, coordinates, counted_fault, false, is_coordinate, leb-true, length, map, nat_le, nat_lt, nat_tests}
+use Rattle.qh_model.proofs.Common.{negsuc, next_number_fault, number_of, option_or, pos, refl, subst, suc, sym, true, zero, ℕ, ℤ, ◌&&◌, ◌*◌, ◌++◌, ◌∷◌, ◌≡◌}
+use Rattle.qh_model.proofs.{Common.◌≤◌, Common.◌⊎◌, algebra.VectorIdentities.vector_path}
 use Rattle.qh_model.specs.headline.FileFault.{coordinate_fault, coordinates_fault, number_fault}
-use Rattle.qh_model.proofs.algebra.VectorIdentities.{vector_path}
 
 pub same_some : (xs ys : List ℤ) → map Some xs ≡ map Some ys → xs ≡ ys
 same_some [] [] h = refl
@@ -128,10 +127,7 @@ next_number after (w ∷ ws) h = by_option (number_of w.text) refl h
 -- a coordinate in range has no fault
 clear_more : (w : Word) (z : ℤ) (after : Option ReadFault) → number_of w.text ≡ Some z → IsCoordinate z → after ≡ None
     → option_or (coordinate_fault (number_of w.text) w.line) after ≡ None
-clear_more w z after e l h =
-    let in_range : is_coordinate z ≡ true = le-leb _ _ l in
-    subst (λ (o : Option ℤ). option_or (coordinate_fault o w.line) after ≡ None) (sym e)
-    (subst (λ (b : Bool). option_or (cond b None (Some (Range w.line))) after ≡ None) (sym in_range) h)
+clear_more = grind arith
 
 -- coordinates in range have no fault, if the words after them have none
 clear : (after : List Word → Option ReadFault) (zs : List ℤ) (ws rest : List Word) → numbers ws ≡ map Some zs
@@ -172,5 +168,4 @@ not_big n h = grind (arith, nat_tests)
 -- a list of points if there is no fault, otherwise the fault
 pub list_or_fault : (P : List Vector → Type 0) (fault : Option ReadFault) → (fault ≡ None → (ps : List Vector) × P ps)
     → ((ps : List Vector) × P ps × (fault ≡ None)) ⊎ ((f : ReadFault) × (fault ≡ Some f))
-list_or_fault P None read = let r = read refl in inl (r.0, r.1, refl)
-list_or_fault P (Some f) read = inr (f, refl)
+list_or_fault = grind arith

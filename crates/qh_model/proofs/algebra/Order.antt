@@ -1,7 +1,6 @@
 -- Signs of products. A signature needs brackets, since `≤ℤ` binds tighter than `+ℤ` and `*ℤ`.
-use Rattle.qh_model.proofs.Common.{◌≡◌, zero, suc, ◌*◌, ◌≤◌, arith, ap, sym, ◌∙◌, refl, ◌⊎◌, inl, inr, ⊎_elim, *ℤ-zero, mul-le-mul, ints, by_lt_z, ℤ, pos}
-use Rattle.qh_model.proofs.Common.{negsuc, ◌+ℤ◌, ◌-ℤ◌, ◌*ℤ◌, neg_ℤ, ◌≤ℤ◌, ◌<ℤ◌, ℤ_discrete}
-use borrow.Author.Differences.{product_is}
+use Rattle.qh_model.proofs.Common.{◌≡◌, arith, ap, sym, ◌∙◌, ◌⊎◌, inl, inr, ⊎_elim, *ℤ-zero, ints, by_lt_z, ℤ, pos, rules}
+use Rattle.qh_model.proofs.Common.{◌+ℤ◌, ◌-ℤ◌, ◌*ℤ◌, neg_ℤ, ◌≤ℤ◌, ◌<ℤ◌, ℤ_discrete}
 use Rattle.qh_model.proofs.algebra.{Integers.mul_add, Integers.mul_comm, Integers.mul_neg, Signs.not_less}
 
 -- the product of two numbers not below 0
@@ -22,12 +21,7 @@ mul-nonpos a b h k = grind (arith, ints)
 
 -- the product of two positive numbers
 pub mul-pos : (a b : ℤ) → pos 0 <ℤ a → pos 0 <ℤ b → pos 0 <ℤ (a *ℤ b)
-mul-pos (pos a) (pos b) h k =
-    let p : 1 ≤ a = omega (arith, ints) in
-    let q : 1 ≤ b = omega (arith, ints) in
-    let r : 1 * 1 ≤ a * b = mul-le-mul p q in omega (arith, ints)
-mul-pos (pos a) (negsuc b) h k = absurd (omega (arith, ints))
-mul-pos (negsuc a) b h k = absurd (omega (arith, ints))
+mul-pos = search rules
 
 -- a factor not below 0 keeps the order
 pub mul-le : (a b c : ℤ) → pos 0 ≤ℤ a → b ≤ℤ c → (a *ℤ b) ≤ℤ (a *ℤ c)
@@ -64,10 +58,7 @@ product_zero l y e = ap (λ v. l *ℤ v) e ∙ *ℤ-zero l
 
 -- a product that is 0 has a factor 0
 pub zero_product : (a b : ℤ) → a *ℤ b ≡ pos 0 → (a ≡ pos 0) ⊎ (b ≡ pos 0)
-zero_product (pos zero) b k = inl refl
-zero_product (pos (suc n)) b k = inr (cancel-zero (pos (suc n)) b (omega (arith, ints)) k)
-zero_product (negsuc n) b k =
-    inr (cancel-zero (pos (suc n)) b (omega (arith, ints)) (omega (arith, ints, k, product_is (negsuc n) b, product_is (pos (suc n)) b)))
+zero_product = grind (arith, cancel-zero)
 
 -- a negative factor of 0
 pub cancel-zero_neg : (a b : ℤ) → a <ℤ pos 0 → a *ℤ b ≡ pos 0 → b ≡ pos 0
@@ -111,5 +102,4 @@ negative_le x h = omega (arith, ints)
 
 -- a square is not below 0
 pub square-nonneg : (x : ℤ) → pos 0 ≤ℤ (x *ℤ x)
-square-nonneg (pos n) = omega (arith, ints)
-square-nonneg (negsuc n) = omega (arith, ints)
+square-nonneg = grind arith

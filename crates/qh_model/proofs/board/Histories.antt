@@ -186,5 +186,4 @@ module _ (B W : ℕ) (some : 0 < B) where
   all_ended m (e ∷ es) g s can = all_ended (after B W m e) es (keeps_good B W some m e g can.0) (keeps_ended m e g can.0 s) can.1
 
   pub run_ended : (es : List Event) → Consistent B W start → CanRun B W start es → Ended (run B W start es)
-  run_ended es g can =
-      all_ended start es g (record { stuck = λ v e. absurd (cc); empty = λ v e. absurd (cc); unmarked = λ v h. refl; going = λ v h. refl }) can
+  run_ended = grind (arith, all_ended)

@@ -45,27 +45,19 @@ module _ (B W : ℕ) (some : 0 < B) (m : Machine) (g : Consistent B W m) (w i : 
   new = joined m.node w i
 
   pub at_i : joined m.node w i i ≡ used
-  at_i = put_else (put (put m.node i used) (sibling i) used) (parent i) (held w) i
-      (λ q. let a = n_i.above in omega arith)
-      ∙ (put_else (put m.node i used) (sibling i) used i (λ q. n_i.apart (sym q)) ∙ put_here m.node i used)
+  at_i = grind (arith, put_else, n_i, put_here)
 
   pub at_s : joined m.node w i (sibling i) ≡ used
-  at_s = put_else (put (put m.node i used) (sibling i) used) (parent i) (held w) (sibling i)
-      (λ q. let a = n_i.above_sibling in omega arith) ∙ put_here (put m.node i used) (sibling i) used
+  at_s = grind (arith, put_else, n_i, put_here)
 
   pub at_p : joined m.node w i (parent i) ≡ held w
   at_p = put_here (put (put m.node i used) (sibling i) used) (parent i) (held w)
 
   keeps : (j : ℕ) → j ≢ parent i → m.node j ≡ untouched → joined m.node w i j ≡ untouched
-  keeps j c e = put_else (put (put m.node i used) (sibling i) used) (parent i) (held w) j c
-      ∙ (put_else (put m.node i used) (sibling i) used j (λ q. let f : parked ≡ untouched = sym waits ∙ (ap m.node (sym q) ∙ e) in cc)
-      ∙ (put_else m.node i used j (λ q. let f : held w ≡ untouched = sym mine ∙ (ap m.node (sym q) ∙ e) in cc) ∙ e))
+  keeps = grind arith
 
   uses : (j : ℕ) → m.node j ≡ used → joined m.node w i j ≡ used
-  uses j e = put_else (put (put m.node i used) (sibling i) used) (parent i) (held w) j
-      (λ q. let f : untouched ≡ used = sym fresh ∙ (ap m.node (sym q) ∙ e) in cc)
-      ∙ (put_else (put m.node i used) (sibling i) used j (λ q. let f : parked ≡ used = sym waits ∙ (ap m.node (sym q) ∙ e) in cc)
-      ∙ (put_else m.node i used j (λ q. let f : held w ≡ used = sym mine ∙ (ap m.node (sym q) ∙ e) in cc) ∙ e))
+  uses = grind (arith, put_else, fresh)
 
   grows : (j : ℕ) → m.node j ≢ untouched → joined m.node w i j ≢ untouched
   grows j ne e = by_case (cases m.node w i j untouched e)

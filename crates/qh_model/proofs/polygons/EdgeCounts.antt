@@ -113,14 +113,7 @@ of_along a b t (w ∷ r) e (inr m) = let s = of_along a b w r e m in record { u 
 
 -- neighbours of a face are among its pairs
 in_round : (u v : ℕ) (q : List ℕ) → u < v → Follows u v q ⊎ Follows v u q → In (u, v) (pairs_round q)
-in_round u v [] h (inl f) = absurd f
-in_round u v [] h (inr f) = absurd f
-in_round u v (t ∷ r) h (inl f) =
-    let low : min u v ≡ u = omega arith in let high : max u v ≡ v = omega arith in
-    subst (λ x. In x (pairs_along t r t)) (λ i. (low i, high i)) (in_along u v t r t f)
-in_round u v (t ∷ r) h (inr f) =
-    let low : min v u ≡ u = omega arith in let high : max v u ≡ v = omega arith in
-    subst (λ x. In x (pairs_along t r t)) (λ i. (low i, high i)) (in_along v u t r t f)
+in_round = grind (arith, in_along)
 
 -- the converse
 of_round : (a b : ℕ) (q : List ℕ) → In (a, b) (pairs_round q) → a ≢ b → (a < b) × (Follows a b q ⊎ Follows b a q)

@@ -1,5 +1,5 @@
 -- The sides of a facet in cyclic order, and the side that starts at a corner.
-use Rattle.qh_model.proofs.Common.{IsCorner, Side, Surface, end, rest, first, second, third, ◌≡◌, ℕ, refl, sym, inl, inr, ℕ_discrete}
+use Rattle.qh_model.proofs.Common.{IsCorner, Side, Surface, end, rest, first, second, third, ◌≡◌, ℕ, sym, inl, inr, ℕ_discrete, arith}
 use Rattle.qh_model.specs.contract.Surface.{start}
 
 -- the next side
@@ -10,15 +10,11 @@ side_next third = first
 
 -- the next side starts where this one ends
 pub start_next : (m : Surface) (f : ℕ) (s : Side) → start m f (side_next s) ≡ end m f s
-start_next m f first = refl
-start_next m f second = refl
-start_next m f third = refl
+start_next = grind arith
 
 -- the next side ends at the third id of the facet
 pub end_next : (m : Surface) (f : ℕ) (s : Side) → end m f (side_next s) ≡ rest m f s
-end_next m f first = refl
-end_next m f second = refl
-end_next m f third = refl
+end_next = grind arith
 
 -- the side that starts at v
 pick_side : {P Q : Type 0} → Dec P → Dec Q → Side

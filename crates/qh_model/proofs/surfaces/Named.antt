@@ -1,13 +1,12 @@
 -- A surface with other names of its corners: if different corners have different names, with the same points, it is sound if it was sound before, and finished
 -- if it was finished before. So a surface over positions in a list of points is a surface over their ids.
-use Rattle.qh_model.proofs.Common.{◌≡◌, ℕ, zero, suc, ◌+◌, ◌/◌, ◌%◌, ◌<◌, refl, sym, ap, subst, ◌∙◌, inl, inr, List, [], ◌∷◌, length, map, true, false, cond}
-use Rattle.qh_model.proofs.Common.{slice_index, both_ways, get_or-map, range_with_len, pos, ◌<ℤ◌, ◌≤ℤ◌, weighted_at, middle_at, IsFinished, one_of, by_side}
-use Rattle.qh_model.proofs.Common.{IsStrict, HasDistinctFacets, IsSound, towards, perturbed, StoredFacet, named_facet, facet_at, live_from, surface_of, Side}
-use Rattle.qh_model.proofs.Common.{Surface, end, IsCorner, HasTwin, IsWhole, rise, first, second, third, Weighted, weighted, middle_of, above, place, vol, In}
-use Rattle.qh_model.proofs.Common.{Once, vertex_number, Vector, origin}
+use Rattle.qh_model.proofs.Common.{HasDistinctFacets, HasTwin, In, IsCorner, IsFinished, IsSound, IsStrict, IsWhole, List, Once, Side, StoredFacet, Surface}
+use Rattle.qh_model.proofs.Common.{Vector, Weighted, [], above, ap, arith, both_ways, by_side, cond, end, facet_at, false, first, get_or-map, inl, inr, length}
+use Rattle.qh_model.proofs.Common.{live_from, map, middle_at, middle_of, named_facet, one_of, origin, perturbed, place, pos, range_with_len, refl, rise, second}
+use Rattle.qh_model.proofs.Common.{slice_index, subst, suc, surface_of, sym, third, towards, true, vertex_number, vol, weighted, weighted_at, zero, ℕ, ◌%◌, ◌+◌}
+use Rattle.qh_model.proofs.{Common.◌/◌, Common.◌<ℤ◌, Common.◌<◌, Common.◌∙◌, Common.◌∷◌, Common.◌≡◌, Common.◌≤ℤ◌, lists.Images.in_map, lists.Images.of_map}
+use Rattle.qh_model.proofs.{lists.Ranges.range_below, lists.Ranges.range_named, renamed.Positions.number_at, surfaces.Stored.live_is_marked}
 use Rattle.qh_model.specs.contract.Surface.{start}
-use Rattle.qh_model.proofs.{lists.Images.in_map, lists.Images.of_map, lists.Ranges.range_below, lists.Ranges.range_named, surfaces.Stored.live_is_marked}
-use Rattle.qh_model.proofs.renamed.Positions.{number_at}
 
 -- m' is m with renamed corners
 pub record IsNamed (m m' : Surface) (name : ℕ → ℕ) : Type 0 where
@@ -31,27 +30,19 @@ module _ {m m' : Surface} {name : ℕ → ℕ} (r : IsNamed m m' name) where
 
   -- the start of a side
   pub start_named : (f : ℕ) → In f m.live → (s : Side) → start m' f s ≡ name (start m f s)
-  start_named f i first = r.i_is f i
-  start_named f i second = r.j_is f i
-  start_named f i third = r.k_is f i
+  start_named = grind arith
 
   -- the end of a side
   pub end_named : (f : ℕ) → In f m.live → (s : Side) → end m' f s ≡ name (end m f s)
-  end_named f i first = r.j_is f i
-  end_named f i second = r.k_is f i
-  end_named f i third = r.i_is f i
+  end_named = grind arith
 
   -- the name of a corner
   corner_named : (f : ℕ) → In f m.live → (l : ℕ) → IsCorner m f l → IsCorner m' f (name l)
-  corner_named f i l (inl e) = inl (ap name e ∙ sym (r.i_is f i))
-  corner_named f i l (inr (inl e)) = inr (inl (ap name e ∙ sym (r.j_is f i)))
-  corner_named f i l (inr (inr e)) = inr (inr (ap name e ∙ sym (r.k_is f i)))
+  corner_named = grind arith
 
   -- a corner of m' is the name of one of m
   of_corner_named : (f : ℕ) → In f m.live → (l : ℕ) → IsCorner m' f l → (c : ℕ) × IsCorner m f c × (l ≡ name c)
-  of_corner_named f i l (inl e) = (m.i f, inl refl, e ∙ r.i_is f i)
-  of_corner_named f i l (inr (inl e)) = (m.j f, inr (inl refl), e ∙ r.j_is f i)
-  of_corner_named f i l (inr (inr e)) = (m.k f, inr (inr refl), e ∙ r.k_is f i)
+  of_corner_named = grind arith
 
   -- a whole surface stays whole
   pub whole_named : IsWhole m → IsWhole m'

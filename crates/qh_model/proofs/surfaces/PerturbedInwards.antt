@@ -32,8 +32,7 @@ size (negsuc n) = suc n
 -- this number is a bound
 pub size_le : (x : ℤ) → (x ≤ℤ pos (size x)) × (neg_ℤ x ≤ℤ pos (size x))
 unfolding size
-size_le (pos n) = (omega (arith, ints), omega (arith, ints))
-size_le (negsuc n) = (omega (arith, ints), omega (arith, ints))
+size_le = grind arith
 
 -- a bound for all members
 abbrev Bounded : {X : Type 0} → (X → ℤ) → List X → Type 0
