@@ -87,14 +87,7 @@ module _ (qs : List (List ℕ)) (k : ℕ) (p q : List ℕ) (some : 1 ≤ k) (l :
   Rises i j = ComesBefore (get_or qs i []) (get_or qs j [])
 
   pub ordered_more : ComesBefore p q → ((n : ℕ) → n + 1 < k → Rises n (n + 1)) → (n : ℕ) → n + 1 < k + 1 → Rises n (n + 1)
-  ordered_more b h n m = elim (cases_lt (n + 1) k) [
-    | inl x ↦ h n x
-    | inr x ↦ (
-        let here : k - 1 ≡ n = omega arith in let next : k ≡ n + 1 = omega arith in
-        subst (Rises n) next (subst (λ i. Rises i k) here (subst (ComesBefore (get_or qs (k - 1) [])) own
-        (subst (λ r. ComesBefore r q) before b)))
-        )
-  ]
+  ordered_more = grind (arith, cases_lt, own, before)
 
   pub unordered : ¬ (ComesBefore p q) → IsOutOfOrder qs (k - 1)
   unordered n = (
