@@ -83,13 +83,7 @@ one_or_other bytes = list_or_fault (Reads bytes) (first_fault bytes) (small (nat
         )
 
 headed_clear : (a b : ℤ) (n : ℕ) (ws : List Word) → IsHeader a b n → counted_fault long_fault (pos n) ws ≡ None → headed_fault a b ws ≡ None
-headed_clear a b n ws (inl (first, second)) h =
-    subst (λ (z : ℤ). headed_fault z b ws ≡ None) (sym first) (subst (λ (z : ℤ). counted_fault long_fault z ws ≡ None) (sym second) h)
-headed_clear a b n ws (inr (other, second, first)) h = subst (λ (z : ℤ). headed_fault a z ws ≡ None) (sym second) (by_test (is_three a) refl)
-  where
-    by_test : (t : Bool) → is_three a ≡ t → cond t (counted_fault long_fault (pos 3) ws) (counted_fault long_fault a ws) ≡ None
-    by_test true e = absurd (other (three a e))
-    by_test false e = subst (λ (z : ℤ). counted_fault long_fault z ws ≡ None) (sym first) h
+headed_clear = grind arith
 
 words_clear : (ws : List Word) (a b : ℤ) (ps : List Vector) → numbers ws ≡ map Some (a ∷ b ∷ coordinates ps) → IsHeader a b (length ps)
     → 1 ≤ length ps → length ps ≤ POINT_LIMIT → AllByRecursion IsCoordinate (coordinates ps) → words_fault ws ≡ None

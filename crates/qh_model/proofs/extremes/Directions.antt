@@ -139,12 +139,7 @@ cross-flip a b c =
 
 -- three points are in line in any order
 pub in_line-flip : (a b c : Vector) → AreInLine a c b → AreInLine a b c
-in_line-flip a b c e =
-    vector_path (cross a b c) origin (omega (arith, ints, ap (λ v. v.x) back))
-    (omega (arith, ints, ap (λ v. v.y) back)) (omega (arith, ints, ap (λ v. v.z) back))
-  where
-    back : opposite (cross a b c) ≡ origin
-    back = sym (cross-flip a b c) ∙ e
+in_line-flip = grind (arith, vector_path, opposite, cross-flip)
 
 -- a triangle at right angles to n has the direction of n, or the reversed triangle has it
 pub normal_along : (n a b c : Vector) → n ≢ origin → ¬ (AreInLine a b c) → dot n (minus b a) ≡ pos 0 → dot n (minus c a) ≡ pos 0

@@ -117,18 +117,7 @@ in_round = grind (arith, in_along)
 
 -- the converse
 of_round : (a b : ℕ) (q : List ℕ) → In (a, b) (pairs_round q) → a ≢ b → (a < b) × (Follows a b q ⊎ Follows b a q)
-of_round a b [] m d = absurd m
-of_round a b (t ∷ r) m d = along_ring (of_along a b t r t m)
-  where
-    along_ring : IsNeighbours t r t a b → (a < b) × (FollowsAlong a b t r t ⊎ FollowsAlong b a t r t)
-    along_ring s = by_direction (way s.u s.v s.low s.high)
-      where
-        way : (u v : ℕ) → a ≡ min u v → b ≡ max u v → (a < b) × (((a ≡ u) × (b ≡ v)) ⊎ ((a ≡ v) × (b ≡ u)))
-        way u v low high = grind (arith, low, high, d)
-
-        by_direction : (a < b) × (((a ≡ s.u) × (b ≡ s.v)) ⊎ ((a ≡ s.v) × (b ≡ s.u))) → (a < b) × (FollowsAlong a b t r t ⊎ FollowsAlong b a t r t)
-        by_direction (h, inl (p, q)) = (h, inl (subst (λ x. FollowsAlong x b t r t) (sym p) (subst (λ y. FollowsAlong s.u y t r t) (sym q) s.follows)))
-        by_direction (h, inr (p, q)) = (h, inr (subst (λ x. FollowsAlong x a t r t) (sym q) (subst (λ y. FollowsAlong s.u y t r t) (sym p) s.follows)))
+of_round = grind (arith, of_along)
 
 -- proof of the law `EdgesAreCounted`
 pub edges_are_counted : EdgesAreCounted

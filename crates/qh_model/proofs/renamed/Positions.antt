@@ -22,15 +22,7 @@ number_at (x ∷ xs) (suc k) o h =
 
 -- positions rise with the members
 number_rises : (xs : List ℕ) → IsStrictlyIncreasing xs → (i j : ℕ) → In i xs → In j xs → i < j → vertex_number xs i < vertex_number xs j
-number_rises xs rise i j m n h =
-    let p = at_number xs i m in
-    let q = at_number xs j n in
-    ordered (vertex_number xs i) (vertex_number xs j) p.1 q.1 (λ l. rising_between xs (vertex_number xs j) (vertex_number xs i) rise l p.0)
-  where
-    ordered : (k l : ℕ) → get_or xs k 0 ≡ i → get_or xs l 0 ≡ j → (l < k → get_or xs l 0 < get_or xs k 0) → k < l
-    ordered k l e d up =
-        let same : k ≡ l → get_or xs k 0 ≡ get_or xs l 0 = ap (λ t. get_or xs t 0) in
-        grind (arith, e, d, up, same, h)
+number_rises = grind (arith, at_number, rising_between)
 
 -- ---- the points at the positions
 -- the positions of all members

@@ -1,12 +1,13 @@
 -- The live facets of a sound surface are a closed surface: each directed edge is that of at most one facet, and the reversed edge is that of its twin. The
 -- signed volume of the surface is below 0.
-use Rattle.qh_model.proofs.Common.{AreInLine, Bool, In, IsClosed, IsInner, IsSound, IsWhole, List, Once, Side, Surface, Triple, Vector, Weighted, [], above, ap}
+use Rattle.qh_model.proofs.Common.{AreInLine, Bool, In, IsClosed, IsInner, IsSound, IsWhole, List, Once, Side, Surface, Triple, Vector, Weighted, [], ap}
 use Rattle.qh_model.proofs.Common.{arith, cond, edges, end, false, first, inl, inr, ints, is_edge, length, middle_at, pos, refl, rise, second, signed_volume}
 use Rattle.qh_model.proofs.Common.{subst, suc, sym, third, triples_from, triples_of, true, vol, weighted_at, zero, ℕ, ℤ, ◌+ℤ◌, ◌+◌, ◌<ℤ◌, ◌<◌, ◌∙◌, ◌∷◌, ◌≡◌}
 use Rattle.qh_model.proofs.{Common.◌≤ℤ◌, Common.◌≤◌, Members.each_more, algebra.Signs.less_le, algebra.VectorIdentities.in_line-vol}
 use Rattle.qh_model.proofs.closed_surfaces.{SignedVolume.edge_tests, SignedVolume.volume_is_constant, Sums.count, Sums.count-is}
 use Rattle.qh_model.proofs.surfaces.{Determinants.above-together, Facets.ends_differ, KeptSound.edge_once, SurfaceLaws.rise_is_vol}
 use Rattle.qh_model.specs.{contract.Surface.start, laws.ClosedSurfaceLaws.SoundHasVolume, laws.ClosedSurfaceLaws.SoundIsClosed}
+use Rattle.qh_model.proofs.Common.{rules}
 
 -- ---- edges as sides
 -- a side of one of the facets goes from u to v
@@ -124,22 +125,11 @@ module _ (at : ℕ → Vector) (m : Surface) (s t u v : ℕ) where
   -- the four volumes of a facet add up to its height above the middle
   four_volumes : (f : ℕ) → let volume : ℕ → ℤ = λ l. vol (at (m.i f)) (at (m.j f)) (at (m.k f)) (at l) in
       rise m (weighted_at at) f (middle_at at s t u v) ≡ volume s +ℤ volume t +ℤ volume u +ℤ volume v
-  four_volumes f =
-      above-together (P (m.i f)) (P (m.j f)) (P (m.k f)) (P s) (P t) (P u) (P v)
-      ∙ λ k. volume s k +ℤ volume t k +ℤ volume u k +ℤ volume v k
-    where
-      P : ℕ → Weighted
-      P = weighted_at at
-
-      volume : (l : ℕ) → above (P (m.i f)) (P (m.j f)) (P (m.k f)) (P l) ≡ vol (at (m.i f)) (at (m.j f)) (at (m.k f)) (at l)
-      volume l = rise_is_vol (at (m.i f)) (at (m.j f)) (at (m.k f)) (at l)
+  four_volumes = search (rules, above-together, rise_is_vol)
 
   -- a facet that the middle is strictly below is a triangle
   pub inner_area : (f : ℕ) → rise m (weighted_at at) f (middle_at at s t u v) <ℤ pos 0 → ¬ (AreInLine (at (m.i f)) (at (m.j f)) (at (m.k f)))
-  inner_area f h e = omega (arith, ints, four_volumes f, flat s, flat t, flat u, flat v)
-    where
-      flat : (l : ℕ) → vol (at (m.i f)) (at (m.j f)) (at (m.k f)) (at l) ≡ pos 0
-      flat l = in_line-vol (at (m.i f)) (at (m.j f)) (at (m.k f)) (at l) e
+  inner_area = grind (arith, four_volumes, in_line-vol)
 
   -- the sum of the signed volumes with the four
   abbrev volumes : List ℕ → ℤ

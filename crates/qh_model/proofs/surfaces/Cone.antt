@@ -55,13 +55,7 @@ cone_rise n at y = rw (n.i_is, n.j_is, n.k_is) refl
 -- a corner of the new surface is an old corner or the point
 pub old_or_apex : {m m' : Surface} {home : ℕ → Weighted} {p : ℕ} (r : Replaced m m' home p)
     (f' l : ℕ) → In f' m'.live → IsCorner m' f' l → Old m l ⊎ (l ≡ p)
-old_or_apex {m} {m'} {home} {p} r f' l i c = from (r.origin f' i) c
-  where
-    from : KeptOf m m' home p f' ⊎ ConeOf m m' home p r.number f' → IsCorner m' f' l → Old m l ⊎ (l ≡ p)
-    from (inl k) c = inl (f', k.live, corner_kept k l c)
-    from (inr n) (inl e) = inl (n.f, n.live, subst (IsCorner m n.f) (sym (e ∙ n.i_is)) (corner_start m n.f n.s))
-    from (inr n) (inr (inl e)) = inl (n.f, n.live, subst (IsCorner m n.f) (sym (e ∙ n.j_is)) (corner_end m n.f n.s))
-    from (inr n) (inr (inr e)) = inr (e ∙ n.k_is)
+old_or_apex = grind (arith, corner_kept, corner_start, corner_end)
 
 -- ---- the shares
 -- the shares, including that of the new corner

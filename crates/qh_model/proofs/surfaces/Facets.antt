@@ -1,12 +1,11 @@
 -- Facets with neighbours across their sides, and the points of their corners: no corner is above a facet.
-use Rattle.qh_model.proofs.Common.{HasDistinctFacets, IsInner, IsStrict, IsCorner, Side, Surface, HasTwin, IsWhole, end, rise, rest, first, second, third}
-use Rattle.qh_model.proofs.Common.{Weighted, above, weighted_dot, plane_of, In, far, ◌≡◌, ◌≢◌, ℕ, refl, [], arith, sym, ◌∙◌, subst, ◌⊎◌, inl, inr, ⊎_elim, ints}
-use Rattle.qh_model.proofs.Common.{by_lt_z, ℕ_discrete, ℤ, pos, ◌+ℤ◌, neg_ℤ, ◌≤ℤ◌, ◌<ℤ◌}
+use Rattle.qh_model.proofs.Common.{HasDistinctFacets, HasTwin, In, IsCorner, IsInner, IsStrict, IsWhole, Side, Surface, Weighted, [], above, arith, by_lt_z}
+use Rattle.qh_model.proofs.Common.{end, far, first, inl, inr, ints, neg_ℤ, plane_of, pos, refl, rest, rise, second, subst, sym, third, weighted_dot, ℕ, ℤ}
+use Rattle.qh_model.proofs.{Common.⊎_elim, Common.◌+ℤ◌, Common.◌<ℤ◌, Common.◌∙◌, Common.◌≡◌, Common.◌≢◌, Common.◌≤ℤ◌, Common.◌⊎◌, algebra.Order.negative_le}
+use Rattle.qh_model.proofs.algebra.{Ring.Expr, Ring.ring, Ring.Expr.add, Signs.equal_le, Signs.equal_negative, Signs.equal_nonpos, Signs.equal_positive}
+use Rattle.qh_model.proofs.algebra.Signs.{less_differ, less_one_way, opposite_negative, opposite_nonneg, opposite_positive, sum_nonpos, sum_parts, sum_zero}
+use Rattle.qh_model.proofs.surfaces.Determinants.{QE, above-first, above-flip, above-second, above-third, above-turn, dot4E, put4, quad}
 use Rattle.qh_model.specs.contract.Surface.{start}
-use Rattle.qh_model.proofs.algebra.{Order.negative_le, Ring.Expr, Ring.ring, Ring.Expr.add}
-use Rattle.qh_model.proofs.algebra.Signs.{less_differ, less_one_way, equal_le, sum_nonpos, sum_parts, sum_zero, equal_nonpos, equal_negative, equal_positive}
-use Rattle.qh_model.proofs.algebra.Signs.{opposite_nonneg, opposite_positive, opposite_negative}
-use Rattle.qh_model.proofs.surfaces.Determinants.{QE, put4, quad, dot4E, above-turn, above-flip, above-first, above-second, above-third}
 
 -- a fact about the corners one by one holds for all
 pub of_corners : (m : Surface) (f : ℕ) (P : ℕ → Type 0) → P (m.i f) → P (m.j f) → P (m.k f) → (l : ℕ) → IsCorner m f l → P l
@@ -31,13 +30,7 @@ module _ (m : Surface) where
 
   -- decides whether an id is a corner
   pub corner_test : (f l : ℕ) → IsCorner m f l ⊎ (¬ (IsCorner m f l))
-  corner_test f l = test (ℕ_discrete l (m.i f)) (ℕ_discrete l (m.j f)) (ℕ_discrete l (m.k f))
-    where
-      test : Dec (l ≡ m.i f) → Dec (l ≡ m.j f) → Dec (l ≡ m.k f) → IsCorner m f l ⊎ (¬ (IsCorner m f l))
-      test (yes e) q r = inl (inl e)
-      test (no a) (yes e) r = inl (inr (inl e))
-      test (no a) (no b) (yes e) = inl (inr (inr e))
-      test (no a) (no b) (no c) = inr (λ h. ⊎_elim a (λ k. ⊎_elim b c k) h)
+  corner_test = grind arith
 
 module _ (m : Surface) (at : ℕ → Weighted) where
   -- ---- a facet and its neighbour, in terms of the side between them

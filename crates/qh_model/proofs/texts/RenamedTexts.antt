@@ -1,7 +1,7 @@
 -- The text of faces, computed from the points of the extreme ids, is that of the set.
-use Rattle.qh_model.proofs.Common.{BodyValue, In, List, Members, Vector, [], ap, ap₂, arith, decimal, dite, eq-eqb, face_text, fan, fans, flat_map, inl, inr}
-use Rattle.qh_model.proofs.Common.{length-map, line, map, map-append, ne_eqb, off_text, place, refl, spaced, suc, sym, triangles_along, vertex_number}
-use Rattle.qh_model.proofs.{Common.vertex_text, Common.ℕ, Common.ℕ_discrete, Common.◌++◌, Common.◌∙◌, Common.◌∷◌, Common.◌≡◌, renamed.Bodies.renamed_body}
+use Rattle.qh_model.proofs.Common.{BodyValue, In, List, Members, Vector, [], ap, ap₂, arith, dite, eq-eqb, face_text, fan, fans, flat_map, inl, inr}
+use Rattle.qh_model.proofs.Common.{length-map, map, map-append, ne_eqb, off_text, refl, suc, sym, triangles_along, vertex_number}
+use Rattle.qh_model.proofs.{Common.ℕ, Common.ℕ_discrete, Common.◌++◌, Common.◌∙◌, Common.◌∷◌, Common.◌≡◌, renamed.Bodies.renamed_body}
 use Rattle.qh_model.proofs.renamed.{Lists.AreWithin, Positions.at_number, Positions.point_at, Positions.points_of, Positions.vertex_numbers}
 use Rattle.std.proofs.lemmas.List.Folds.{flat_map-map}
 
@@ -22,34 +22,12 @@ number_again = grind (arith, vertex_number-map, at_number)
 
 -- a face of members has the same text
 face_text_renamed : (xs q : List ℕ) → ((i : ℕ) → In i q → In i xs) → face_text (vertex_numbers xs) (map (vertex_number xs) q) ≡ face_text xs q
-face_text_renamed xs q within = ap₂ (λ (n : ℕ) (t : List ℕ). line (decimal n ++ t)) (length-map q (vertex_number xs)) numbers
-  where
-    numbers : flat_map (λ i. spaced (vertex_number (vertex_numbers xs) i)) (map (vertex_number xs) q)
-        ≡ flat_map (λ i. spaced (vertex_number xs i)) q
-    numbers =
-        flat_map-map (λ i. spaced (vertex_number (vertex_numbers xs) i)) (vertex_number xs) q
-        ∙ flat_map_same _ _ q (λ i m. ap spaced (number_again xs i (within i m)))
+face_text_renamed = grind (arith, length-map, vertex_numbers, flat_map-map, flat_map_same, number_again)
 
 -- the text of the points of the extreme ids, by their positions
 pub off_text_renamed : (pts : List Vector) (b : BodyValue) → AreWithin (Members b.extremes) b.polygons
     → off_text (renamed_body (vertex_number b.extremes) b) (points_of pts b.extremes) ≡ off_text b pts
-off_text_renamed pts b within = cc (length-map xs number, length-map b.polygons (map number), vertices, faces)
-  where
-    xs : List ℕ
-    xs = b.extremes
-
-    number : ℕ → ℕ
-    number = vertex_number xs
-
-    vertices : flat_map (λ i. vertex_text (place (points_of pts xs) i)) (vertex_numbers xs) ≡ flat_map (λ i. vertex_text (place pts i)) xs
-    vertices =
-        flat_map-map (λ i. vertex_text (place (points_of pts xs) i)) number xs
-        ∙ flat_map_same _ _ xs (λ i m. ap vertex_text (point_at pts xs i m))
-
-    faces : flat_map (face_text (vertex_numbers xs)) (map (map number) b.polygons) ≡ flat_map (face_text xs) b.polygons
-    faces =
-        flat_map-map (face_text (vertex_numbers xs)) (map number) b.polygons
-        ∙ flat_map_same _ _ b.polygons (λ q m. face_text_renamed xs q (within q m))
+off_text_renamed = grind (arith, length-map, points_of, vertex_numbers, flat_map-map, flat_map_same, point_at, face_text_renamed)
 
 -- ---- the same in triangles
 -- renamed triangles
