@@ -1,21 +1,14 @@
 -- The writes of the loops of a replacement after one more turn.
 use Rattle.qh_mesh.proofs.NumberCases.{below_next}
 use Rattle.qh_mesh.specs.{contract.Edges.edge_of, contract.Edges.side_of_edge, contract.Edges.twin_of, declared.facets.FacetSide.FacetSide}
-use Rattle.qh_mesh.specs.steps.{Cones.Joined, Cones.bare, Horizons.side_at, Kept.outer_of, Kept.with_twin, Writes.Scattered}
-use Rattle.qh_model.proofs.Common.{List, Side, StoredFacet, arith, facet_at, first, length, length-set, refl, rules, second, set, slice_index, sum_by-set}
-use Rattle.qh_model.proofs.Common.{third, ℕ, ◌+◌, ◌/◌, ◌<◌, ◌≡◌, ◌≢◌, ◌⊎◌}
+use Rattle.qh_mesh.specs.steps.{Cones.Joined, Cones.bare, Horizons.side_at, Kept.with_twin, Writes.Scattered}
+use Rattle.qh_model.proofs.Common.{List, StoredFacet, arith, facet_at, first, length, length-set, rules, set, slice_index, sum_by-set}
+use Rattle.qh_model.proofs.Common.{ℕ, ◌+◌, ◌/◌, ◌<◌, ◌≡◌, ◌≢◌}
 
 -- one more write, at a new position
 pub scattered_more : {X : Type 0} (d : X) (old xs : List X) (p : ℕ → ℕ) (Q : ℕ → X → Type 0) (k : ℕ) (y : X)
     → Scattered d old xs p Q k → p k < length old → ((j : ℕ) → j < k → p j ≢ p k) → Q k y → Scattered d old (set xs (p k) y) p Q (k + 1)
 scattered_more = search rules
-
--- a new half-edge across a side changes no other side
-other_side : (t : StoredFacet) (e : ℕ) (s r : Side) → (s ≡ r) ⊎ (outer_of (with_twin t s e) r ≡ outer_of t r)
-other_side = grind arith
-
-own_side : (t : StoredFacet) (e : ℕ) (s : Side) → outer_of (with_twin t s e) s ≡ e
-own_side t e = elim [ first ↦ refl | second ↦ refl | third ↦ refl ]
 
 module _ (fs : List StoredFacet) (e v : ℕ) (l : e / 3 < length fs) where
   -- the facet of the edge, with a new twin of the edge

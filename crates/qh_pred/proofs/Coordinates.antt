@@ -1,6 +1,5 @@
 -- Coordinates that code reads from two points, and a point that it makes of them.
-use Rattle.qh_model.proofs.Common.{ℕ, ◌≡◌, ◌<◌, ◌≤◌, ◌^◌, arith, ◌⊎◌, ints, to_z-of_z, fits_signed_from_abs, ℤ, ◌≤ℤ◌, unsigned_abs}
-use Rattle.qh_model.proofs.Common.{IsCoordinate, mag, w32, hbits, to_z, of_z}
+use Rattle.qh_model.proofs.Common.{IsCoordinate, arith, ints, mag, of_z, to_z, w32, ℤ, ◌<◌, ◌^◌, ◌≡◌, ◌≤ℤ◌, ◌⊎◌}
 
 -- a number as it is stored in 32 bits
 abbrev held : ℤ → ℤ
@@ -9,10 +8,6 @@ held x = to_z w32 (of_z w32 x)
 -- a coordinate that is read keeps its value
 pub read_is : (x y : ℤ) → mag x < 2 ^ 31 → x ≡ y → held x ≡ y
 read_is x y h e = omega (arith, ints)
-
--- a number whose absolute value fits keeps it
-held_size : (x : ℤ) (m : ℕ) → unsigned_abs x ≤ m → m < 2 ^ hbits w32 → unsigned_abs (held x) ≤ m
-held_size x m h l = rw (to_z-of_z w32 x (fits_signed_from_abs w32 x (omega (arith, h, l)))) h
 
 -- one of two coordinates is a coordinate
 pub one_of_two : (l h e x y : ℤ) → IsCoordinate l → IsCoordinate h → x ≡ l → y ≡ h → (e ≡ x) ⊎ (e ≡ y) → IsCoordinate (held e)

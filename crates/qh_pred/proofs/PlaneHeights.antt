@@ -11,10 +11,6 @@ pub record HeightFits (inside plane : PlaneValue) (p : Vector) (r : ℤ) : Type 
   pub value : through (through r -ℤ through inside.offset) ≡ height plane p
   pub sees : IsTrue (lt_z (through inside.offset) (through r)) ↔ (pos 0 <ℤ height plane p)
 
--- one number is below another if their difference is above 0
-below_iff : (x y : ℤ) → IsTrue (lt_z x y) ↔ (pos 0 <ℤ (y -ℤ x))
-below_iff x y = search rules
-
 -- a height fits 128 bits; `inside` is the plane as it is stored
 pub height_fits : (inside plane : PlaneValue) (p : Vector) (r : ℤ) → IsPlane inside → inside ≡ plane
     → r ≡ dot plane.normal p → unsigned_abs r ≤ offset_limit → HeightFits inside plane p r

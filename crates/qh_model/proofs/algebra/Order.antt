@@ -1,7 +1,6 @@
 -- Signs of products. A signature needs brackets, since `≤ℤ` binds tighter than `+ℤ` and `*ℤ`.
-use Rattle.qh_model.proofs.Common.{◌≡◌, arith, ap, sym, ◌∙◌, ◌⊎◌, inl, inr, ⊎_elim, *ℤ-zero, ints, by_lt_z, ℤ, pos, rules}
-use Rattle.qh_model.proofs.Common.{◌+ℤ◌, ◌-ℤ◌, ◌*ℤ◌, neg_ℤ, ◌≤ℤ◌, ◌<ℤ◌, ℤ_discrete}
-use Rattle.qh_model.proofs.algebra.{Integers.mul_add, Integers.mul_comm, Integers.mul_neg, Signs.not_less}
+use Rattle.qh_model.proofs.Common.{*ℤ-zero, ap, arith, by_lt_z, inl, inr, ints, neg_ℤ, pos, rules, sym, ℤ, ℤ_discrete, ⊎_elim, ◌*ℤ◌, ◌+ℤ◌, ◌-ℤ◌, ◌<ℤ◌, ◌∙◌, ◌≡◌}
+use Rattle.qh_model.proofs.{Common.◌≤ℤ◌, Common.◌⊎◌, algebra.Integers.mul_add, algebra.Integers.mul_comm, algebra.Integers.mul_neg, algebra.Signs.not_less}
 
 -- the product of two numbers not below 0
 pub mul-nonneg : (a b : ℤ) → pos 0 ≤ℤ a → pos 0 ≤ℤ b → pos 0 ≤ℤ (a *ℤ b)
@@ -83,10 +82,6 @@ zero_or_not v = elim (ℤ_discrete v (pos 0)) [ yes e ↦ inl e | no n ↦ inr n
 -- the opposite of a negative number
 pub neg-positive : (x : ℤ) → x <ℤ pos 0 → pos 0 <ℤ neg_ℤ x
 neg-positive x h = omega (arith, ints)
-
--- the opposite of a number not above 0
-pub neg-nonneg : (x : ℤ) → x ≤ℤ pos 0 → pos 0 ≤ℤ neg_ℤ x
-neg-nonneg x h = omega (arith, ints)
 
 -- the product of two negative numbers
 pub mul-neg_neg : (a b : ℤ) → a <ℤ pos 0 → b <ℤ pos 0 → pos 0 <ℤ (a *ℤ b)

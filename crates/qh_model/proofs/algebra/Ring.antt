@@ -141,10 +141,6 @@ mul_m-value env (i ∷ m) n =
     ins_m-value env i (mul_m m n) ∙ ap (λ v. get_or env i (pos 0) *ℤ v) (mul_m-value env m n)
     ∙ sym (mul_assoc (get_or env i (pos 0)) (value_m env m) (value_m env n))
 
--- the test of coefficients is correct
-is_zero-is : (c : ℤ) → is_zero c ≡ true → c ≡ pos 0
-is_zero-is = grind arith
-
 -- a term whose coefficient may be 0
 zero_term : (env : List ℤ) (c : ℤ) (m : Mono) (p : Poly) (b : Bool) → is_zero c ≡ b
     → value_p env (elim b [ true ↦ p | false ↦ (c, m) ∷ p ]) ≡ c *ℤ value_m env m +ℤ value_p env p

@@ -28,9 +28,6 @@ module _ (B W : ℕ) (some : 0 < B) (m : Machine) (g : Consistent B W m) (w i : 
   pub fresh : m.node (parent i) ≡ untouched
   fresh = grind (arith, place_dec, n_i, r_i, of_pair)
 
-  new : ℕ → Place
-  new = joined m.node w i
-
   pub at_i : joined m.node w i i ≡ used
   at_i = grind (arith, put_else, n_i, put_here)
 

@@ -1,11 +1,8 @@
 -- The numbers of a node, its sibling and its parent.
-use Rattle.qh_model.proofs.Common.{arith, eq-eqb, ne_eqb, parent, refl, sibling, ℕ, ◌%◌, ◌*◌, ◌+◌, ◌-◌, ◌<◌, ◌≡◌, ◌≢◌, ◌⊎◌}
+use Rattle.qh_model.proofs.Common.{arith, eq-eqb, parent, refl, sibling, ℕ, ◌%◌, ◌*◌, ◌+◌, ◌<◌, ◌≡◌, ◌≢◌, ◌⊎◌}
 
 pub sibling_even : (i : ℕ) → i % 2 ≡ 0 → sibling i ≡ i + 1
 sibling_even i e = rw (eq-eqb (i % 2) 0 e) refl
-
-pub sibling_odd : (i : ℕ) → i % 2 ≢ 0 → sibling i ≡ i - 1
-sibling_odd i e = rw (ne_eqb (i % 2) 0 e) refl
 
 -- a node and its sibling are the children of their parent, in one order or the other
 abbrev pub ArePair : ℕ → Type 0

@@ -79,12 +79,6 @@ unfolding cross
 parallel_normal n a b c h k = parallel_product n (minus b a) (minus c a) h k
 
 -- ---- the same direction or the opposite one
--- a positive number as a successor
-positive_number : (z : ℤ) → pos 0 <ℤ z → (m : ℕ) × (z ≡ pos (suc m))
-positive_number (pos zero) h = absurd (omega (arith, ints))
-positive_number (pos (suc m)) h = (m, refl)
-positive_number (negsuc m) h = absurd (omega (arith, ints))
-
 -- the same direction, with whole factors
 pub along_by : (n m : Vector) (s t : ℤ) → pos 0 <ℤ s → pos 0 <ℤ t → s *ℤ n.x ≡ t *ℤ m.x → s *ℤ n.y ≡ t *ℤ m.y → s *ℤ n.z ≡ t *ℤ m.z → IsAlong n m
 along_by = grind arith

@@ -1,11 +1,7 @@
 -- The hull of a set that is renamed in its order.
-use Rattle.qh_model.proofs.Common.{◌≡◌, ℕ, List, [], ◌∷◌, map, subst, ⊎_elim, BodyValue, IsBody, ArePolygons, In, Vector, arith}
+use Rattle.qh_model.proofs.Common.{ℕ, List, map, BodyValue, IsBody, ArePolygons, Vector, arith}
 use Rattle.qh_model.proofs.renamed.{Edges.edge_count_renamed, Polygons.members_renamed, Polygons.polygons_renamed}
 use Rattle.qh_model.proofs.renamed.{Lists.AreWithin, Lists.rising_map, Renaming.IsRenaming, Renaming.extremes_renamed, Renaming.dimension_renamed}
-
--- the only member of a list of one
-alone : (qs : List (List ℕ)) (p : List ℕ) → qs ≡ p ∷ [] → (q : List ℕ) → In q qs → q ≡ p
-alone qs p s q m = ⊎_elim (λ d. d) (λ n. absurd n) (subst (In q) s m)
 
 -- the members of polygons are members of the set
 pub polygon_members : (at : ℕ → Vector) (A : ℕ → Type 0) (k : ℕ) (qs : List (List ℕ)) → ArePolygons at A k qs → AreWithin A qs

@@ -1,8 +1,8 @@
 -- The surface of a simplex.
-use Rattle.qh_model.proofs.Common.{one_of, IsInner, Side, Surface, IsWhole, HasTwin, IsCorner, end, rise, first, second, third, Weighted, above, middle_of}
+use Rattle.qh_model.proofs.Common.{one_of, IsInner, Surface, IsWhole, IsCorner, rise, Weighted, above, middle_of}
 use Rattle.qh_model.proofs.Common.{weighted_dot, plane_of, In, IsSimplexBoundary, simplex_surface, ◌∙◌, ◌≡◌, ℕ, refl, sym, subst, arith, ap, [], ◌∷◌, ◌⊎◌, inl}
 use Rattle.qh_model.proofs.Common.{inr, ⊎_elim, ints, by_lt_z, ℤ, pos, ◌+ℤ◌, ◌<ℤ◌, ◌≤ℤ◌}
-use Rattle.qh_model.specs.{contract.Surface.start, laws.SurfaceLaws.SimplexIsSound, laws.SurfaceLaws.MiddleIsBelow}
+use Rattle.qh_model.specs.{laws.SurfaceLaws.SimplexIsSound, laws.SurfaceLaws.MiddleIsBelow}
 use Rattle.qh_model.proofs.{algebra.Order.cancel-zero_neg, algebra.Order.product_zero, algebra.Ring.ring, surfaces.Facets.rise_own, surfaces.Facets.plane-is}
 use Rattle.qh_model.proofs.{algebra.Signs.less_differ, surfaces.CramersRule.cramer_level, surfaces.SimplexBoundary.simplex_boundary_sound}
 use Rattle.qh_model.proofs.surfaces.Determinants.{above_of, put4, above-together, above-first, above-second, above-third, above-turn_last}
@@ -10,21 +10,6 @@ use Rattle.qh_model.proofs.surfaces.Determinants.{above_of, put4, above-together
 -- a fact about 0, 1, 2 and 3 holds for each number below 4
 pub four : (P : ℕ → Type 0) → P 0 → P 1 → P 2 → P 3 → (f : ℕ) → In f (0 ∷ 1 ∷ 2 ∷ 3 ∷ []) → P f
 four = grind arith
-
--- a fact about the three sides holds for each side
-sides : (P : Side → Type 0) → P first → P second → P third → (s : Side) → P s
-sides = grind arith
-
--- a proof by three cases
-three_cases : {A B C X : Type 0} → (A → X) → (B → X) → (C → X) → A ⊎ B ⊎ C → X
-three_cases p q r (inl a) = p a
-three_cases p q r (inr (inl b)) = q b
-three_cases p q r (inr (inr c)) = r c
-
--- a proof by four cases
-four_cases : {A B C D X : Type 0} → (A → X) → (B → X) → (C → X) → (D → X) → A ⊎ B ⊎ C ⊎ D → X
-four_cases p q r s (inl a) = p a
-four_cases p q r s (inr z) = three_cases q r s z
 
 -- ---- orders
 -- the facets' orders are even permutations; `above-turn_last` says it for a c d b and a d b c
@@ -42,11 +27,6 @@ module _ (a b c d : ℕ) where
   -- the surface
   abbrev S : Surface
   S = simplex_surface a b c d
-
-  -- a side with its twin
-  twin : (f : ℕ) (s : Side) → In (S.over f s) S.live → start S (S.over f s) (S.back f s) ≡ end S f s → end S (S.over f s) (S.back f s) ≡ start S f s
-      → S.over (S.over f s) (S.back f s) ≡ f → HasTwin S f s
-  twin f s i p q r = record { live = i; start_is = p; end_is = q; returns = r }
 
   -- all sides have twins
   whole : IsWhole S
