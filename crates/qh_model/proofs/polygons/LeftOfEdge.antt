@@ -2,12 +2,11 @@
 use Rattle.qh_model.proofs.Common.{AreInLine, Extreme, Follows, HasDistinctPoints, IsFacePolygon, IsSupportingTriple, List, Members, OnPlane, SpannedByExtremes}
 use Rattle.qh_model.proofs.Common.{Vector, ap, arith, by_lt_z, cross, cross_product, dite, dot, inl, inr, ints, minus, pos, refl, subst, sym, vol, ℕ}
 use Rattle.qh_model.proofs.Common.{ℕ_discrete, ℤ, ◌*ℤ◌, ◌<ℤ◌, ◌∙◌, ◌≡◌, ◌≢◌, ◌≤ℤ◌, ◌⊎◌}
-use Rattle.qh_model.proofs.algebra.Order.{cancel-nonpos, mul-nonneg_nonpos, positive_le, zero_or_not}
-use Rattle.qh_model.proofs.algebra.VectorIdentities.{dot-opposite, in_line-last, in_line-left, in_line-twice, left-linear, opposite, vol-first, vol-second}
-use Rattle.qh_model.proofs.{algebra.VectorIdentities.vol-third, combinations.Alternatives.all_lower}
-use Rattle.qh_model.proofs.extremes.{Directions.in_line-flip, Directions.square-positive, ExtremeIds.combination_of_extremes, ExtremeIds.listed_itself}
-use Rattle.qh_model.proofs.extremes.{ExtremeIds.listed_part, Faces.extremes_of_face, SpanningTriples.planes_of_extremes}
-use Rattle.qh_model.proofs.polygons.{Neighbours.follows_members, PlaneTurns.level_volume}
+use Rattle.qh_model.proofs.algebra.{Order.cancel-nonpos, Order.mul-nonneg_nonpos, Order.positive_le, Order.zero_or_not, VectorIdentities.dot-opposite}
+use Rattle.qh_model.proofs.algebra.VectorIdentities.{in_line-last, in_line-left, in_line-twice, left-linear, opposite, vol-first, vol-second, vol-third}
+use Rattle.qh_model.proofs.{combinations.Alternatives.all_lower, extremes.Directions.in_line-flip, extremes.Directions.square-positive}
+use Rattle.qh_model.proofs.extremes.{ExtremeIds.combination_of_extremes, ExtremeIds.listed_itself, ExtremeIds.listed_part, Faces.extremes_of_face}
+use Rattle.qh_model.proofs.{extremes.SpanningTriples.planes_of_extremes, polygons.Neighbours.follows_members, polygons.PlaneTurns.level_volume}
 use Rattle.qh_model.specs.headline.Predicates.{left}
 
 -- ---- signs

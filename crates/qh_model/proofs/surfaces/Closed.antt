@@ -1,13 +1,12 @@
 -- The live facets of a sound surface are a closed surface: each directed edge is that of at most one facet, and the reversed edge is that of its twin. The
 -- signed volume of the surface is below 0.
-use Rattle.qh_model.proofs.Common.{AreInLine, Bool, In, IsClosed, IsInner, IsSound, IsWhole, List, Once, Side, Surface, Triple, Vector, Weighted, [], ap}
-use Rattle.qh_model.proofs.Common.{arith, cond, edges, end, false, first, inl, inr, ints, is_edge, length, middle_at, pos, refl, rise, second, signed_volume}
+use Rattle.qh_model.proofs.Common.{AreInLine, Bool, In, IsClosed, IsInner, IsSound, IsWhole, List, Once, Side, Surface, Triple, Vector, Weighted, [], ap, arith}
+use Rattle.qh_model.proofs.Common.{cond, edges, end, false, first, inl, inr, ints, is_edge, length, middle_at, pos, refl, rise, rules, second, signed_volume}
 use Rattle.qh_model.proofs.Common.{subst, suc, sym, third, triples_from, triples_of, true, vol, weighted_at, zero, ℕ, ℤ, ◌+ℤ◌, ◌+◌, ◌<ℤ◌, ◌<◌, ◌∙◌, ◌∷◌, ◌≡◌}
 use Rattle.qh_model.proofs.{Common.◌≤ℤ◌, Common.◌≤◌, Members.each_more, algebra.Signs.less_le, algebra.VectorIdentities.in_line-vol}
 use Rattle.qh_model.proofs.closed_surfaces.{SignedVolume.edge_tests, SignedVolume.volume_is_constant, Sums.count, Sums.count-is}
 use Rattle.qh_model.proofs.surfaces.{Determinants.above-together, Facets.ends_differ, KeptSound.edge_once, SurfaceLaws.rise_is_vol}
 use Rattle.qh_model.specs.{contract.Surface.start, laws.ClosedSurfaceLaws.SoundHasVolume, laws.ClosedSurfaceLaws.SoundIsClosed}
-use Rattle.qh_model.proofs.Common.{rules}
 
 -- ---- edges as sides
 -- a side of one of the facets goes from u to v
