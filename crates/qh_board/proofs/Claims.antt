@@ -1,6 +1,6 @@
 -- A claim of a block, and a claim that finds all blocks claimed.
-use Rattle.std.proofs.Common.{◌≡◌, inl, inr, ℕ, zero, suc, ◌+◌, ◌*◌, ◌%◌, ◌^◌, ◌<◌, ◌≤◌, min, true, false, List, [], ◌∷◌, length}
-use Rattle.std.proofs.Common.{set, sym, refl, ap, Bool, ◌∙◌, subst, arith, eq-eqb, Option, Some, None, get_or, length-set, length-append, get_or-set_same}
+use Rattle.std.proofs.Common.{◌≡◌, inl, inr, ℕ, zero, suc, ◌+◌, ◌%◌, ◌^◌, ◌<◌, ◌≤◌, min, true, false, List, [], ◌∷◌, length, rules}
+use Rattle.std.proofs.Common.{set, sym, refl, ap, Bool, ◌∙◌, subst, arith, eq-eqb, Option, Some, None, get_or, length-set, length-append}
 use Rattle.std.{proofs.lemmas.Bool.Decides.nat_tests, specs.Prelude.All, specs.Prelude.slice_index, specs.Prelude.nat_lt, specs.Prelude.◌==◌}
 use mathlib.Core.{Logic.dite, Option.some, Option.none}
 use native.Mathlib.Decide.{dec_le}
@@ -34,15 +34,7 @@ module _ {S X : Type 0} (right : S → (ℕ → Type 0) → X → Type 0) (key :
   claim_shows : (s : State (Option X) (View S)) (R : Kept right key s) (f : ℕ → Place) (over : ℕ → Bool) (homes : Homes X)
       → ((j : ℕ) → settled (f j) ≡ settled (R.machine.node j)) → length homes ≡ length s.homes → SlotsOf right key f homes
       → let n : ℕ = R.machine.claims + 1 in Shows right key record R.machine { claims = n; node = f; over = over } (set s.words 0 n) homes
-  claim_shows s R f over homes same long slots = let n : ℕ = R.machine.claims + 1 in record {
-    wide = length-set s.words 0 n ∙ R.wide;
-    deep = long ∙ R.deep;
-    claims = get_or-set_same s.words 0 n 0 (let z = R.wide in omega arith);
-    arrivals = λ j lo hi. let a = same (2 * j) in let b = same (2 * j + 1) in word_else s.words 0 n j (λ q. omega arith) ∙ (R.arrivals j lo hi ∙ omega arith);
-    out = word_else s.words 0 n key.blocks (λ q. let z = R.some_blocks in omega arith) ∙ (R.out ∙ sym (same 1));
-    marks = λ p h. word_else s.words 0 n (key.blocks + 1 + p) (λ q. omega arith) ∙ R.marks p h;
-    slots = slots;
-  }
+  claim_shows = search rules
 
   pub got_step : (s : State (Option X) (View S)) (R : Kept right key s) (id : ℕ) (r : Record)
       → get_elem? s.views id ≡ some (view_of key (r ∷ [])) → r.node ≡ None → r.over ≡ false → r.mark ≡ None

@@ -1,27 +1,25 @@
 -- A pass ends: it leaves without a node, or gives up with one.
-use Rattle.qh_model.proofs.Common.{◌≡◌, ℕ, ◌+◌, ◌%◌, ◌^◌, ◌≤◌, Bool, List, [], ◌∷◌, ◌++◌, set, sym, refl, ap, ◌∙◌, arith, Option, Some, None, length-set}
-use Rattle.qh_model.proofs.Common.{get_or-set_same, slice_index, ◌==◌, dite, some, ℕ_discrete, get_elem?, Machine, Event, Can, after, put}
+use Rattle.atomic_table.specs.Table.{Allows, Me, State, step}
+use Rattle.qh_board.proofs.SlotsHome.{all_home, laid, length_laid, load, slots_laid}
+use Rattle.qh_board.proofs.Steps.{KeptAfter, SlotsOf, allowed_at, made_more, nothing, others_keep, seat_record, seated, steps, word_else}
+use Rattle.qh_board.specs.contract.Records.{ended_as, ending_of}
+use Rattle.qh_board.specs.declared.view.{Mark.TheVariants.GaveUp, Mark.TheVariants.Left, Record.Record, Setup.Setup, View.View}
+use Rattle.qh_board.specs.steps.{Rule.Agrees, Rule.Kept, Rule.Ruled, Rule.one_if, Rule.times, Shown.event_by, Shown.made, Shown.maker, Shown.mark_of}
+use Rattle.qh_board.specs.steps.{Shown.mark_word, Views.HasRecord, Views.blocks_in, Views.blocks_of, Views.kids, Views.marked, Views.view_of}
+use Rattle.qh_model.proofs.Common.{Bool, Can, Event, List, Machine, None, Option, Some, [], after, ap, arith, dite, get_elem?, get_or-set_same, length-set, put}
+use Rattle.qh_model.proofs.Common.{refl, set, slice_index, some, sym, ℕ, ℕ_discrete, ◌%◌, ◌++◌, ◌+◌, ◌==◌, ◌^◌, ◌∙◌, ◌∷◌, ◌≡◌, ◌≤◌}
+use Rattle.qh_model.proofs.board.Updates.{put_else, put_here}
+use Rattle.qh_model.specs.contract.BoardMachine.{Acts}
+use mathlib.Core.Option.{none}
 use Rattle.qh_model.specs.contract.BoardMachine as machine
 use Rattle.qh_board.specs.declared.view.Mark as ended
-use mathlib.Core.Option.{none}
-use Rattle.atomic_table.specs.Table.{State, Me, step, Allows}
-use Rattle.qh_model.specs.contract.BoardMachine.{Acts}
-use Rattle.qh_model.proofs.board.Updates.{put_here, put_else}
-use Rattle.qh_board.specs.{contract.Records.ending_of, contract.Records.ended_as, declared.view.Mark.TheVariants.Left, declared.view.Mark.TheVariants.GaveUp}
-use Rattle.qh_board.specs.{declared.view.Record.Record, steps.Shown.event_by, steps.Shown.made, steps.Shown.maker, steps.Shown.mark_of, steps.Shown.mark_word}
-use Rattle.qh_board.specs.{declared.view.Setup.Setup, steps.Rule.one_if, steps.Rule.times, steps.Rule.Agrees, steps.Rule.Kept, steps.Rule.Ruled}
-use Rattle.qh_board.specs.declared.view.View.{View}
-use Rattle.qh_board.specs.steps.Views.{view_of, kids, blocks_of, blocks_in, HasRecord, marked}
-use Rattle.qh_board.proofs.SlotsHome.{all_home, laid, length_laid, load, slots_laid}
-use Rattle.qh_board.proofs.Steps.{KeptAfter, SlotsOf, made_more, steps, allowed_at, seat_record, seated, others_keep, nothing, word_else}
 
 -- the number that a pass adds to the word of its mark
 abbrev added : ended.Mark → ℕ
 added kind = mark_word (mark_of (Some kind))
 
 tells_kind : (kind : ended.Mark) → (added kind ≡ 1 → kind ≡ Left) × (added kind ≡ 2 → kind ≡ GaveUp) × (added kind ≤ 2)
-tells_kind Left = ((λ _. refl), (λ e. absurd (omega arith)), omega arith)
-tells_kind GaveUp = ((λ e. absurd (omega arith)), (λ _. refl), omega arith)
+tells_kind = grind arith
 
 module _ {S X : Type 0} (right : S → (ℕ → Type 0) → X → Type 0) (key : Setup S) where
   -- the event by which the pass ends, with the slots that it carries returned

@@ -1,16 +1,15 @@
 -- The tokens of a board that closes: the records of all passes, and the value of the root.
-use Rattle.qh_model.proofs.Common.{◌≡◌, ◌≢◌, ◌↔◌, ℕ, zero, suc, ◌+◌, ◌≤◌, Bool, true, false, List, [], ◌∷◌, ◌++◌, length, sym, refl, ap, ◌∙◌, subst, arith}
-use Rattle.qh_model.proofs.Common.{ne_eqb, cond, Option, Some, None, map-append, append_assoc, slice_index, sum_by, map, ◌==◌, IsSome, IfSome, All, dite, some}
-use Rattle.qh_model.proofs.Common.{some-injective, some-ne-none, ℕ_discrete, get_elem?, InSpan}
+use Rattle.atomic_table.specs.{Seated.TableId, Table.Final, Table.Seen}
+use Rattle.qh_board.proofs.LastStates.{Last, closes}
+use Rattle.qh_board.specs.contract.{Closings.claims_made, Closings.mark_of_word, Closings.tokens_of, Tokens.Token}
+use Rattle.qh_board.specs.declared.view.{Record.Record, Setup.Setup, View.View}
+use Rattle.qh_board.specs.steps.{Rule.Each, Rule.Ruled, Rule.claims_of, Rule.named, Rule.one_if, Rule.weigh, Seats.token_of, Views.HasEnded, Views.record_of}
+use Rattle.qh_model.proofs.Common.{All, Bool, IfSome, InSpan, IsSome, List, None, Option, Some, [], ap, append_assoc, arith, cond, dite, false, get_elem?}
+use Rattle.qh_model.proofs.Common.{length, map, map-append, ne_eqb, refl, slice_index, some, some-injective, some-ne-none, subst, suc, sum_by, sym, true, zero}
+use Rattle.qh_model.proofs.Common.{ℕ, ℕ_discrete, ◌++◌, ◌+◌, ◌==◌, ◌↔◌, ◌∙◌, ◌∷◌, ◌≡◌, ◌≢◌, ◌≤◌}
+use Rattle.std.proofs.lemmas.List.Recursion.{is_count_by, is_sum_by}
 use Rattle.qh_board.specs.declared.view.Mark as ended
 use Rattle.qh_board.specs.declared.view.Mark.TheVariants as marks
-use Rattle.std.proofs.lemmas.List.Recursion.{is_sum_by, is_count_by}
-use Rattle.atomic_table.specs.{Seated.TableId, Table.Final, Table.Seen}
-use Rattle.qh_board.specs.{contract.Closings.mark_of_word, contract.Closings.claims_made, contract.Closings.tokens_of, declared.view.Record.Record}
-use Rattle.qh_board.specs.contract.Tokens.{Token}
-use Rattle.qh_board.specs.{declared.view.Setup.Setup, declared.view.View.View, steps.Views.record_of, steps.Views.head_or, steps.Views.HasEnded}
-use Rattle.qh_board.specs.steps.{Rule.one_if, Rule.weigh, Rule.named, Rule.claims_of, Rule.Each, Rule.Ruled, Seats.token_of}
-use Rattle.qh_board.proofs.LastStates.{Last, closes}
 
 -- ---- the records of tokens
 module _ {S : Type 0} where
@@ -21,15 +20,12 @@ module _ {S : Type 0} where
   -- the view of a pass that has ended has its record alone, with its mark
   pub one_record : (v : View S) (number : ℕ) (over : Bool) (mark : ended.Mark) → HasEnded v number over mark
       → (v.records ≡ record_of v ∷ []) × ((record_of v).mark ≡ Some mark)
-  one_record v number over mark is = let e = ap (λ (x : View S). x.records) is in
-      (e ∙ ap (λ r. r ∷ []) (sym (ap head_or e)), ap (λ (x : View S). (record_of x).mark) is)
+  one_record = grind arith
 
   -- the records after the last token was popped
   pub popped : (ts m : List (Token S)) (id : TableId) (v : View S) (t : Token S) → ts ≡ m ++ t ∷ [] → token_of id v ≡ t
       → v.records ≡ record_of v ∷ [] → records_of ts ≡ records_of m ++ v.records
-  popped ts m id v t e shown one = ap records_of e
-      ∙ (map-append (λ t. t.pass) m (t ∷ [])
-      ∙ ap (λ rs. records_of m ++ rs) (sym (one ∙ ap (λ (x : Token S). x.pass ∷ []) shown)))
+  popped = grind (arith, map-append)
 
   -- the same after more tokens were popped
   pub popped_more : (all ts m : List (Token S)) (id : TableId) (v : View S) (t : Token S) (rs : List Record)

@@ -1,20 +1,19 @@
 -- A pass releases its node, whose value stays in the slot: it arrives first at the parent, or publishes the root.
-use Rattle.qh_model.proofs.Common.{◌≡◌, ◌≢◌, inl, inr, ⊎_elim, ℕ, ◌+◌, ◌*◌, ◌%◌, ◌^◌, ◌<◌, Bool, List, [], ◌∷◌, ◌++◌, set, sym, refl, ap, ◌∙◌, subst, arith}
-use Rattle.qh_model.proofs.Common.{Option, Some, None, length-set, get_or-set_same, slice_index, ◌==◌, dite, some, ℕ_discrete, get_elem?, Place, untouched}
-use Rattle.qh_model.proofs.Common.{held, parked, published, Event, arrive_first, publish, Can, after, settled, put, parent, InSpan}
-use mathlib.Core.Option as maybe
-use mathlib.Core.Option.{none}
-use Rattle.atomic_table.specs.Table.{State, Me, step, Allows, rest}
-use Rattle.qh_model.proofs.board.{Grown.ranged, Reached.reach_good, Siblings.near, Updates.put_here, Updates.put_else, Updates.at_put}
-use Rattle.qh_board.specs.declared.view.Event as own
-use Rattle.qh_board.specs.{contract.Records.come_first, contract.Records.without_node, contract.Records.node_or, declared.view.Record.Record}
-use Rattle.qh_board.specs.declared.view.{Event.TheVariants.ArriveFirst, Event.TheVariants.Publish, View.View}
-use Rattle.qh_board.specs.{declared.view.Setup.Setup, steps.Views.view_of, steps.Views.kids, steps.Views.blocks_of, steps.Views.HasRecord, steps.Views.put_out}
-use Rattle.qh_board.specs.steps.Rule.{one_if, times, Agrees, SlotOf, Kept, Ruled}
-use Rattle.qh_board.specs.steps.Shown.{event_by, made, maker, mark_of}
+use Rattle.atomic_table.specs.Table.{Allows, Me, State, rest, step}
 use Rattle.qh_board.proofs.ParentWords.{arrivals_up, sibling_is}
-use Rattle.qh_board.proofs.SlotsHome.{all_home, laid, length_laid, load, slots_home, filled}
-use Rattle.qh_board.proofs.Steps.{KeptAfter, SlotsOf, Turns, made_more, steps, allowed_at, seat_record, others_keep, word_else}
+use Rattle.qh_board.proofs.SlotsHome.{all_home, filled, laid, length_laid, load, slots_home}
+use Rattle.qh_board.proofs.Steps.{KeptAfter, SlotsOf, Turns, allowed_at, made_more, others_keep, seat_record, steps, word_else}
+use Rattle.qh_board.specs.contract.Records.{come_first, node_or, without_node}
+use Rattle.qh_board.specs.declared.view.{Event.TheVariants.ArriveFirst, Event.TheVariants.Publish, Record.Record, Setup.Setup, View.View}
+use Rattle.qh_board.specs.steps.{Rule.Agrees, Rule.Kept, Rule.Ruled, Rule.SlotOf, Rule.one_if, Rule.times, Shown.event_by, Shown.made, Shown.maker}
+use Rattle.qh_board.specs.steps.{Shown.mark_of, Views.HasRecord, Views.blocks_of, Views.kids, Views.put_out, Views.view_of}
+use Rattle.qh_model.proofs.Common.{Bool, Can, Event, InSpan, List, None, Option, Place, Some, [], after, ap, arith, arrive_first, dite, get_elem?}
+use Rattle.qh_model.proofs.Common.{get_or-set_same, held, inl, inr, length-set, parent, parked, publish, published, put, refl, set, settled, slice_index, some}
+use Rattle.qh_model.proofs.Common.{subst, sym, untouched, ℕ, ℕ_discrete, ⊎_elim, ◌%◌, ◌*◌, ◌++◌, ◌+◌, ◌<◌, ◌==◌, ◌^◌, ◌∙◌, ◌∷◌, ◌≡◌, ◌≢◌}
+use Rattle.qh_model.proofs.board.{Grown.ranged, Reached.reach_good, Siblings.near, Updates.at_put, Updates.put_else, Updates.put_here}
+use mathlib.Core.Option.{none}
+use mathlib.Core.Option as maybe
+use Rattle.qh_board.specs.declared.view.Event as own
 
 module _ {S X : Type 0} (right : S → (ℕ → Type 0) → X → Type 0) (key : Setup S) where
   -- the place of the node becomes p, which belongs to no pass, and no nodes are joined

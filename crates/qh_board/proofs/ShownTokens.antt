@@ -1,5 +1,5 @@
 -- The contract view of a token of a board and its seat.
-use Rattle.qh_model.proofs.Common.{◌≡◌, ℕ, Bool, false, ap, sym, ◌∙◌, subst, Option, Some, InSpan}
+use Rattle.qh_model.proofs.Common.{◌≡◌, ℕ, Bool, false, ap, sym, ◌∙◌, subst, Option, Some, InSpan, arith}
 use Rattle.atomic_table.specs.Seated.{TableId}
 use Rattle.qh_board.specs.{contract.Records.node_or, declared.view.Mark.Mark, declared.view.Setup.Setup, steps.Views.HasRecord, steps.Views.record_of}
 use Rattle.qh_board.specs.contract.Tokens.{BoardValue, Token, IsOf, IsRightAt, task_node}
@@ -12,10 +12,7 @@ board_of table setup = record { table = table; setup = setup }
 -- the seat of a token of a board is at its table, and its view has the setup
 pub at_board : {S : Type 0} (b : BoardValue S) (t : Token S) (id table : TableId) (v : View S) (setup : Setup S)
     → token_of id v ≡ t → board_of table setup ≡ b → IsOf b t → (id ≡ table) × (v.setup ≡ Some setup)
-at_board {S} b t id table v setup shown is mine = (
-  ap (λ (x : Token S). x.table) shown ∙ (mine.table ∙ ap (λ (x : BoardValue S). x.table) (sym is)),
-  ap (λ (x : Token S). x.setup) shown ∙ (mine.setup ∙ ap (λ (x : BoardValue S). Some x.setup) (sym is)),
-)
+at_board = grind arith
 
 -- a seat at the board's table whose view has its setup belongs to the board
 pub is_of : {S : Type 0} (b : BoardValue S) (id table : TableId) (v : View S) (setup : Setup S)

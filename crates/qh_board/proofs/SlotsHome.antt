@@ -1,14 +1,13 @@
 -- The slots that a pass carries, and their contents after they are returned.
-use Rattle.qh_model.proofs.Common.{◌≡◌, ◌≢◌, ℕ, zero, suc, ◌+◌, ◌*◌, ◌<◌, ◌≤◌, Bool, true, false, List, [], ◌∷◌, length, set, sym, refl, ap, ◌∙◌, subst, arith}
-use Rattle.qh_model.proofs.Common.{Option, Some, None, length-set, nat_tests, nat_lt, slice_index, dite, some, ℕ_discrete, dec_le, get_elem?, Place, untouched}
-use Rattle.qh_model.proofs.Common.{held, used}
+use Rattle.atomic_table.proofs.Lists.{set_else, set_here}
+use Rattle.atomic_table.specs.Table.{Act, Me, State, Valid, carried_after, chain, gives, homes_after, keeps, rest, stepped}
+use Rattle.qh_board.proofs.Steps.{Homes, KeptAfter, SlotsOf, seat_record}
+use Rattle.qh_board.specs.declared.view.{Record.Record, Setup.Setup, View.View}
+use Rattle.qh_board.specs.steps.{Rule.Kept, Rule.SlotOf, Views.HasRecord, Views.blocks_of, Views.kids, Views.view_of}
+use Rattle.qh_model.proofs.Common.{Bool, List, None, Option, Place, Some, [], ap, arith, dec_le, dite, false, get_elem?, held, length, length-set, nat_lt}
+use Rattle.qh_model.proofs.Common.{nat_tests, refl, set, slice_index, some, subst, suc, sym, true, untouched, used, zero, ℕ, ℕ_discrete, ◌*◌, ◌+◌, ◌<◌, ◌∙◌}
+use Rattle.qh_model.proofs.{Common.◌∷◌, Common.◌≡◌, Common.◌≢◌, Common.◌≤◌, board.Grown.ranged, board.Reached.reach_good}
 use mathlib.Core.Option as maybe
-use Rattle.atomic_table.specs.Table.{State, Me, Act, keeps, gives, chain, Valid, homes_after, carried_after, rest, stepped}
-use Rattle.atomic_table.proofs.Lists.{set_here, set_else}
-use Rattle.qh_model.proofs.board.{Grown.ranged, Reached.reach_good}
-use Rattle.qh_board.specs.{declared.view.Record.Record, declared.view.Setup.Setup, steps.Rule.SlotOf, steps.Rule.Kept}
-use Rattle.qh_board.specs.{declared.view.View.View, steps.Views.view_of, steps.Views.kids, steps.Views.blocks_of, steps.Views.blocks_in, steps.Views.HasRecord}
-use Rattle.qh_board.proofs.Steps.{Homes, KeptAfter, SlotsOf, seat_record, seated}
 
 module _ {A : Type 0} where
   -- each carried slot is returned
@@ -75,22 +74,12 @@ module _ {S X : Type 0} (right : S → (ℕ → Type 0) → X → Type 0) (key :
 
   laid_own : (hs : Homes X) (i : ℕ) (x : Option X) → 0 < i → i < length hs → get_elem? (laid hs (load i x)) i ≡ some (some x)
   unfolding laid
-  laid_own hs i x lo hi = dite (dec_le key.blocks i)
-      (λ leaf. subst (λ (c : List (ℕ × Option X)). get_elem? (laid hs ((i, x) ∷ c)) i ≡ some (some x))
-      (sym (kids_out key.blocks i leaf)) (set_here hs i (some x) hi))
-      (λ inner. subst (λ (c : List (ℕ × Option X)). get_elem? (laid hs ((i, x) ∷ c)) i ≡ some (some x)) (sym (kids_in key.blocks i (omega arith)))
-      (set_else (set (set hs i (some x)) (2 * i) (some None)) (2 * i + 1) i (some None) (λ e. omega arith)
-      ∙ (set_else (set hs i (some x)) (2 * i) i (some None) (λ e. omega arith) ∙ set_here hs i (some x) hi)))
+  laid_own = grind (arith, kids_out, set_here, kids_in, set_else)
 
   pub laid_else : (hs : Homes X) (i : ℕ) (x : Option X) (j : ℕ) → j ≢ i → (i < key.blocks → (j ≢ 2 * i) × (j ≢ 2 * i + 1))
       → get_elem? (laid hs (load i x)) j ≡ get_elem? hs j
   unfolding laid
-  laid_else hs i x j ne far = dite (dec_le key.blocks i)
-      (λ leaf. subst (λ (c : List (ℕ × Option X)). get_elem? (laid hs ((i, x) ∷ c)) j ≡ get_elem? hs j)
-      (sym (kids_out key.blocks i leaf)) (set_else hs i j (some x) ne)) (λ inner. let f = far (omega arith) in
-      subst (λ (c : List (ℕ × Option X)). get_elem? (laid hs ((i, x) ∷ c)) j ≡ get_elem? hs j) (sym (kids_in key.blocks i (omega arith)))
-      (set_else (set (set hs i (some x)) (2 * i) (some None)) (2 * i + 1) j (some None) f.1
-      ∙ (set_else (set hs i (some x)) (2 * i) j (some None) f.0 ∙ set_else hs i j (some x) ne)))
+  laid_else = grind (arith, kids_out, set_else, kids_in)
 
   -- the slots after the pass's own are returned
   pub slots_home : (s : State (Option X) (View S)) (R : Kept right key s) (i w : ℕ) (x : Option X)
@@ -130,7 +119,4 @@ module _ {S X : Type 0} (right : S → (ℕ → Type 0) → X → Type 0) (key :
       → before.1 ≡ (i, None) ∷ kids (blocks_of before.0) i → HasRecord before.0 number (Some i) over None
       → me ≡ (before.0, (i, Some x) ∷ rest before.1)
       → me ≡ (view_of key (seat_record before.0 number (Some i) over ∷ []), load i (Some x))
-  filled before me i number over x of bare has now =
-      let p = seated right key before.0 number (Some i) over of has in
-      let q : rest before.1 ≡ kids key.blocks i = ap rest bare ∙ ap (λ (k : Option (Setup S)). kids {X = X} (blocks_in k) i) of in
-      now ∙ (λ c. (p c, (i, Some x) ∷ q c))
+  filled = grind arith

@@ -30,8 +30,7 @@ once_along t (w ∷ r) e o =
     let others = once_along w r e o.1 in grind (arith, new, others)
 
 once_ups : (q : List ℕ) → Once q → Once (ups q)
-once_ups [] o = tt
-once_ups (t ∷ r) o = once_along t r t o
+once_ups = grind (arith, once_along)
 
 -- if no two polygons take the same step, each step up occurs once
 all_once : (qs : List (List ℕ)) → Once qs → ((q : List ℕ) → In q qs → Once q)

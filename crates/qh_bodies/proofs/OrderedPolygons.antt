@@ -19,19 +19,6 @@ rises (q ∷ qs) h = from q qs h
           subst (λ m. ComesBefore (get_or (r ∷ ps) n []) (get_or (p ∷ r ∷ ps) m [])) e (h (suc n) (omega arith)))),
     )
 
--- in a rising list each element comes before the next
-pub rises_at : (qs : List (List ℕ)) → RiseStrictly qs → (n : ℕ) → n + 1 < length qs
-    → ComesBefore (get_or qs n []) (get_or qs (n + 1) [])
-rises_at [] h n l = absurd (omega arith)
-rises_at (q ∷ qs) h n l = from q qs h n l
-  where
-    from : (p : List ℕ) (ps : List (List ℕ)) → RisesFrom p ps → (n : ℕ) → n + 1 < length (p ∷ ps)
-        → ComesBefore (get_or (p ∷ ps) n []) (get_or (p ∷ ps) (n + 1) [])
-    from p [] h n l = absurd (omega arith)
-    from p (r ∷ ps) h zero l = h.0
-    from p (r ∷ ps) h (suc n) l = let e : suc (n + 1) ≡ suc n + 1 = omega arith in
-        subst (λ m. ComesBefore (get_or (r ∷ ps) n []) (get_or (p ∷ r ∷ ps) m [])) e (from r ps h.1 n (omega arith))
-
 -- ---- two lists that agree so far
 -- the numbers at the first difference decide
 pub before_at : (k : ℕ) (p q : List ℕ) → take k p ≡ take k q → k < length p → k < length q → get_or p k 0 ≢ get_or q k 0
@@ -87,14 +74,7 @@ module _ (qs : List (List ℕ)) (k : ℕ) (p q : List ℕ) (some : 1 ≤ k) (l :
   Rises i j = ComesBefore (get_or qs i []) (get_or qs j [])
 
   pub ordered_more : ComesBefore p q → ((n : ℕ) → n + 1 < k → Rises n (n + 1)) → (n : ℕ) → n + 1 < k + 1 → Rises n (n + 1)
-  ordered_more b h n m = elim (cases_lt (n + 1) k) [
-    | inl x ↦ h n x
-    | inr x ↦ (
-        let here : k - 1 ≡ n = omega arith in let next : k ≡ n + 1 = omega arith in
-        subst (Rises n) next (subst (λ i. Rises i k) here (subst (ComesBefore (get_or qs (k - 1) [])) own
-        (subst (λ r. ComesBefore r q) before b)))
-        )
-  ]
+  ordered_more = grind (arith, cases_lt, own, before)
 
   pub unordered : ¬ (ComesBefore p q) → IsOutOfOrder qs (k - 1)
   unordered n = (

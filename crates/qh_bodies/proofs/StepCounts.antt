@@ -12,8 +12,7 @@ module _ (u v : ℕ) where
 
   -- the count for two lists of polygons
   pub steps_of_both : (ps qs : List (List ℕ)) → step_count (ps ++ qs) u v ≡ step_count ps u v + step_count qs u v
-  steps_of_both ps qs =
-      ap (count_by (is_edge (u, v))) (flat_map-append steps_round ps qs) ∙ sum_by-append is_step (flat_map steps_round ps) (flat_map steps_round qs)
+  steps_of_both = grind (arith, flat_map-append, sum_by-append)
 
   -- the count polygon by polygon
   by_polygon : (qs : List (List ℕ)) → step_count qs u v ≡ sum_by round_count qs

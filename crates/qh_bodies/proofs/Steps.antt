@@ -50,8 +50,7 @@ lost f p h (k ∷ ks) = elim (cases_Bool (p k)) [
 -- a filter by a test that agrees on equal elements keeps the count, or makes it 0
 pub halved : {X : Type 0} (f p : X → Bool) (b : Bool) → ((k : X) → f k ≡ true → p k ≡ b) → (ks : List X)
     → count f (filter p ks) ≡ cond b (count f ks) 0
-halved f p true h ks = count_kept f p h ks
-halved f p false h ks = lost f p h ks
+halved = grind (arith, count_kept, lost)
 
 up_by : (u v k : ℕ) → on u v k ≡ true → goes_up k ≡ nat_lt u v
 up_by u v k e = ap (λ (s : ℕ × ℕ). nat_lt s.0 s.1) (sym (edge_tests.same (u, v) (halves k) e))
@@ -64,8 +63,7 @@ module _ (qs : List (List ℕ)) (keys up there : List ℕ) (steps : map halves k
     (ups : up ≡ filter goes_up keys) (p : IsPermutation up there) where
   -- the keys count the steps
   in_keys : (u v : ℕ) → count (on u v) keys ≡ step_count qs u v
-  in_keys u v =
-      count-is (on u v) keys ∙ sym (count-map halves (is_edge (u, v)) keys) ∙ ap (count_by (is_edge (u, v))) steps
+  in_keys = grind (arith, count-is, count-map)
 
   -- the sorted keys count the steps to a higher id
   half_up : (u v : ℕ) → count_by (on u v) there ≡ cond (nat_lt u v) (step_count qs u v) 0

@@ -1,13 +1,12 @@
 -- A point that is beyond all corners of a convex polygon along a direction is past one of its sides, seen from a place below.
-use Rattle.qh_model.proofs.Common.{◌≡◌, ◌≢◌, ℕ, ◌≤◌, refl, sym, ap, subst, ◌∙◌, arith, List, [], ◌∷◌, length, ◌⊎◌, inl, inr, ints, ℤ, pos, ◌-ℤ◌, ◌*ℤ◌, neg_ℤ}
-use Rattle.qh_model.proofs.Common.{◌≤ℤ◌, ◌<ℤ◌, dite, ℕ_discrete, Follows, FollowsAlong, cross, vol, AreInLine, In, Once, Vector, minus, cross_product, dot}
-use Rattle.qh_model.proofs.{algebra.Integers.mul_comm, algebra.Integers.zero_mul, polygons.Neighbours.follows_members, polygons.Neighbours.next_member}
-use Rattle.qh_model.proofs.algebra.{Order.mul-pos, Order.mul-neg_neg, Order.cancel-nonpos, Order.product_zero, Ring.ring}
-use Rattle.qh_model.proofs.{algebra.Signs.gap_positive, extremes.Directions.square-positive}
-use Rattle.qh_model.proofs.algebra.VectorIdentities.{vec, put, crossE, dotE, edge_product, in_line-vol, vol-swap_last}
-use Rattle.qh_model.proofs.algebra.Ring.Expr.{var, sub as less, mul}
-use Rattle.qh_laws.proofs.{Greatest.IsGreatest, Greatest.greatest, Greatest.ratio-trans, Rounds.vol-round, Rounds.flip_round}
-use Rattle.qh_laws.proofs.OffPoints.{plus, vol-plus}
+use Rattle.qh_laws.proofs.Greatest.{IsGreatest, greatest, ratio-trans}
+use Rattle.qh_laws.proofs.{OffPoints.plus, OffPoints.vol-plus, Rounds.flip_round, Rounds.vol-round}
+use Rattle.qh_model.proofs.Common.{AreInLine, Follows, FollowsAlong, In, List, Once, Vector, [], ap, arith, cross, cross_product, dite, dot, inl, inr, ints}
+use Rattle.qh_model.proofs.Common.{length, minus, neg_ℤ, pos, refl, subst, sym, vol, ℕ, ℕ_discrete, ℤ, ◌*ℤ◌, ◌-ℤ◌, ◌<ℤ◌, ◌∙◌, ◌∷◌, ◌≡◌, ◌≢◌, ◌≤ℤ◌, ◌≤◌, ◌⊎◌}
+use Rattle.qh_model.proofs.algebra.{Integers.mul_comm, Integers.zero_mul, Order.cancel-nonpos, Order.mul-neg_neg, Order.mul-pos, Order.product_zero, Ring.ring}
+use Rattle.qh_model.proofs.algebra.{Ring.Expr.mul, Ring.Expr.sub as less, Ring.Expr.var, Signs.gap_positive}
+use Rattle.qh_model.proofs.algebra.VectorIdentities.{crossE, dotE, edge_product, in_line-vol, put, vec, vol-swap_last}
+use Rattle.qh_model.proofs.{extremes.Directions.square-positive, polygons.Neighbours.follows_members, polygons.Neighbours.next_member}
 
 -- ---- members of a cycle
 -- membership of an id in a list is decided

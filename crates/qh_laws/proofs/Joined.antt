@@ -1,11 +1,10 @@
 -- Faces of parts and of the kept ids that close up are the faces of the whole set.
-use Rattle.qh_model.proofs.Common.{ℕ, ◌⊎◌, inl, inr, refl, List, ◌↔◌, AreClosedFaces, IsFace, HasDistinctPoints, Extreme, Members, Vector}
-use Rattle.qh_model.proofs.extremes.{ExtremeIds.listed_itself, ExtremeIds.extremes_between, SameDimension.tetrahedron_by_names}
-use Rattle.qh_model.proofs.{surfaces.Complete.finished_tetrahedron, polygons.ClosedFaces.closed_faces_are_all, polygons.ClosedFaces.closed_faces_have_extremes}
-use Rattle.qh_model.proofs.extremes.Faces.{support_of_extremes}
-use Rattle.qh_laws.specs.contract.Parts.{AreKept, IsPartFace, AreJoined}
+use Rattle.qh_laws.proofs.Parts.{polygon_of_same, staying_has_polygon, staying_supports}
+use Rattle.qh_laws.specs.contract.Parts.{AreJoined, AreKept, IsPartFace}
 use Rattle.qh_laws.specs.laws.PartLaws.{FacesOfKept, JoinedAreFaces, JoinedHaveExtremes, PartIsSolid}
-use Rattle.qh_laws.proofs.Parts.{staying_supports, staying_has_polygon, polygon_of_same}
+use Rattle.qh_model.proofs.Common.{AreClosedFaces, Extreme, HasDistinctPoints, IsFace, List, Members, Vector, inl, inr, refl, ℕ, ◌↔◌, ◌⊎◌}
+use Rattle.qh_model.proofs.extremes.{ExtremeIds.extremes_between, ExtremeIds.listed_itself, Faces.support_of_extremes, SameDimension.tetrahedron_by_names}
+use Rattle.qh_model.proofs.{polygons.ClosedFaces.closed_faces_are_all, polygons.ClosedFaces.closed_faces_have_extremes, surfaces.Complete.finished_tetrahedron}
 
 -- the polygon of a part is a face
 part_face : (at : ℕ → Vector) (all kept : List ℕ) (q : List ℕ) → HasDistinctPoints at (Members all) → AreKept at all kept

@@ -1,17 +1,16 @@
 -- A point in the plane of a facet that is above no facet beside that plane is above no facet at all.
-use Rattle.qh_model.proofs.Common.{◌≡◌, ℕ, suc, arith, refl, sym, ◌∙◌, ap, inl, inr, Bool, true, false, List, ⊎_elim, and_parts, ints, ℤ, pos, ◌+ℤ◌, ◌*ℤ◌}
-use Rattle.qh_model.proofs.Common.{neg_ℤ, ◌≤ℤ◌, ◌<ℤ◌, ◌&&◌, weighted_at, middle_at, IsFinished, towards, Side, Surface, IsCorner, rise, Sees, Weighted}
-use Rattle.qh_model.proofs.Common.{weighted, above, In, Vector, IsLevelFacet}
-use Rattle.qh_model.specs.laws.FacetPlanes.{IsPlaneWalk}
-use Rattle.qh_model.proofs.{algebra.Integers.one_mul, surfaces.Finished.unseen_above, surfaces.PerturbedInwards.bound, surfaces.PerturbedInwards.scale}
-use Rattle.qh_model.proofs.algebra.Order.{mul-nonneg, mul-nonneg_nonpos, positive_le, product_zero}
-use Rattle.qh_model.proofs.{algebra.Signs.less_differ, algebra.Signs.at_most_zero, algebra.Signs.equal_positive, surfaces.SurfaceLaws.walk_finds_all}
-use Rattle.qh_model.proofs.{extremes.Directions.same_plane, surfaces.Facets.middle, surfaces.Facets.sum_blind, surfaces.Facets.sum_level}
-use Rattle.qh_model.proofs.surfaces.FacetPlanes.{above-last, beyond, on_sees_beyond, sees_beyond_on, level_facets_span, plane_walk_finds_all, level_itself}
-use Rattle.qh_model.proofs.surfaces.FacetPlanes.{level_back, seen_level}
-use Rattle.qh_laws.specs.{contract.Seam.height_over, contract.Seam.IsBelowAll, contract.Seam.IsRing, laws.PointLaws.IsBeside, laws.PointLaws.SidesHideRest}
 use Rattle.qh_laws.proofs.Decisions.{flag, flag-holds, flag-true}
-use Rattle.qh_laws.proofs.Heights.{rise_is_height, blind_rise, seen_rise, level_or_not}
+use Rattle.qh_laws.proofs.Heights.{blind_rise, level_or_not, rise_is_height, seen_rise}
+use Rattle.qh_laws.specs.{contract.Seam.IsBelowAll, contract.Seam.IsRing, contract.Seam.height_over, laws.PointLaws.IsBeside, laws.PointLaws.SidesHideRest}
+use Rattle.qh_model.proofs.Common.{Bool, In, IsCorner, IsFinished, IsLevelFacet, List, Sees, Side, Surface, Vector, Weighted, above, and_parts, ap, arith}
+use Rattle.qh_model.proofs.Common.{false, inl, inr, ints, middle_at, neg_ℤ, pos, refl, rise, suc, sym, towards, true, weighted, weighted_at, ℕ, ℤ, ⊎_elim, ◌&&◌}
+use Rattle.qh_model.proofs.Common.{◌*ℤ◌, ◌+ℤ◌, ◌<ℤ◌, ◌∙◌, ◌≡◌, ◌≤ℤ◌}
+use Rattle.qh_model.proofs.algebra.{Integers.one_mul, Order.mul-nonneg, Order.mul-nonneg_nonpos, Order.positive_le, Order.product_zero, Signs.at_most_zero}
+use Rattle.qh_model.proofs.{algebra.Signs.equal_positive, algebra.Signs.less_differ, extremes.Directions.same_plane}
+use Rattle.qh_model.proofs.surfaces.FacetPlanes.{above-last, beyond, level_back, level_facets_span, level_itself, on_sees_beyond, plane_walk_finds_all}
+use Rattle.qh_model.proofs.surfaces.{FacetPlanes.seen_level, FacetPlanes.sees_beyond_on, Facets.middle, Facets.sum_blind, Facets.sum_level}
+use Rattle.qh_model.proofs.surfaces.{Finished.unseen_above, PerturbedInwards.bound, PerturbedInwards.scale, SurfaceLaws.walk_finds_all}
+use Rattle.qh_model.specs.laws.FacetPlanes.{IsPlaneWalk}
 
 -- a plane that is not above y, and is strictly above o, sees a point beyond y
 past_sees_beyond : (a b c o y : Weighted) (k : ℕ) → pos 0 ≤ℤ above a b c y → above a b c o <ℤ pos 0 → pos 0 <ℤ above a b c (beyond o y k)

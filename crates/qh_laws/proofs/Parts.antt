@@ -1,15 +1,14 @@
 -- The facets of a part that stay support the whole set, and those in clear planes have its polygons.
-use Rattle.qh_model.proofs.Common.{◌≡◌, ℕ, refl, subst, ◌∙◌, ap, ◌⊎◌, inl, inr, Bool, true, false, List, ◌∷◌, ⊎_elim, pos, ◌≤ℤ◌, ◌<ℤ◌, ◌↔◌, IsFinished}
-use Rattle.qh_model.proofs.Common.{HasDistinctPoints, Surface, Others, Extreme, IsFacePolygon, In, Members, Supports, OnPlane, Vector, IsLiveCorner}
-use Rattle.qh_model.proofs.Common.{IsLevelFacet}
-use Rattle.qh_model.proofs.{algebra.Order.zero_or_not, surfaces.Finished.facet_area, surfaces.Finished.extremes_are_corners}
-use Rattle.qh_model.proofs.{algebra.Signs.at_most_zero, algebra.Signs.not_less, algebra.Signs.less_differ, surfaces.Inside.finished_with}
-use Rattle.qh_model.proofs.extremes.ExtremeIds.{Listed, listed_itself, listed_part, extremes_between, combination_within}
+use Rattle.qh_laws.proofs.{LevelPoints.level_point, LevelPoints.level_stay, LevelPoints.sides_hide_rest, Rings.ring_hides_rest}
+use Rattle.qh_laws.specs.contract.{Parts.AreKept, Parts.IsClear, Parts.IsPart, Seam.IsBelowAll, Seam.IsRing, Seam.SeesGone, Seam.height_over}
+use Rattle.qh_laws.specs.laws.PartLaws.{ExtremesAreKept, SeamOfOthers, StayingHasPolygon, StayingSupports, StrictIsClear}
+use Rattle.qh_laws.specs.laws.PointLaws.{IsBeside}
+use Rattle.qh_model.proofs.Common.{Bool, Extreme, HasDistinctPoints, In, IsFacePolygon, IsFinished, IsLevelFacet, IsLiveCorner, List, Members, OnPlane, Others}
+use Rattle.qh_model.proofs.Common.{Supports, Surface, Vector, ap, false, inl, inr, pos, refl, subst, true, ℕ, ⊎_elim, ◌<ℤ◌, ◌↔◌, ◌∙◌, ◌∷◌, ◌≡◌, ◌≤ℤ◌, ◌⊎◌}
+use Rattle.qh_model.proofs.algebra.{Order.zero_or_not, Signs.at_most_zero, Signs.less_differ, Signs.not_less}
+use Rattle.qh_model.proofs.extremes.ExtremeIds.{Listed, combination_within, extremes_between, listed_itself, listed_part}
 use Rattle.qh_model.proofs.extremes.Faces.{extremes_of_face, support_of_extremes}
-use Rattle.qh_laws.specs.contract.Parts.{AreKept, IsPart, IsClear}
-use Rattle.qh_laws.specs.{contract.Seam.height_over, contract.Seam.IsBelowAll, contract.Seam.SeesGone, contract.Seam.IsRing, laws.PointLaws.IsBeside}
-use Rattle.qh_laws.specs.laws.PartLaws.{StrictIsClear, SeamOfOthers, ExtremesAreKept, StayingSupports, StayingHasPolygon}
-use Rattle.qh_laws.proofs.{LevelPoints.sides_hide_rest, LevelPoints.level_point, LevelPoints.level_stay, Rings.ring_hides_rest}
+use Rattle.qh_model.proofs.surfaces.{Finished.extremes_are_corners, Finished.facet_area, Inside.finished_with}
 
 -- proof of the law `ExtremesAreKept`
 pub extremes_are_kept : ExtremesAreKept

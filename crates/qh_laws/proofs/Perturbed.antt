@@ -1,9 +1,8 @@
 -- A point moved slightly, at a scale of whole numbers, so that finitely many scalar products are positive or not 0.
-use Rattle.qh_model.proofs.Common.{◌≡◌, ℕ, refl, sym, subst, arith, List, [], ◌∷◌, ◌⊎◌, inl, inr, ints, by_lt_z, ℤ, pos, ◌+ℤ◌, ◌*ℤ◌, neg_ℤ, ◌≤ℤ◌, ◌<ℤ◌, In}
-use Rattle.qh_model.proofs.Common.{Vector, origin, dot}
-use Rattle.qh_model.proofs.algebra.{Order.mul-nonneg, Order.mul-le, Order.zero_or_not, Order.le_less, Signs.negated_positive}
-use Rattle.qh_model.proofs.algebra.Ring.{Expr, ring, Expr.var, Expr.add, Expr.mul}
-use Rattle.qh_model.proofs.algebra.VectorIdentities.{VE, vec, put, dotE, opposite, dot-opposite}
+use Rattle.qh_model.proofs.Common.{In, List, Vector, [], arith, by_lt_z, dot, inl, inr, ints, neg_ℤ, origin, pos, refl, subst, sym, ℕ, ℤ, ◌*ℤ◌, ◌+ℤ◌, ◌<ℤ◌, ◌∷◌}
+use Rattle.qh_model.proofs.{Common.◌≡◌, Common.◌≤ℤ◌, Common.◌⊎◌, algebra.Order.le_less, algebra.Order.mul-le, algebra.Order.mul-nonneg}
+use Rattle.qh_model.proofs.algebra.{Order.zero_or_not, Ring.Expr, Ring.ring, Ring.Expr.add, Ring.Expr.mul, Ring.Expr.var, Signs.negated_positive}
+use Rattle.qh_model.proofs.algebra.VectorIdentities.{VE, dot-opposite, dotE, opposite, put, vec}
 use Rattle.qh_model.proofs.{closed_surfaces.Supporting.ceiling, extremes.Directions.square-positive}
 
 -- n x + v

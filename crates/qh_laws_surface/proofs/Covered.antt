@@ -1,18 +1,17 @@
 -- Each spot of a face that lies on no line through two of its corners is covered by one piece.
-use Rattle.qh_model.proofs.Common.{◌≡◌, ℕ, ◌+◌, arith, refl, sym, ap, subst, ◌∙◌, inl, inr, List, [], ◌∷◌, Bool, true, false, cond, false_from_ne_true}
-use Rattle.qh_model.proofs.Common.{cases_Bool, and_parts, ints, Decides-int_eq, flat_map, int_eq, filter, count_by, pos, steps_round, cross, vol, In, Members}
-use Rattle.qh_model.proofs.Common.{Vector, IsAlong}
-use Rattle.qh_model.proofs.{algebra.VectorIdentities.vol-first, extremes.Directions.along_back, extremes.Directions.zero_along, extremes.Directions.vol_along}
-use Rattle.qh_model.proofs.closed_surfaces.Sums.{sum_z, count, count-is}
-use Rattle.qh_laws.proofs.{Crossings.number, Signs.above}
 use Rattle.qh_check.specs.contract.Surfaces.{IsFaceSurface}
-use Rattle.qh_laws_surface.specs.contract.{Measures.lies_in, Covering.Spot, Covering.spot_height, Covering.spot_turn, Covering.covers, Covering.IsOffLines}
-use Rattle.qh_laws_surface.proofs.{ConvexLists.AllTurn, ConvexLists.polygon_turns, SpotTriangles.over, SpotTriangles.over-odd}
-use Rattle.qh_laws_surface.proofs.{FaceWays.goes_round_once, SpotHeights.along_height, SpotHeights.above_along, SpotHeights.off_line, SpotHeights.all_level}
-use Rattle.qh_laws_surface.proofs.{HullSurface.corner_triple, HullSurface.corner_face, SharedCorners.same_face, SharedCorners.same_plane, StepCounts.sum-append}
-use Rattle.qh_laws_surface.proofs.PlanePieces.{PieceOf, normal, has_i, has_j, has_k, OverFace, on, all_alike, lies_level, parts, piece, part_member, part_turns}
-use Rattle.qh_laws_surface.proofs.PlanePieces.{of_face, in_parts}
-use Rattle.qh_laws_surface.proofs.SpotFans.{Off, covered, covers_along, round_over, all_left, InTriangle, in_triangle}
+use Rattle.qh_laws.proofs.{Crossings.number, Signs.above}
+use Rattle.qh_laws_surface.proofs.{ConvexLists.AllTurn, ConvexLists.polygon_turns, FaceWays.goes_round_once, HullSurface.corner_face, HullSurface.corner_triple}
+use Rattle.qh_laws_surface.proofs.PlanePieces.{OverFace, PieceOf, all_alike, has_i, has_j, has_k, in_parts, lies_level, normal, of_face, on, part_member}
+use Rattle.qh_laws_surface.proofs.{PlanePieces.part_turns, PlanePieces.parts, PlanePieces.piece, SharedCorners.same_face, SharedCorners.same_plane}
+use Rattle.qh_laws_surface.proofs.SpotFans.{InTriangle, Off, all_left, covered, covers_along, in_triangle, round_over}
+use Rattle.qh_laws_surface.proofs.SpotHeights.{above_along, all_level, along_height, off_line}
+use Rattle.qh_laws_surface.proofs.{SpotTriangles.over, SpotTriangles.over-odd, StepCounts.sum-append}
+use Rattle.qh_laws_surface.specs.contract.{Covering.IsOffLines, Covering.Spot, Covering.covers, Covering.spot_height, Covering.spot_turn, Measures.lies_in}
+use Rattle.qh_model.proofs.Common.{Bool, Decides-int_eq, In, IsAlong, List, Members, Vector, [], and_parts, ap, arith, cases_Bool, cond, count_by, cross, false}
+use Rattle.qh_model.proofs.Common.{false_from_ne_true, filter, flat_map, inl, inr, int_eq, ints, pos, refl, steps_round, subst, sym, true, vol, ℕ, ◌+◌, ◌∙◌}
+use Rattle.qh_model.proofs.{Common.◌∷◌, Common.◌≡◌, algebra.VectorIdentities.vol-first, closed_surfaces.Sums.count, closed_surfaces.Sums.count-is}
+use Rattle.qh_model.proofs.{closed_surfaces.Sums.sum_z, extremes.Directions.along_back, extremes.Directions.vol_along, extremes.Directions.zero_along}
 
 -- a spot that a piece covers lies in its plane
 pub covers_height : {at : ℕ → Vector} {A : ℕ → Type 0} {q : List ℕ} (p : PieceOf at A q) (s : Spot)

@@ -1,14 +1,13 @@
 -- The pieces of a surface of a solid cover each face once.
-use Rattle.qh_model.proofs.Common.{◌≡◌, ℕ, ◌≤◌, arith, refl, sym, subst, inl, inr, List, [], ◌∷◌, Bool, true, cases_Bool, and_parts, Decides-int_eq, int_eq}
-use Rattle.qh_model.proofs.Common.{count_by, pos, steps_round, IsFace, HasDistinctPoints, IsDimension, cross, In, Members, Vector}
-use Rattle.qh_model.proofs.{Decisions.Decided, Decisions.some_or_none, closed_surfaces.Sums.count, closed_surfaces.Sums.count-is}
 use Rattle.qh_check.specs.contract.Surfaces.{IsFaceSurface, IsHullSurface}
-use Rattle.qh_laws_surface.specs.contract.Measures.{lies_in}
-use Rattle.qh_laws_surface.specs.contract.Covering.{Spot, spot_height, covers, reaches, IsOffLines}
-use Rattle.qh_laws_surface.specs.laws.CoverLaws.{PiecesLieInFaces, SpotsLieInFaces, FacesAreCovered, PiecesAreApart, FacesAreCoveredOnce}
-use Rattle.qh_laws_surface.proofs.PlanePieces.{Begun, begun, piece_of, pieces_of, in_face, of_corners}
 use Rattle.qh_laws_surface.proofs.{Covered.covers_height, Covered.height_flat, Covered.one_covers, FaceSpots.none_right, FaceSpots.right_of}
-use Rattle.qh_laws_surface.proofs.WholeFaces.{face_reaches, inside_face, reached, covered_once}
+use Rattle.qh_laws_surface.proofs.PlanePieces.{Begun, begun, in_face, of_corners, piece_of, pieces_of}
+use Rattle.qh_laws_surface.proofs.WholeFaces.{covered_once, face_reaches, inside_face, reached}
+use Rattle.qh_laws_surface.specs.contract.{Covering.IsOffLines, Covering.Spot, Covering.covers, Covering.reaches, Covering.spot_height, Measures.lies_in}
+use Rattle.qh_laws_surface.specs.laws.CoverLaws.{FacesAreCovered, FacesAreCoveredOnce, PiecesAreApart, PiecesLieInFaces, SpotsLieInFaces}
+use Rattle.qh_model.proofs.Common.{Bool, Decides-int_eq, HasDistinctPoints, In, IsDimension, IsFace, List, Members, Vector, [], and_parts, arith, cases_Bool}
+use Rattle.qh_model.proofs.Common.{count_by, cross, inl, inr, int_eq, pos, refl, steps_round, subst, sym, true, ℕ, ◌∷◌, ◌≡◌, ◌≤◌}
+use Rattle.qh_model.proofs.{Decisions.Decided, Decisions.some_or_none, closed_surfaces.Sums.count, closed_surfaces.Sums.count-is}
 
 -- the count is 0 if no member passes a test
 pub none_counted : {X : Type 0} (p : X → Bool) (xs : List X) → ((x : X) → In x xs → ¬ (p x ≡ true)) → count p xs ≡ 0

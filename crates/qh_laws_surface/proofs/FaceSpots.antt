@@ -1,18 +1,17 @@
 -- Spots of a face: inside it, off all lines through two of its corners, and inside polygons whose corners are corners of the face.
-use Rattle.qh_model.proofs.Common.{◌⊎◌, ◌≡◌, ◌≢◌, ℕ, arith, refl, sym, ap, subst, ◌∙◌, inl, inr, List, [], ◌∷◌, Bool, true, not, map, cases_Bool, not-true}
-use Rattle.qh_model.proofs.Common.{Decides-int_eq, ints, by_lt_z, list_all, ℤ, pos, ◌+ℤ◌, ◌*ℤ◌, ◌≤ℤ◌, ◌<ℤ◌, int_lt, steps_round, Follows, cross, In, Vector}
-use Rattle.qh_model.proofs.Common.{dot}
+use Rattle.qh_laws.proofs.{Perturbed.Rises, Signs.above, Signs.above_is, Signs.is_above}
+use Rattle.qh_laws_surface.proofs.ConvexLists.{AllTurn, not_right, one_apart, polygon_turns, side_left}
+use Rattle.qh_laws_surface.proofs.NearSpots.{Near, form_level, near}
+use Rattle.qh_laws_surface.proofs.PlanePieces.{OverFace, all_pass, on, pass_all}
+use Rattle.qh_laws_surface.proofs.PlaneSpots.{between, between_level, between_turn, numbers, turn_form, turn_of}
+use Rattle.qh_laws_surface.proofs.{SpotFans.InTriangle, SpotFans.all_left, SpotFans.in_triangle, SpotTurns.spot_turn-back, SpotTurns.turns_mixed}
+use Rattle.qh_laws_surface.specs.contract.Covering.{IsOffLines, Spot, covers, spot_height, spot_turn}
+use Rattle.qh_model.proofs.Common.{Bool, Decides-int_eq, Follows, In, List, Vector, [], ap, arith, by_lt_z, cases_Bool, cross, dot, inl, inr, int_lt, ints}
+use Rattle.qh_model.proofs.Common.{list_all, map, not, not-true, pos, refl, steps_round, subst, sym, true, ℕ, ℤ, ◌*ℤ◌, ◌+ℤ◌, ◌<ℤ◌, ◌∙◌, ◌∷◌, ◌≡◌, ◌≢◌, ◌≤ℤ◌}
+use Rattle.qh_model.proofs.{Common.◌⊎◌, Members.each_of_three}
+use Rattle.qh_model.proofs.algebra.{Order.cancel-pos, Order.mul-nonneg, Order.mul-pos, Order.positive_le, VectorIdentities.dot-origin}
+use Rattle.qh_model.proofs.{lists.Images.in_map, lists.Images.of_map, lists.Joined.in_append, polygons.Neighbours.follows_members, polygons.Steps.on_round}
 use Rattle.qh_model.specs.headline.Predicates.{left}
-use Rattle.qh_model.proofs.{Members.each_of_three, lists.Joined.in_append}
-use Rattle.qh_model.proofs.{polygons.Neighbours.follows_members, algebra.VectorIdentities.dot-origin, lists.Images.of_map, lists.Images.in_map}
-use Rattle.qh_model.proofs.{polygons.Steps.on_round, algebra.Order.cancel-pos, algebra.Order.mul-nonneg, algebra.Order.mul-pos, algebra.Order.positive_le}
-use Rattle.qh_laws.proofs.{Perturbed.Rises, Signs.above, Signs.is_above, Signs.above_is}
-use Rattle.qh_laws_surface.proofs.ConvexLists.{one_apart, AllTurn, polygon_turns, side_left, not_right}
-use Rattle.qh_laws_surface.proofs.PlanePieces.{OverFace, on, all_pass, pass_all}
-use Rattle.qh_laws_surface.proofs.{SpotFans.all_left, SpotFans.InTriangle, SpotFans.in_triangle, NearSpots.Near, NearSpots.near, NearSpots.form_level}
-use Rattle.qh_laws_surface.proofs.SpotTurns.{spot_turn-back, turns_mixed}
-use Rattle.qh_laws_surface.proofs.PlaneSpots.{turn_form, numbers, turn_of, between, between_turn, between_level}
-use Rattle.qh_laws_surface.specs.contract.Covering.{Spot, spot_height, spot_turn, covers, IsOffLines}
 
 -- ---- tests
 -- true if the spot lies to the right of no step

@@ -1,10 +1,9 @@
 -- Areas of polygons, seen along a normal: by fans, and by the area that a corner sweeps along the steps.
-use Rattle.qh_model.proofs.Common.{◌≡◌, ℕ, arith, refl, ◌∙◌, inl, List, [], ◌∷◌, ints, flat_map, ℤ, pos, ◌+ℤ◌, ◌≤ℤ◌, ◌<ℤ◌, steps_along, steps_round, cross}
-use Rattle.qh_model.proofs.Common.{Vector}
-use Rattle.qh_model.specs.headline.Predicates.{left}
-use Rattle.qh_model.proofs.{closed_surfaces.Sums.sum_z, lists.Ordered.Ordered, algebra.Ring.ring, algebra.Ring.Expr.add}
-use Rattle.qh_model.proofs.algebra.VectorIdentities.{left-flip, vec, put, leftE}
 use Rattle.qh_laws_surface.proofs.{ConvexLists.AllTurn, ConvexLists.Turn, StepCounts.IsOdd, StepCounts.sum-append}
+use Rattle.qh_model.proofs.Common.{List, Vector, [], arith, cross, flat_map, inl, ints, pos, refl, steps_along, steps_round, ℕ, ℤ, ◌+ℤ◌, ◌<ℤ◌, ◌∙◌, ◌∷◌, ◌≡◌}
+use Rattle.qh_model.proofs.{Common.◌≤ℤ◌, algebra.Ring.ring, algebra.Ring.Expr.add, algebra.VectorIdentities.left-flip, algebra.VectorIdentities.leftE}
+use Rattle.qh_model.proofs.{algebra.VectorIdentities.put, algebra.VectorIdentities.vec, closed_surfaces.Sums.sum_z, lists.Ordered.Ordered}
+use Rattle.qh_model.specs.headline.Predicates.{left}
 
 -- the sum of the turns of the triangles of a and two neighbours each
 abbrev pub turns_along : (n : Vector) (at : ℕ → Vector) → ℕ → ℕ → List ℕ → ℤ

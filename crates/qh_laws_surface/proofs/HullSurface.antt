@@ -1,21 +1,20 @@
 -- The faces of a solid are a surface of its hull, and so are their fans. The polygons of a right body are a surface, too.
-use Rattle.qh_model.proofs.Common.{map, ◌≡◌, ℕ, ◌<◌, arith, refl, sym, ap, subst, ◌∙◌, inl, inr, List, [], ◌∷◌, ◌++◌, length, length-append, flat_map, pos}
-use Rattle.qh_model.proofs.Common.{◌≤ℤ◌, ℕ_discrete, dite, Triple, edges, HasDistinctPoints, steps_round, AreClosed, IsFace, IsDimension, triangles_along, fan}
-use Rattle.qh_model.proofs.Common.{fans, BodyValue, IsBody, AreFaces, IsFacePolygon, ArePolygons, cross, vol, In, Once, Members, IsSupportingTriple, Vector}
-use Rattle.qh_model.proofs.Common.{dot}
-use Rattle.qh_model.specs.headline.Predicates.{left}
-use Rattle.qh_model.proofs.{extremes.Dimensions.one_dimension, lists.Joined.of_flat_map, lists.Lexicographic.rising-ordered, algebra.Signs.less_differ}
-use Rattle.qh_model.proofs.{extremes.Directions.square-positive, polygons.Steps.faces_close, polygons.Steps.on_round, polygons.Steps.ordered_once}
-use Rattle.qh_model.proofs.lists.Images.{of_map}
-use Rattle.qh_model.proofs.polygons.{Edges.seen_from, Edges.one_face_a_step, PlaneTurns.level_along, PlaneTurns.level_volume}
-use Rattle.qh_model.proofs.algebra.{Order.cancel-nonpos, Order.mul-nonneg_nonpos, Order.positive_le, VectorIdentities.in_line-left}
+use Rattle.qh_check.proofs.FirstCorners.{HasFace, some_corners}
 use Rattle.qh_check.specs.contract.{Pieces.BeginsWith, Pieces.IsMetAlong, Pieces.IsPiece, Surfaces.IsFaceSurface, Surfaces.IsHullSurface}
-use Rattle.qh_check.proofs.FirstCorners.{some_corners, HasFace}
-use Rattle.qh_laws_surface.specs.laws.SurfaceLaws.{BodyIsSurface, FansAreSurface}
+use Rattle.qh_laws_surface.proofs.ConvexLists.{AllTurn, IsTurn, Next, Turn, next_members, next_ordered, polygon_turns, turned}
+use Rattle.qh_laws_surface.proofs.FanSteps.{IsEdgeOf, LongEnough, closed_triples, edges_flat, fans_edges, of_edges, once_fan, triples_along, triples_in}
 use Rattle.qh_laws_surface.proofs.{FirstFace.first_face, SharedCorners.shared_step}
-use Rattle.qh_laws_surface.proofs.ConvexLists.{Turn, turned, AllTurn, IsTurn, Next, next_members, next_ordered, polygon_turns}
-use Rattle.qh_laws_surface.proofs.FanSteps.{closed_triples, fans_edges, edges_flat, triples_in, triples_along, once_fan, of_edges, IsEdgeOf, LongEnough}
-use Rattle.qh_laws_surface.proofs.StepCounts.{Has, pair_ends, times, step_times, once_times, once_flat_map, once_firsts, step_firsts}
+use Rattle.qh_laws_surface.proofs.StepCounts.{Has, once_firsts, once_flat_map, once_times, pair_ends, step_firsts, step_times, times}
+use Rattle.qh_laws_surface.specs.laws.SurfaceLaws.{BodyIsSurface, FansAreSurface}
+use Rattle.qh_model.proofs.Common.{AreClosed, AreFaces, ArePolygons, BodyValue, HasDistinctPoints, In, IsBody, IsDimension, IsFace, IsFacePolygon}
+use Rattle.qh_model.proofs.Common.{IsSupportingTriple, List, Members, Once, Triple, Vector, [], ap, arith, cross, dite, dot, edges, fan, fans, flat_map, inl}
+use Rattle.qh_model.proofs.Common.{inr, length, length-append, map, pos, refl, steps_round, subst, sym, triangles_along, vol, ℕ, ℕ_discrete, ◌++◌, ◌<◌, ◌∙◌}
+use Rattle.qh_model.proofs.Common.{◌∷◌, ◌≡◌, ◌≤ℤ◌}
+use Rattle.qh_model.proofs.algebra.{Order.cancel-nonpos, Order.mul-nonneg_nonpos, Order.positive_le, Signs.less_differ, VectorIdentities.in_line-left}
+use Rattle.qh_model.proofs.extremes.{Dimensions.one_dimension, Directions.square-positive}
+use Rattle.qh_model.proofs.{lists.Images.of_map, lists.Joined.of_flat_map, lists.Lexicographic.rising-ordered, polygons.Edges.one_face_a_step}
+use Rattle.qh_model.proofs.polygons.{Edges.seen_from, PlaneTurns.level_along, PlaneTurns.level_volume, Steps.faces_close, Steps.on_round, Steps.ordered_once}
+use Rattle.qh_model.specs.headline.Predicates.{left}
 
 -- ---- three corners of a face that turn left
 module _ (at : ℕ → Vector) (ids : List ℕ) {i j k : ℕ} {F : List ℕ} (plane : IsSupportingTriple at (Members ids) i j k)

@@ -1,12 +1,11 @@
 -- Spots of a plane, given by three whole numbers or by weights of three corners. Their turns and heights are scalar products.
-use Rattle.qh_model.proofs.Common.{◌≡◌, ℕ, ◌<◌, arith, refl, sym, ap, ◌∙◌, [], ◌∷◌, ◌+◌, ints, ℤ, pos, ◌+ℤ◌, ◌*ℤ◌, ◌-ℤ◌, cross, vol, Vector, minus, dot}
-use Rattle.qh_model.proofs.Common.{cross_product}
+use Rattle.qh_laws_surface.proofs.SpotTurns.{cramer, left_way, turn_way, way_height}
+use Rattle.qh_laws_surface.specs.contract.Covering.{Spot, spot_height, spot_turn, way_to}
+use Rattle.qh_model.proofs.Common.{Vector, [], ap, arith, cross, cross_product, dot, ints, minus, pos, refl, sym, vol, ℕ, ℤ, ◌*ℤ◌, ◌+ℤ◌, ◌+◌, ◌-ℤ◌, ◌<◌, ◌∙◌}
+use Rattle.qh_model.proofs.{Common.◌∷◌, Common.◌≡◌, algebra.Integers.mul_add, algebra.Integers.zero_mul, algebra.Order.product_zero, algebra.Ring.ring}
+use Rattle.qh_model.proofs.algebra.Ring.Expr.{add, mul, sub as less, var}
+use Rattle.qh_model.proofs.algebra.VectorIdentities.{dotE, put, subE, vec, vol-dot, vol-first, vol-second, vol-third}
 use Rattle.qh_model.specs.headline.Predicates.{left}
-use Rattle.qh_model.proofs.algebra.{Integers.zero_mul, Integers.mul_add, Order.product_zero}
-use Rattle.qh_model.proofs.algebra.VectorIdentities.{vec, put, dotE, subE, vol-dot, vol-first, vol-second, vol-third}
-use Rattle.qh_model.proofs.algebra.Ring.{ring, Expr.var, Expr.add, Expr.mul, Expr.sub as less}
-use Rattle.qh_laws_surface.specs.contract.Covering.{Spot, way_to, spot_height, spot_turn}
-use Rattle.qh_laws_surface.proofs.SpotTurns.{turn_way, left_way, cramer, way_height}
 
 -- x, y and z
 abbrev pub triple : ℤ → ℤ → ℤ → Vector

@@ -1,19 +1,18 @@
 -- Equally many pieces cover two spots on both sides of a segment between corners of a face. So they take its steps equally often in both directions.
-use Rattle.qh_model.proofs.Common.{⊎_elim, ◌≡◌, ◌≢◌, ℕ, ◌+◌, ◌≤◌, arith, refl, sym, subst, ◌∙◌, inl, inr, ◌⊎◌, List, [], ◌∷◌, Bool, true, false}
-use Rattle.qh_model.proofs.Common.{false_from_ne_true, ints, flat_map, count_by, pos, ◌≤ℤ◌, ◌<ℤ◌, steps_round, Follows, cross, In, Once, Members, Vector}
-use Rattle.qh_model.specs.headline.Predicates.{left}
-use Rattle.qh_model.proofs.{Decisions.Decided, Decisions.same_id, polygons.Steps.on_round, closed_surfaces.Sums.count, closed_surfaces.Sums.count-is}
-use Rattle.qh_model.proofs.{lists.Ordered.Ordered, polygons.Neighbours.follows_members}
 use Rattle.qh_laws.proofs.{Crossings.number, Signs.above}
-use Rattle.qh_laws_surface.specs.contract.{Measures.lies_in, Covering.Spot, Covering.spot_height, Covering.spot_turn, Covering.covers, Covering.IsOffLines}
-use Rattle.qh_laws_surface.proofs.ConvexLists.{AllTurn, Turn, side_left, turned, not_first, not_second, first_two, no_back, not_right, third_corner}
-use Rattle.qh_laws_surface.proofs.PlanePieces.{PieceOf, third, OverFace, on, parts, piece, in_parts, part_member, part_turns, all_alike, kept_alike}
-use Rattle.qh_laws_surface.proofs.PlanePieces.{diagonal_kept, side_kept, none_back}
-use Rattle.qh_laws_surface.proofs.StepCounts.{times, times-more, none_there, taken, not_taken, Beside, follows_or_not}
-use Rattle.qh_laws_surface.proofs.{CoveredFaces.none_counted, SegmentSpots.to_left, SegmentSpots.to_right, SegmentSpots.both_left, SegmentSpots.agree}
-use Rattle.qh_laws_surface.proofs.SpotFans.{all_left}
-use Rattle.qh_laws_surface.proofs.{SpotHeights.above_alike, SpotTurns.spot_turn-back, Covered.covers_flat, Covered.covers_other, Covered.count_parts}
-use Rattle.qh_laws_surface.proofs.FaceSpots.{left_of, of_left, turns, covers_face, off_lines, inside_side}
+use Rattle.qh_laws_surface.proofs.ConvexLists.{AllTurn, Turn, first_two, no_back, not_first, not_right, not_second, side_left, third_corner, turned}
+use Rattle.qh_laws_surface.proofs.{Covered.count_parts, Covered.covers_flat, Covered.covers_other, CoveredFaces.none_counted}
+use Rattle.qh_laws_surface.proofs.FaceSpots.{covers_face, inside_side, left_of, of_left, off_lines, turns}
+use Rattle.qh_laws_surface.proofs.PlanePieces.{OverFace, PieceOf, all_alike, diagonal_kept, in_parts, kept_alike, none_back, on, part_member, part_turns, parts}
+use Rattle.qh_laws_surface.proofs.{PlanePieces.piece, PlanePieces.side_kept, PlanePieces.third, SegmentSpots.agree, SegmentSpots.both_left}
+use Rattle.qh_laws_surface.proofs.{SegmentSpots.to_left, SegmentSpots.to_right, SpotFans.all_left, SpotHeights.above_alike, SpotTurns.spot_turn-back}
+use Rattle.qh_laws_surface.proofs.StepCounts.{Beside, follows_or_not, none_there, not_taken, taken, times, times-more}
+use Rattle.qh_laws_surface.specs.contract.{Covering.IsOffLines, Covering.Spot, Covering.covers, Covering.spot_height, Covering.spot_turn, Measures.lies_in}
+use Rattle.qh_model.proofs.Common.{Bool, Follows, In, List, Members, Once, Vector, [], arith, count_by, cross, false, false_from_ne_true, flat_map, inl, inr}
+use Rattle.qh_model.proofs.Common.{ints, pos, refl, steps_round, subst, sym, true, ℕ, ⊎_elim, ◌+◌, ◌<ℤ◌, ◌∙◌, ◌∷◌, ◌≡◌, ◌≢◌, ◌≤ℤ◌, ◌≤◌, ◌⊎◌}
+use Rattle.qh_model.proofs.{Decisions.Decided, Decisions.same_id, closed_surfaces.Sums.count, closed_surfaces.Sums.count-is, lists.Ordered.Ordered}
+use Rattle.qh_model.proofs.polygons.{Neighbours.follows_members, Steps.on_round}
+use Rattle.qh_model.specs.headline.Predicates.{left}
 
 -- ---- lists in which each three, in order, turn left have each member once
 once_ordered : (n : Vector) (at : ℕ → Vector) (a : ℕ) (q : List ℕ) → Ordered (Turn n at a) q → Once q

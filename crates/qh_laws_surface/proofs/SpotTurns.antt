@@ -1,13 +1,12 @@
 -- The turns of a spot about the corners of a polygon, and the relations between them.
-use Rattle.qh_model.proofs.Common.{◌≡◌, ℕ, arith, refl, sym, ap, ◌∙◌, [], ◌∷◌, ints, ◌-ℤ◌, ℤ, pos, ◌+ℤ◌, ◌*ℤ◌, neg_ℤ, ◌<ℤ◌, cross, minus, Vector, dot}
-use Rattle.qh_model.proofs.Common.{cross_product}
-use Rattle.qh_model.specs.headline.Predicates.{left}
-use Rattle.qh_model.proofs.algebra.Ring.{ring, Expr, Expr.var, Expr.add, Expr.mul, Expr.neg, Expr.con, Expr.sub as less}
-use Rattle.qh_model.proofs.algebra.Order.{product_zero}
-use Rattle.qh_model.proofs.algebra.VectorIdentities.{dot-minus, left-linear, VE, vec, put, dotE, crossE, subE, leftE}
-use Rattle.qh_polygon.proofs.LinesAndPlanes.{between_eq}
 use Rattle.qh_laws_surface.proofs.ConvexLists.{none_back}
-use Rattle.qh_laws_surface.specs.contract.Covering.{Spot, way_to, spot_turn}
+use Rattle.qh_laws_surface.specs.contract.Covering.{Spot, spot_turn, way_to}
+use Rattle.qh_model.proofs.Common.{Vector, [], ap, arith, cross, cross_product, dot, ints, minus, neg_ℤ, pos, refl, sym, ℕ, ℤ, ◌*ℤ◌, ◌+ℤ◌, ◌-ℤ◌, ◌<ℤ◌, ◌∙◌, ◌∷◌}
+use Rattle.qh_model.proofs.{Common.◌≡◌, algebra.Order.product_zero}
+use Rattle.qh_model.proofs.algebra.Ring.{Expr, ring, Expr.add, Expr.con, Expr.mul, Expr.neg, Expr.sub as less, Expr.var}
+use Rattle.qh_model.proofs.algebra.VectorIdentities.{VE, crossE, dot-minus, dotE, left-linear, leftE, put, subE, vec}
+use Rattle.qh_model.specs.headline.Predicates.{left}
+use Rattle.qh_polygon.proofs.LinesAndPlanes.{between_eq}
 
 -- the vector from a corner to the spot, as expressions: the spot is vector 1, its scale the variable k
 abbrev toE : ℕ → VE → VE

@@ -1,21 +1,20 @@
 -- The pieces reach every spot of a face and no other spot, and no spot lies strictly inside two of them.
-use Rattle.qh_model.proofs.Common.{◌≡◌, ℕ, ◌<◌, ◌≤◌, arith, refl, sym, ap, subst, ◌∙◌, inl, inr, List, [], ◌∷◌, Bool, true, false, cases_Bool, and_parts}
-use Rattle.qh_model.proofs.Common.{Decides-int_eq, ints, by_lt_z, int_eq, count_by, pos, ◌≤ℤ◌, steps_round, Follows, In, Members, Vector, minus, dot, origin}
-use Rattle.qh_model.proofs.Common.{cross, vol}
-use Rattle.std.proofs.lemmas.Bool.{true_from_ne_false}
-use Rattle.qh_model.specs.headline.Predicates.{left}
-use Rattle.qh_model.proofs.{Decisions.Decided, Decisions.same_vector, closed_surfaces.Sums.count, closed_surfaces.Sums.count-is, extremes.Directions.along_back}
-use Rattle.qh_model.proofs.{algebra.Order.product_zero, algebra.VectorIdentities.vol-dot, polygons.Neighbours.follows_members}
-use Rattle.qh_polygon.proofs.LinesAndPlanes.{between_eq}
 use Rattle.qh_check.specs.contract.Surfaces.{IsFaceSurface}
-use Rattle.qh_laws_surface.specs.contract.{Measures.lies_in, Covering.Spot, Covering.spot_height, Covering.spot_turn, Covering.covers, Covering.reaches}
-use Rattle.qh_laws_surface.proofs.{ConvexLists.AllTurn, SharedCorners.same_face, SpotFans.all_left, SpotFans.InTriangle, SpotFans.in_triangle}
-use Rattle.qh_laws_surface.proofs.PlanePieces.{PieceOf, normal, OverFace, on, piece, lies_member, lies_turns, of_face, follows_apart}
-use Rattle.qh_laws_surface.proofs.{PlaneSpots.turn_form, PlaneSpots.height_form, PlaneSpots.height_of, SpotHeights.not_right_along, SpotHeights.not_above_plane}
-use Rattle.qh_laws_surface.proofs.{SpotTurns.spot_turn-back, NearSpots.near_one, NearSpots.Near, NearSpots.near, NearSpots.form_some, NearSpots.form_level}
-use Rattle.qh_laws_surface.proofs.Covered.{covers_height, covers_flat, covers_other, flat_along, flat_height, height_flat, one_covers}
-use Rattle.qh_laws_surface.proofs.FaceSpots.{IsLeft, IsNotRight, none_right, left_of, of_left, right_of, of_right, turns, covers_face, off_lines, inside_side}
-use Rattle.qh_laws_surface.proofs.FaceSpots.{moved, moved_left, not_beyond}
+use Rattle.qh_laws_surface.proofs.{ConvexLists.AllTurn, Covered.covers_flat, Covered.covers_height, Covered.covers_other, Covered.flat_along}
+use Rattle.qh_laws_surface.proofs.{Covered.flat_height, Covered.height_flat, Covered.one_covers, FaceSpots.IsLeft, FaceSpots.IsNotRight, FaceSpots.covers_face}
+use Rattle.qh_laws_surface.proofs.FaceSpots.{inside_side, left_of, moved, moved_left, none_right, not_beyond, of_left, of_right, off_lines, right_of, turns}
+use Rattle.qh_laws_surface.proofs.NearSpots.{Near, form_level, form_some, near, near_one}
+use Rattle.qh_laws_surface.proofs.PlanePieces.{OverFace, PieceOf, follows_apart, lies_member, lies_turns, normal, of_face, on, piece}
+use Rattle.qh_laws_surface.proofs.{PlaneSpots.height_form, PlaneSpots.height_of, PlaneSpots.turn_form, SharedCorners.same_face, SpotFans.InTriangle}
+use Rattle.qh_laws_surface.proofs.{SpotFans.all_left, SpotFans.in_triangle, SpotHeights.not_above_plane, SpotHeights.not_right_along, SpotTurns.spot_turn-back}
+use Rattle.qh_laws_surface.specs.contract.{Covering.Spot, Covering.covers, Covering.reaches, Covering.spot_height, Covering.spot_turn, Measures.lies_in}
+use Rattle.qh_model.proofs.Common.{Bool, Decides-int_eq, Follows, In, List, Members, Vector, [], and_parts, ap, arith, by_lt_z, cases_Bool, count_by, cross}
+use Rattle.qh_model.proofs.Common.{dot, false, inl, inr, int_eq, ints, minus, origin, pos, refl, steps_round, subst, sym, true, vol, ℕ, ◌<◌, ◌∙◌, ◌∷◌, ◌≡◌}
+use Rattle.qh_model.proofs.{Common.◌≤ℤ◌, Common.◌≤◌, Decisions.Decided, Decisions.same_vector, algebra.Order.product_zero, algebra.VectorIdentities.vol-dot}
+use Rattle.qh_model.proofs.{closed_surfaces.Sums.count, closed_surfaces.Sums.count-is, extremes.Directions.along_back, polygons.Neighbours.follows_members}
+use Rattle.qh_model.specs.headline.Predicates.{left}
+use Rattle.qh_polygon.proofs.LinesAndPlanes.{between_eq}
+use Rattle.std.proofs.lemmas.Bool.{true_from_ne_false}
 
 -- ---- counts
 -- a test that some member passes has a count of at least one

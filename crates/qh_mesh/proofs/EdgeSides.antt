@@ -1,9 +1,9 @@
 -- Half-edges by their facet and side.
-use Rattle.std.proofs.Common.{◌≡◌, ℕ, suc, ◌/◌, ◌%◌, ◌<◌, arith, ap, sym, ◌∙◌, refl, subst, List}
+use Rattle.std.proofs.Common.{◌≡◌, ℕ, ◌/◌, ◌%◌, ◌<◌, arith, sym, ◌∙◌, refl, subst, List}
 use Rattle.qh_model.specs.contract.StoredSurface.{StoredFacet, facet_at, surface_of}
 use Rattle.qh_model.specs.contract.Surface.{Side, start, end, Side.first, Side.second, Side.third}
 use Rattle.qh_mesh.specs.contract.Edges.{edge_end, edge_of, edge_start, nth_side, side_no, side_of_edge, twin_of}
-use Rattle.qh_mesh.specs.{contract.Replacement.IsLive, declared.facets.FacetSide.FacetSide}
+use Rattle.qh_mesh.specs.{contract.Replacement.IsLive}
 use Rattle.qh_mesh.specs.steps.{Horizons.edge_side, Kept.outer_of, Kept.side_of, Twins.HasTwin, Twins.HasTwins}
 
 -- an edge given by its facet and side belongs to that facet
@@ -12,14 +12,11 @@ edge-facet f = elim [ first ↦ omega arith | second ↦ omega arith | third ↦
 
 -- and is that side
 pub edge-side : (f : ℕ) (s : Side) → side_of_edge (edge_of f s) ≡ s
-edge-side f first = ap nth_side (let e : edge_of f first % 3 ≡ 0 = omega arith in e)
-edge-side f second = ap nth_side (let e : edge_of f second % 3 ≡ 1 = omega arith in e)
-edge-side f third = ap nth_side (let e : edge_of f third % 3 ≡ 2 = omega arith in e)
+edge-side = grind arith
 
 -- the side of an edge is given by the remainder of its number
 pub side_left_over : (r : ℕ) → r < 3 → side_no (nth_side r) ≡ r
-side_left_over (suc (suc (suc r))) l = absurd (omega arith)
-side_left_over r l = refl
+side_left_over = grind arith
 
 -- each edge is that of its facet and side
 pub edge_is : (x : ℕ) → edge_of (x / 3) (side_of_edge x) ≡ x
@@ -55,12 +52,7 @@ module _ (fs : List StoredFacet) (f : ℕ) where
 
 -- the entry of an edge is that side of its facet
 pub side-is : (fs : List StoredFacet) (e : ℕ) → edge_side fs e ≡ side_of (facet_at fs (e / 3)) (side_of_edge e)
-side-is fs e = elim (side_of_edge e) as (λ s. let t = facet_at fs (e / 3) in let m = surface_of fs in
-    let is : FacetSide = record { from = start m (e / 3) s; to = end m (e / 3) s; outer = outer_of t s } in is ≡ side_of t s) [
-      | first ↦ refl
-      | second ↦ refl
-      | third ↦ refl
-    ]
+side-is = grind arith
 
 pub noted-is : (fs : List StoredFacet) (f : ℕ) (s : Side) → edge_side fs (edge_of f s) ≡ side_of (facet_at fs f) s
 noted-is fs f s = side-is fs (edge_of f s) ∙ (λ i. side_of (facet_at fs (edge-facet f s i)) (edge-side f s i))

@@ -1,12 +1,11 @@
 -- A replacement decreases the signed volume: at the apex the contribution of a remaining facet is unchanged, that of a facet of the cone is 0, and that of a
 -- removed facet was above 0.
-use Rattle.qh_model.proofs.Common.{◌≡◌, ℕ, zero, suc, ◌+◌, arith, ap, ◌∙◌, refl, subst, true, false, cond, inl, inr, List, [], ◌∷◌, slice_index, zero-add}
-use Rattle.qh_model.proofs.Common.{cases_Bool, both_ways, ints, ℤ, pos, ◌+ℤ◌, ◌<ℤ◌, ◌≤ℤ◌, signed_volume, triples_from, triples_of, middle_at, StoredFacet}
-use Rattle.qh_model.proofs.Common.{facet_at, live_from, surface_of, Surface, vol, In, Vector}
-use Rattle.qh_model.proofs.Members.{in_at, In-get_or}
-use Rattle.qh_model.proofs.{algebra.Signs.less_le, algebra.Signs.equal_le, algebra.VectorIdentities.vol-third, closed_surfaces.SignedVolume.volume_is_constant}
-use Rattle.qh_mesh.specs.contract.{Replacement.is_listed, Replacement.IsKept, SoundMesh.facet_vol, SoundMesh.IsSoundMesh, SoundMesh.AreVisible}
 use Rattle.qh_mesh.proofs.{ListedFacets.in_listed, ListedFacets.listed_live, Rewiring.IsStep, SoundMeshes.closed_of, SoundMeshes.step_is_closed}
+use Rattle.qh_mesh.specs.contract.{Replacement.IsKept, Replacement.is_listed, SoundMesh.AreVisible, SoundMesh.IsSoundMesh, SoundMesh.facet_vol}
+use Rattle.qh_model.proofs.Common.{In, List, StoredFacet, Surface, Vector, [], ap, arith, both_ways, cases_Bool, cond, facet_at, false, ints, live_from}
+use Rattle.qh_model.proofs.Common.{middle_at, pos, refl, signed_volume, slice_index, suc, surface_of, triples_from, triples_of, true, vol, zero, zero-add, ℕ, ℤ}
+use Rattle.qh_model.proofs.{Common.◌+ℤ◌, Common.◌+◌, Common.◌<ℤ◌, Common.◌∙◌, Common.◌∷◌, Common.◌≡◌, Common.◌≤ℤ◌, Members.In-get_or, Members.in_at}
+use Rattle.qh_model.proofs.{algebra.Signs.equal_le, algebra.Signs.less_le, algebra.VectorIdentities.vol-third, closed_surfaces.SignedVolume.volume_is_constant}
 
 -- ---- sums over live places
 -- the sum of the contributions of the live places of a list
@@ -59,35 +58,20 @@ module _ (old new : List StoredFacet) (vs : List ℕ) (p : ℕ) (made : List ℕ
 
   -- a facet of the cone has the apex as a corner
   cone_part : (f : ℕ) → In f made → facet_vol at new f (at p) ≡ pos 0
-  cone_part f i =
-      let j = in_at made f i in
-      let third = subst (λ g. (facet_at new g).k ≡ p) j.2 (d.replaced.cone j.0 j.1).third in
-      rw third (vol-third (at (facet_at new f).i) (at (facet_at new f).j) (at p))
+  cone_part = grind (arith, in_at, vol-third)
 
   -- so a place without a remaining facet contributes 0
   other_part : (f : ℕ) → ¬ (IsKept old vs f) → after f ≡ pos 0
-  other_part f n = elim (cases_Bool (facet_at new f).live) [
-    | inr u ↦ rw u refl
-    | inl l ↦ elim (d.replaced.only f l) [ inl k ↦ absurd (n k) | inr i ↦ rw l (cone_part f i) ]
-  ]
+  other_part = grind (arith, cases_Bool, cone_part)
 
   module _ (visible : AreVisible at old vs p) where
     -- a removed facet contributed more
     gone_part : (f : ℕ) → is_listed vs f ≡ true → after f <ℤ before f
-    gone_part f e =
-        let l = listed_live old vs d.facets f e in
-        rw (other_part f (λ k. both_ways (is_listed vs f) k.unlisted e), l) (visible.seen f l e)
+    gone_part = grind (arith, listed_live, other_part, both_ways)
 
     -- no contribution increases: that of a remaining facet is unchanged
     no_more : (f : ℕ) → after f ≤ℤ before f
-    no_more f = elim (cases_Bool (is_listed vs f)) [
-      | inl e ↦ less_le (after f) (before f) (gone_part f e)
-      | inr u ↦ elim (cases_Bool (facet_at old f).live) [
-        | inl l ↦ (let s = d.replaced.kept f (record { live = l; unlisted = u }) in
-            equal_le (after f) (before f) (rw (s.live, l, s.i_is, s.j_is, s.k_is) refl))
-        | inr b ↦ equal_le (after f) (before f) (other_part f (λ k. both_ways (facet_at old f).live b k.live) ∙ rw b refl)
-      ]
-    ]
+    no_more = grind (arith, cases_Bool, less_le, gone_part, equal_le, other_part, both_ways)
 
     -- so the volume with the apex falls
     falls_at_apex : signed_volume at (triples_of (surface_of new)) (at p) <ℤ signed_volume at (triples_of (surface_of old)) (at p)

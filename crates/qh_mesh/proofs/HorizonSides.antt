@@ -1,16 +1,16 @@
 -- The horizon of listed facets: its edges, its balance, and how it is collected.
-use Rattle.qh_model.proofs.Common.{◌≡◌, ℕ, ◌+◌, ◌/◌, ◌<◌, ◌≤◌, arith, ap, sym, ◌∙◌, refl, subst, Bool, true, false, cond, not, inl, inr, List, [], ◌∷◌, All}
+use Rattle.qh_model.proofs.Common.{◌≡◌, ℕ, ◌+◌, ◌/◌, ◌<◌, ◌≤◌, arith, ap, sym, ◌∙◌, refl, subst, Bool, true, false, not, List, [], ◌∷◌, All}
 use Rattle.qh_model.proofs.Common.{length, map, slice_index, cases_Bool, not-true, sum_by-cons, filter, count_by, flat_map, StoredFacet, facet_at, Side, first}
 use Rattle.qh_model.proofs.Common.{second, third, In}
 use Rattle.std.proofs.lemmas.{Bool.not_from_false, List.Filters.sum_by-filter_both}
 use Rattle.qh_model.proofs.{Members.All-In, Members.All-of, Members.In-get_or, Members.in_at, lists.Counts.count-map, lists.Counts.count_twins}
 use Rattle.qh_model.proofs.lists.{Filters.in_filter, Filters.of_filter, Filters.once_filter, Filters.filter_image, OnceEach.once_place}
 use Rattle.qh_model.proofs.surfaces.Stored.{live_inside}
-use Rattle.qh_mesh.specs.{contract.Edges.edge_of, contract.Edges.facet_of, contract.Edges.side_of_edge, contract.Edges.twin_of, steps.Surfaces.IsSurface}
+use Rattle.qh_mesh.specs.{contract.Edges.edge_of, contract.Edges.facet_of, contract.Edges.twin_of, steps.Surfaces.IsSurface}
 use Rattle.qh_mesh.specs.contract.Replacement.{sides_of, is_listed, horizon, IsLive, AreFacets, IsKept}
 use Rattle.qh_mesh.specs.{declared.slots.End.End, declared.slots.End.TheVariants.Start, declared.slots.End.TheVariants.Finish, steps.Places.Removed}
 use Rattle.qh_mesh.specs.steps.Horizons.{corner, other, edge_side, IsBalanced, HasSidesInside, is_open, three_sides, open_sides}
-use Rattle.qh_mesh.specs.steps.{Kept.side_of, Kept.outer_of, Kept.is_live, Kept.removed, Twins.HasTwin, Twins.HasTwins}
+use Rattle.qh_mesh.specs.steps.{Kept.outer_of, Kept.removed, Twins.HasTwin, Twins.HasTwins}
 use Rattle.qh_mesh.proofs.{EdgeSides.edge-facet, EdgeSides.twin-is, EdgeSides.side-is, EdgeSides.noted-is, Mates.meets}
 use Rattle.qh_mesh.proofs.ListedFacets.{listed_live, in_sides, of_sides, once_sides, in_listed, listed_in, unlisted_at}
 
@@ -34,8 +34,7 @@ module _ (old : List StoredFacet) (vs : List ℕ) where
 
   -- so its twin is an edge of a remaining facet
   pub horizon_twin : HasTwins old → AreFacets old vs → (j : ℕ) → j < length (horizon old vs) → HasTwin old (edge j) × IsKept old vs (twin_of old (edge j) / 3)
-  horizon_twin t a j l =
-      let h = on_horizon j l in let q = t (edge j) (listed_live old vs a (edge j / 3) h.0) in (q, record { live = q.live; unlisted = h.1 })
+  horizon_twin = grind (arith, on_horizon, listed_live)
 
   -- each such edge is on the horizon
   pub horizon_at : (x : ℕ) → is_listed vs (x / 3) ≡ true → inner x ≡ false → (j : ℕ) × (j < length (horizon old vs)) × (edge j ≡ x)
@@ -76,10 +75,7 @@ module _ (fs : List StoredFacet) (vs : List ℕ) (t : HasTwins fs) (a : AreFacet
   -- so on the horizon too
   balance : (end : End) → count_by (meet end) inside + count_by (meets end l) (map (edge_side fs) (horizon fs vs))
       ≡ count_by (meets end l) (flat_map (λ v. three_sides (facet_at fs v)) vs)
-  balance end =
-      rw (count-map (edge_side fs) (meets end l) (horizon fs vs))
-      (sum_by-filter_both (inner fs vs) (leaves fs vs) (λ e. refl) (λ e. cond (meet end e) 1 0) (sides_of vs)
-      ∙ sym (count-map (edge_side fs) (meets end l) (sides_of vs)) ∙ ap (count_by (meets end l)) (sides_are fs vs))
+  balance = grind (arith, count-map, meets, sum_by-filter_both, sides_are)
 
 -- the horizon of facets of a surface is balanced
 pub horizon_balanced : (fs : List StoredFacet) (vs : List ℕ) → HasTwins fs → AreFacets fs vs → IsBalanced (map (edge_side fs) (horizon fs vs))
@@ -111,15 +107,7 @@ module _ (old cleared : List StoredFacet) (vs : List ℕ) (r : Removed old clear
 
     -- the entry of a side of a listed facet, which is open if the facet across remains
     noted : (e : ℕ) → In e (sides_of vs) → (edge_side cleared e ≡ edge_side old e) × (is_open cleared (edge_side cleared e) ≡ leaves old vs e)
-    noted e i =
-        let l = of_sides vs e i in let o = twin_of old e / 3 in
-        let same = side-is cleared e ∙ ap (λ t. side_of t (side_of_edge e)) (gone (e / 3) l) ∙ sym (side-is old e) in (
-          same,
-          ap (is_open cleared) same ∙ elim (cases_Bool (inner old vs e)) [
-            | inl h ↦ ap is_live (gone o h) ∙ sym (ap not h)
-            | inr h ↦ ap is_live (stays o h) ∙ (s.twins e (listed_live old vs a (e / 3) l)).live ∙ sym (ap not h)
-          ],
-        )
+    noted = grind (arith, of_sides, side-is, gone, cases_Bool, stays, listed_live)
 
     -- so the horizon is collected
     pub gathered : open_sides cleared vs ≡ map (edge_side old) (horizon old vs)

@@ -24,8 +24,7 @@ unlisted_at vs f u j l e = both_ways (is_listed vs f) u (in_listed vs f (subst (
 
 -- one more facet, which is not in the list
 pub once_push : (vs : List ℕ) (f : ℕ) → Once vs → ¬ (In f vs) → Once (vs ++ f ∷ [])
-once_push vs f o n = once_append vs (f ∷ []) o ((λ i. i), tt)
-    (λ v i. elim [ inl e ↦ n (subst (λ u. In u vs) e i) | inr j ↦ j ])
+once_push = grind (arith, once_append)
 
 -- without repetition, no two positions have the same facet
 pub once_apart : (vs : List ℕ) → Once vs → (i j : ℕ) → i < j → j < length vs → slice_index vs i ≢ slice_index vs j

@@ -30,10 +30,7 @@ module _ (hs : List FacetSide) where
 
   -- and no other one
   pub mate_only : (end : End) (j i i' : ℕ) → IsMate hs end j i → IsMate hs end j i' → i ≡ i'
-  mate_only end j i i' m m' =
-      let c = corner end (side_at hs j) in
-      counted_apart (meets (other end) c) no_side hs i i' m.inside m'.inside (eq-eqb (corner (other end) (side_at hs i)) c m.meets)
-      (eq-eqb (corner (other end) (side_at hs i')) c m'.meets) (m.rank ∙ sym m'.rank)
+  mate_only = grind (arith, counted_apart, eq-eqb)
 
   -- each side is the mate of its mate
   mate_back : (end : End) (j i : ℕ) → j < length hs → IsMate hs end j i → IsMate hs (other end) i j

@@ -1,5 +1,5 @@
 -- A surface remains one if its corners are renamed.
-use Rattle.qh_model.proofs.Common.{◌≡◌, ℕ, ◌/◌, ap, sym, ◌∙◌, refl, List, map, reverse, length-map, named_facet, StoredFacet, facet_at}
+use Rattle.qh_model.proofs.Common.{◌≡◌, ℕ, ◌/◌, refl, List, map, reverse, length-map, named_facet, StoredFacet, facet_at, arith}
 use Rattle.qh_model.proofs.{lists.Counts.count-map, surfaces.Stored.in_live}
 use Rattle.qh_model.proofs.surfaces.Named.{stored_named, stored_part, start_named, end_named}
 use Rattle.qh_mesh.specs.contract.{Edges.edge_end, Edges.edge_start, Edges.side_of_edge, Edges.twin_of, Replacement.IsLive}
@@ -24,14 +24,7 @@ module _ (name : ℕ → ℕ) (fs : List StoredFacet) where
   live_stays f = stored_part name is_live fs f (λ t. refl)
 
   named_twins : HasTwins fs → HasTwins named
-  named_twins t e l =
-      let m = sym (live_stays (e / 3)) ∙ l in let h = t e m in let x = twin_of fs e in
-      record {
-        live = rw (twin_stays e) (live_stays (x / 3) ∙ h.live);
-        back = rw (twin_stays e) (twin_stays x ∙ h.back);
-        starts = rw (twin_stays e) (named_start x h.live ∙ ap name h.starts ∙ sym (named_end e m));
-        ends = rw (twin_stays e) (named_end x h.live ∙ ap name h.ends ∙ sym (named_start e m));
-      }
+  named_twins = grind (arith, live_stays, twin_stays, named_start, named_end)
 
   -- so the surface remains one
   pub named_surface : (free : List ℕ) → IsSurface fs free → IsSurface named free

@@ -1,7 +1,7 @@
 -- The free places, as they are allocated and freed.
-use Rattle.qh_model.proofs.Common.{◌≡◌, ◌≢◌, ℕ, ◌<◌, ◌≤◌, inl, inr, max, arith, ap, sym, ◌∙◌, refl, subst, Bool, true, false, cond, List, [], ◌∷◌, ◌++◌, length}
+use Rattle.qh_model.proofs.Common.{◌≡◌, ◌≢◌, ℕ, ◌<◌, ◌≤◌, inl, inr, max, arith, ap, sym, ◌∙◌, Bool, true, false, cond, List, [], ◌∷◌, ◌++◌, length}
 use Rattle.qh_model.proofs.Common.{reverse, set, both_ways, cases_lt, get_or_append_left, get_or_push, length_push, length-set, get_or-set_same}
-use Rattle.qh_model.proofs.Common.{get_or-set_other, append_assoc, reverse-append, append-nil, sum_by-set, StoredFacet, facet_at, no_facet, surface_of, In}
+use Rattle.qh_model.proofs.Common.{get_or-set_other, append_assoc, reverse-append, append-nil, sum_by-set, StoredFacet, facet_at, no_facet, surface_of}
 use Rattle.std.proofs.lemmas.List.{length-reverse, Sums.sum_by_push}
 use Rattle.qh_model.proofs.{lists.Joined.of_append, lists.Joined.once_append, surfaces.Stored.live_inside, surfaces.Stored.live_len}
 use Rattle.qh_mesh.specs.{contract.Replacement.IsLive, steps.Kept.is_live, steps.Places.IsPool, steps.Places.IsVacant, steps.Places.live_count}
@@ -17,33 +17,16 @@ vacant_set fs v t w n h = (rw (length-set fs v t) h.0, ap is_live (get_or-set_ot
 module _ (fs : List StoredFacet) (places : List ℕ) (v : ℕ) (t : StoredFacet) where
   -- the place of a removed facet becomes free
   pub pool_more : IsPool fs places → IsLive fs v → t.live ≡ false → IsPool (set fs v t) (v ∷ places)
-  pool_more q l e =
-      let inside = live_inside fs v l in let n = length-set fs v t in
-      let apart = λ (w : ℕ) (i : In w places) (d : w ≡ v).
-      both_ways (facet_at fs v).live (ap (λ g. (facet_at fs g).live) (sym d) ∙ (q.vacant w i).1) l in
-      record {
-        once = ((λ i. apart v i refl), q.once);
-        vacant = λ w. elim [
-          | inl d ↦ subst (IsVacant (set fs v t)) (sym d)
-              (rw n inside, ap is_live (get_or-set_same fs v t no_facet inside) ∙ e)
-          | inr i ↦ vacant_set fs v t w (apart w i) (q.vacant w i)
-        ];
-        count = omega (arith, q.count, rw l at (sum_by-set (λ t. one t.live) fs v t no_facet inside), ap one e);
-      }
+  pool_more = grind (arith, live_inside, length-set, both_ways, get_or-set_same, vacant_set, sum_by-set)
 
   -- a new facet takes one place
   pub pool_less : IsPool fs (v ∷ places) → t.live ≡ true → IsPool (set fs v t) places
-  pool_less q e = let h = q.vacant v (inl refl) in let n = length-set fs v t in record {
-    once = q.once.1;
-    vacant = λ w i. vacant_set fs v t w (λ d. q.once.0 (subst (λ u. In u places) d i)) (q.vacant w (inr i));
-    count = omega (arith, q.count, rw h.1 at (sum_by-set (λ t. one t.live) fs v t no_facet h.0), ap one e);
-  }
+  pool_less = grind (arith, length-set, vacant_set, sum_by-set)
 
 -- facets with the same marks have the same free places
 pub pool_same : (fs gs : List StoredFacet) (places : List ℕ) → length gs ≡ length fs
     → ((f : ℕ) → (facet_at gs f).live ≡ (facet_at fs f).live) → live_count gs ≡ live_count fs → IsPool fs places → IsPool gs places
-pool_same fs gs places n s c q =
-    record { once = q.once; vacant = λ v i. (rw n (q.vacant v i).0, s v ∙ (q.vacant v i).1); count = let d = q.count in omega arith }
+pool_same = grind arith
 
 -- the number of free places is at most the number of places
 pub few_free : (fs : List StoredFacet) (free : List ℕ) → IsPool fs (reverse free) → length free ≤ length fs
@@ -52,8 +35,7 @@ few_free fs free q = let c = q.count in let e = length-reverse free in omega ari
 -- allocating a free place leaves a pool
 pub pool_pops : (fs : List StoredFacet) (made free : List ℕ) (p : ℕ) → IsPool fs (made ++ reverse (free ++ p ∷ []))
     → IsPool fs ((made ++ p ∷ []) ++ reverse free)
-pool_pops fs made free p q = subst (IsPool fs)
-    (ap (λ xs. made ++ xs) (reverse-append free (p ∷ [])) ∙ sym (append_assoc made (p ∷ []) (reverse free))) q
+pool_pops = grind (arith, reverse-append, append_assoc)
 
 -- so does allocating one more place at the end
 pub pool_grows : (fs : List StoredFacet) (made : List ℕ) (p : ℕ) → p ≡ length fs → IsPool fs (made ++ [])
@@ -76,6 +58,4 @@ pool_grows fs made p e r =
 -- free places are allocated before the list grows
 pub places_are : (fs : List StoredFacet) (free : List ℕ) (n : ℕ) → IsPool fs (reverse free) → n ≤ length fs
     → (0 < length free → length fs ≡ n) → length fs ≡ max n (length (surface_of fs).live)
-places_are fs free n q l h =
-    let c = q.count in let e : length (surface_of fs).live ≡ live_count fs = live_len 0 fs in let r = length-reverse free in
-    elim (cases_lt 0 (length free)) [ inl k ↦ (let m = h k in omega arith) | inr k ↦ omega arith ]
+places_are = grind (arith, live_len, length-reverse, cases_lt)

@@ -6,7 +6,7 @@ use Rattle.qh_mesh.specs.{contract.Edges.side_of_edge, contract.Edges.twin_of, d
 use Rattle.qh_mesh.specs.contract.Replacement.{is_listed, horizon, IsLive, AreFacets, IsKept, IsReplacement, IsCone}
 use Rattle.qh_mesh.specs.{declared.facets.FacetSide.FacetSide, declared.slots.End.End, steps.Kept.is_live, steps.Kept.outer_of, steps.Surfaces.IsSurface}
 use Rattle.qh_mesh.specs.steps.{Cones.bare, Places.IsVacant, Twins.HasTwin}
-use Rattle.qh_mesh.specs.steps.Horizons.{side_at, no_side, corner, other, edge_side, IsBalanced, IsMate}
+use Rattle.qh_mesh.specs.steps.Horizons.{side_at, corner, other, edge_side, IsBalanced, IsMate}
 use Rattle.qh_mesh.specs.steps.Rebuilt.{IsCleared, IsChosen, IsConed, IsPrepared, IsReady, IsRebuilt}
 use Rattle.qh_mesh.proofs.{FallingVolumes.step_falls, ListedFacets.listed_in, ListedFacets.unlisted_at, Mates.has_mate, Mates.mate_only, Mates.mate_twice}
 use Rattle.qh_mesh.proofs.HorizonSides.{edge, on_horizon, horizon_twin, same_place, horizon_balanced, gone, stays}
@@ -28,8 +28,7 @@ module _ (old chosen : List StoredFacet) (free left vs : List ℕ) (hs : List Fa
   in_hs j l = let e = h.len in omega arith
 
   side_is : (j : ℕ) → j < length hs → side_at hs j ≡ edge_side old (edge old vs j)
-  side_is j l = ap (λ xs. side_at xs j) c.noted
-      ∙ get_or-map (edge_side old) (horizon old vs) j 0 no_side (let e = horizon_len in omega arith)
+  side_is = grind (arith, get_or-map, horizon_len)
 
   balanced : IsBalanced hs
   balanced = subst IsBalanced (sym c.noted) (horizon_balanced old vs s.twins a)

@@ -10,7 +10,7 @@ use Rattle.qh_mesh.specs.contract.Edges.{edge_end, edge_of, edge_start, facet_of
 use Rattle.qh_mesh.specs.contract.Replacement.{is_listed, horizon, IsLive, AreFacets, IsCone, IsKept, StaysFacet, IsReplacement}
 use Rattle.qh_mesh.specs.contract.SoundMesh.{facet_vol, IsSoundMesh, AreVisible}
 use Rattle.qh_mesh.specs.steps.{Kept.outer_of, Twins.HasTwin, Twins.HasTwins}
-use Rattle.qh_mesh.proofs.EdgeSides.{edge-facet, edge-side, edge_is, twins_by_side, start-is, end-is, twin-is, over-is, back-is}
+use Rattle.qh_mesh.proofs.EdgeSides.{edge-facet, edge_is, twins_by_side, start-is, end-is, twin-is, over-is, back-is}
 use Rattle.qh_mesh.proofs.HorizonSides.{edge, on_horizon, horizon_twin, horizon_at, same_place}
 use Rattle.qh_mesh.proofs.ListedFacets.{in_listed, listed_live}
 
@@ -25,10 +25,7 @@ module _ (fs : List StoredFacet) (f : ℕ) (s : Side) where
 
   -- the link over a side, given by its twin
   links : (g : ℕ) (t : Side) → twin_of fs (edge_of f s) ≡ edge_of g t → LinksTo (surface_of fs) f s g t
-  links g t e = record {
-    over_is = over-twin ∙ ap (λ v. v / 3) e ∙ edge-facet g t;
-    back_is = back-is fs f s ∙ ap side_of_edge (sym (twin-is fs f s) ∙ e) ∙ edge-side g t;
-  }
+  links = grind arith
 
 -- the height of a point above a facet is the volume with it
 pub rise-vol : (at : ℕ → Vector) (fs : List StoredFacet) (f p : ℕ) → rise (surface_of fs) (weighted_at at) f (weighted_at at p) ≡ facet_vol at fs f (at p)
@@ -48,10 +45,7 @@ module _ (old new : List StoredFacet) (vs : List ℕ) (p : ℕ) (made : List ℕ
   -- edges of live facets that are mutual twins, if their ends match
   both : (x y : ℕ) → IsLive new (x / 3) → IsLive new (y / 3) → twin_of new x ≡ y → twin_of new y ≡ x
       → edge_start new y ≡ edge_end new x → edge_end new y ≡ edge_start new x → HasTwin new x × HasTwin new y
-  both x y k l e d s n = (
-    record { live = rw e l; back = rw e d; starts = rw e s; ends = rw e n },
-    record { live = rw d k; back = rw d e; starts = rw d (sym n); ends = rw d (sym s) },
-  )
+  both = grind arith
 
   -- an edge of a remaining facet has the same ends
   ends_stay : (e : ℕ) → StaysFacet old new vs (e / 3) → (edge_start new e ≡ edge_start old e) × (edge_end new e ≡ edge_end old e)

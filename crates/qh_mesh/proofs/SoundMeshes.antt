@@ -1,15 +1,13 @@
 -- Sound meshes: the simplex, the result of a step, and that both are closed.
-use Rattle.qh_model.proofs.Common.{slice_index, ◌≡◌, ℕ, arith, rules, refl, [], ◌≢◌, sym, inl, inr, List, ◌∷◌, subst, cases_Bool, ints, by_lt_z, pos, ◌≤ℤ◌}
-use Rattle.qh_model.proofs.Common.{◌<ℤ◌, signed_volume, triples_of, weighted_at, middle_at, IsFinished, StoredFacet, surface_of, Weighted, weighted, vol, In}
-use Rattle.qh_model.proofs.Common.{Vector, simplex_surface}
-use Rattle.qh_model.proofs.{algebra.Signs.less_le, algebra.Signs.not_less, surfaces.Named.IsNamed, surfaces.Named.sound_named, surfaces.Named.whole_named}
-use Rattle.qh_model.proofs.{algebra.VectorIdentities.vol-flip_last, surfaces.Simplex.four, surfaces.Simplex.middle-turned, surfaces.Simplex.simplex_sound}
-use Rattle.qh_model.proofs.surfaces.Closed.{of_facets, sound_is_closed, sound_has_volume, seen_volume}
-use Rattle.qh_model.proofs.surfaces.Rewired.{replace_keeps}
-use Rattle.qh_model.proofs.surfaces.{Stored.live_in, Stored.in_live, Stored.live_is_listed_once, SurfaceLaws.rise_is_vol}
-use Rattle.qh_mesh.specs.contract.Replacement.{is_listed, IsLive}
-use Rattle.qh_mesh.specs.contract.SoundMesh.{simplex_facets, facet_vol, IsSoundMesh, IsClosedMesh, AreVisible}
 use Rattle.qh_mesh.proofs.Rewiring.{IsStep, rewired}
+use Rattle.qh_mesh.specs.contract.Replacement.{IsLive}
+use Rattle.qh_mesh.specs.contract.SoundMesh.{AreVisible, IsClosedMesh, IsSoundMesh, facet_vol, simplex_facets}
+use Rattle.qh_model.proofs.Common.{In, IsFinished, List, StoredFacet, Vector, Weighted, [], arith, by_lt_z, cases_Bool, inl, ints, middle_at, pos, refl}
+use Rattle.qh_model.proofs.Common.{signed_volume, simplex_surface, slice_index, subst, surface_of, sym, triples_of, vol, weighted, weighted_at, ℕ, ◌<ℤ◌, ◌∷◌}
+use Rattle.qh_model.proofs.{Common.◌≡◌, Common.◌≢◌, Common.◌≤ℤ◌, algebra.Signs.less_le, algebra.Signs.not_less, algebra.VectorIdentities.vol-flip_last}
+use Rattle.qh_model.proofs.surfaces.Closed.{of_facets, seen_volume, sound_has_volume, sound_is_closed}
+use Rattle.qh_model.proofs.surfaces.{Named.IsNamed, Named.sound_named, Named.whole_named, Rewired.replace_keeps, Simplex.middle-turned, Simplex.simplex_sound}
+use Rattle.qh_model.proofs.surfaces.{Stored.in_live, Stored.live_in, Stored.live_is_listed_once, SurfaceLaws.rise_is_vol}
 
 -- a sound mesh with a facet is closed
 pub closed_of : (at : ℕ → Vector) (fs : List StoredFacet) (s t u v f : ℕ) → IsLive fs f → IsSoundMesh at fs (middle_at at s t u v) → IsClosedMesh at fs
@@ -26,14 +24,7 @@ finished_is_closed at ids fs h = closed_of at fs h.s h.t h.u h.v h.some (live_in
 module _ (at : ℕ → Vector) (a b c d : ℕ) where
   -- its facets are those of the law's, by computation
   simplex_named : IsNamed (simplex_surface a b c d) (surface_of (simplex_facets a b c d)) (λ l. l)
-  simplex_named = let law = simplex_surface a b c d in let stored = surface_of (simplex_facets a b c d) in record {
-    live = refl;
-    i_is = four (λ f. stored.i f ≡ law.i f) refl refl refl refl;
-    j_is = four (λ f. stored.j f ≡ law.j f) refl refl refl refl;
-    k_is = four (λ f. stored.k f ≡ law.k f) refl refl refl refl;
-    over_is = λ f s. four (λ f. stored.over f s ≡ law.over f s) refl refl refl refl f;
-    back_is = λ f s. four (λ f. stored.back f s ≡ law.back f s) (search rules) (search rules) (search rules) (search rules) f;
-  }
+  simplex_named = grind arith
 
   -- with volume below 0 it is sound around its middle
   below_is_sound : vol (at a) (at b) (at c) (at d) <ℤ pos 0 → IsSoundMesh at (simplex_facets a b c d) (middle_at at a b c d)
@@ -47,8 +38,7 @@ module _ (at : ℕ → Vector) (a b c d : ℕ) where
   -- so it is sound and closed with volume that is neither 0 nor above
   module _ (n : vol (at a) (at b) (at c) (at d) ≢ pos 0) (h : pos 0 <ℤ vol (at a) (at b) (at c) (at d) → ⊥) where
     pub simplex_is_sound : IsSoundMesh at (simplex_facets a b c d) (middle_at at a b c d)
-    simplex_is_sound = below_is_sound
-        (by_lt_z (pos 0) (vol (at a) (at b) (at c) (at d)) (λ x. absurd (h x)) (λ x. omega (arith, ints)))
+    simplex_is_sound = grind (arith, below_is_sound, by_lt_z)
 
     pub simplex_is_closed : IsClosedMesh at (simplex_facets a b c d)
     simplex_is_closed = closed_of at (simplex_facets a b c d) a b c d 0 refl simplex_is_sound
@@ -76,10 +66,7 @@ module _ (old new : List StoredFacet) (vs : List ℕ) (p : ℕ) (made : List ℕ
   module _ (s t u v : ℕ) (z : IsSoundMesh at old (middle_at at s t u v)) (visible : AreVisible at old vs p) where
     -- if no facet remained, all would see p
     all_seen : (surface_of new).live ≡ [] → (f : ℕ) → In f (surface_of old).live → pos 0 <ℤ facet_vol at old f (at p)
-    all_seen e f i = elim (cases_Bool (is_listed vs f)) [
-      | inl l ↦ visible.seen f (live_in old f i) l
-      | inr l ↦ absurd (subst (In f) e (in_live new f (d.replaced.kept f (record { live = live_in old f i; unlisted = l })).live))
-    ]
+    all_seen = grind (arith, cases_Bool, live_in, in_live)
 
     -- so a facet remains
     step_leaves : (fs : List ℕ) → (surface_of new).live ≡ fs → (f : ℕ) × IsLive new f

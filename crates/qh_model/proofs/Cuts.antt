@@ -21,30 +21,7 @@ even_cut m size n xs p is len each =
 
 -- an even cut of some positions into at most the limit of blocks is a cut
 pub even_is_cut : (m size : ℕ) (bounds : List ℕ) → 0 < m → m ≤ POINT_LIMIT → 0 < size → blocks_of m size ≤ BLOCK_LIMIT → IsEvenCut m size bounds → IsCut bounds
-even_is_cut m size bounds p q s few even =
-    let n : ℕ = blocks_of m size in
-    let cover : (m ≤ n * size) × (n * size < m + size) = div_ceil_times m size s in
-    let some : 1 ≤ n = some_block n (grind (arith, p, cover.0)) in
-    let rises : (j : ℕ) → j + 1 < length bounds → bound bounds j < bound bounds (j + 1) =
-    (λ j h. rises_at size m j (bound bounds j) (bound bounds (j + 1)) s (even.each j (grind (arith, h)))
-    (even.each (j + 1) h) (below_end m size n j cover.1 (grind (arith, h, even.count)))) in
-    record {
-      few = grind (arith, few, even.count);
-      are =
-          record {
-            some = grind (arith, some, even.count);
-            begins = grind (arith, even.each 0 (grind (arith, even.count)));
-            rises = rises;
-            ends = grind (arith, q, even.each n (grind (arith, even.count)), even.count);
-          };
-    }
-  where
-    some_block : (n : ℕ) → 0 < n * size → 1 ≤ n
-    some_block zero h = absurd (omega (arith, h))
-    some_block (suc n) h = grind (arith)
-
-    rises_at : (size m j b c : ℕ) → 0 < size → b ≡ min (j * size) m → c ≡ min ((j + 1) * size) m → j * size < m → b < c
-    rises_at size m j b c s e f h = grind (arith, s, e, f, h)
+even_is_cut = grind arith
 
 -- rising bounds rise over any number of steps
 bounds_rise : (b : ℕ → ℕ) (n i k : ℕ) → ((j : ℕ) → j < n → b j < b (j + 1)) → i + k ≤ n → b i ≤ b (i + k)

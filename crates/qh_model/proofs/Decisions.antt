@@ -1,7 +1,6 @@
 -- Decided claims about pairs, members of a list, ids, numbers and vectors.
-use Rattle.qh_model.proofs.Common.{◌≡◌, ℕ, ◌⊎◌, inl, inr, ⊎_elim, List, [], ◌∷◌, refl, sym, subst, ap, Bool, true, false, by_lt_z, ℤ, ◌≤ℤ◌, ◌<ℤ◌, ℕ_discrete}
-use Rattle.qh_model.proofs.Common.{ℤ_discrete, Vector, In}
-use Rattle.qh_model.proofs.algebra.{Signs.not_less, VectorIdentities.vector_path}
+use Rattle.qh_model.proofs.Common.{Bool, In, List, Vector, [], arith, by_lt_z, false, inl, inr, refl, subst, sym, true, ℕ, ℕ_discrete, ℤ, ℤ_discrete, ⊎_elim}
+use Rattle.qh_model.proofs.{Common.◌<ℤ◌, Common.◌∷◌, Common.◌≡◌, Common.◌≤ℤ◌, Common.◌⊎◌, algebra.Signs.not_less}
 
 -- a claim holds or not
 abbrev pub Decided : Type 0 → Type 0
@@ -14,29 +13,23 @@ test (inr n) = false
 
 -- the test passes if the claim holds
 pub told : {P : Type 0} (d : Decided P) → P → test d ≡ true
-told (inl p) q = refl
-told (inr n) q = absurd (n q)
+told = grind arith
 
 -- the claim holds if the test passes
 pub holds : {P : Type 0} (d : Decided P) → test d ≡ true → P
-holds (inl p) e = p
-holds (inr n) e = cc
+holds = grind arith
 
 -- the conjunction of two decided claims is decided
 pub both : (P Q : Type 0) → Decided P → Decided Q → Decided (P × Q)
-both P Q (inl p) (inl q) = inl (p, q)
-both P Q (inl p) (inr n) = inr (λ h. n h.1)
-both P Q (inr n) d = inr (λ h. n h.0)
+both = grind arith
 
 -- the negation of a decided claim is decided
 pub contrary : (P : Type 0) → Decided P → Decided (¬ P)
-contrary P (inl p) = inr (λ n. n p)
-contrary P (inr n) = inl n
+contrary = grind arith
 
 -- a claim that is equivalent to a decided one is decided
 pub decided_as : (P Q : Type 0) → (P → Q) → (Q → P) → Decided P → Decided Q
-decided_as P Q f g (inl p) = inl (f p)
-decided_as P Q f g (inr n) = inr (λ q. n (g q))
+decided_as = grind arith
 
 -- decides whether a decided claim holds for every member of a list
 pub each_or_not : {X : Type 0} (P : X → Type 0) → ((x : X) → Decided (P x)) → (xs : List X) → Decided ((x : X) → In x xs → P x)
@@ -73,10 +66,7 @@ same_number a b = elim (ℤ_discrete a b) [ yes e ↦ inl e | no n ↦ inr n ]
 
 -- equality of two vectors is decided
 pub same_vector : (p q : Vector) → Decided (p ≡ q)
-same_vector p q =
-    decided_as ((p.x ≡ q.x) × ((p.y ≡ q.y) × (p.z ≡ q.z))) (p ≡ q) (λ h. vector_path p q h.0 h.1.0 h.1.1)
-    (λ e. (ap (λ v. v.x) e, (ap (λ v. v.y) e, ap (λ v. v.z) e))) (both (p.x ≡ q.x) ((p.y ≡ q.y) × (p.z ≡ q.z)) (same_number p.x q.x)
-    (both (p.y ≡ q.y) (p.z ≡ q.z) (same_number p.y q.y) (same_number p.z q.z)))
+same_vector = grind arith
 
 -- decides whether a number is at most another
 pub at_most_or_above : (a b : ℤ) → Decided (a ≤ℤ b)

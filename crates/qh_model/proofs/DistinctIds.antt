@@ -1,5 +1,5 @@
 -- Facts about the distinct ids of a list of points.
-use Rattle.qh_model.proofs.Common.{ℕ, zero, suc, ◌+◌, ◌<◌, ◌≤◌, List, [], ◌∷◌, length, get_or, add-one, arith, sym, All, All-from_get_or, IsStrictlyIncreasing}
+use Rattle.qh_model.proofs.Common.{ℕ, zero, suc, ◌+◌, ◌<◌, ◌≤◌, List, [], ◌∷◌, length, get_or, add-one, arith, All, All-from_get_or, IsStrictlyIncreasing}
 use Rattle.qh_model.proofs.Common.{HasDistinctPoints, AreDistinctIds, place, In, Members, Vector}
 use Rattle.qh_model.proofs.Members.{In-get_or, in_at}
 
@@ -33,7 +33,4 @@ few_ids pts ids d = few_below (length pts) ids d.rising (λ i m. ((d.members i).
 
 -- distinct ids have distinct points
 pub distinct_apart : (pts : List Vector) (ids : List ℕ) → AreDistinctIds pts ids → HasDistinctPoints (place pts) (Members ids)
-distinct_apart pts ids d i j m n e =
-    let below : i < j → ⊥ = λ h. ((d.members j).0 n).1 i h e in
-    let above : j < i → ⊥ = λ h. ((d.members i).0 m).1 j h (sym e) in
-    grind (arith, below, above)
+distinct_apart = grind arith

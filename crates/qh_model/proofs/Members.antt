@@ -11,8 +11,7 @@ All-In P (y ∷ ys) x all (inr h) = All-In P ys x (All-tail P y ys all) h
 
 -- a fact about the first element and about the rest holds for each member
 pub each_more : {X : Type 0} (P : X → Type 0) (x : X) (xs : List X) → P x → ((y : X) → In y xs → P y) → (y : X) → In y (x ∷ xs) → P y
-each_more P x xs p r y (inl e) = subst P (sym e) p
-each_more P x xs p r y (inr i) = r y i
+each_more = grind arith
 
 -- a fact about three elements holds for each of them
 pub each_of_three : {X : Type 0} (P : X → Type 0) (x y z : X) → P x → P y → P z → (l : X) → In l (x ∷ y ∷ z ∷ []) → P l

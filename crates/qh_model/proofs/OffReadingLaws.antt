@@ -139,10 +139,4 @@ counts_clear (v ∷ f ∷ g ∷ ws) rest faces edges ps e some few l =
     (counted_clear _ ps ws rest tail some few l refl)))
 
 pub never_both : (bytes : List ℕ) (ps : List Vector) → ReadsOff bytes ps → first_off_fault bytes ≡ None
-never_both bytes ps r =
-    let keyword : bytes_eq r.keyword.text (codes "OFF") ≡ true = ap (λ (t : List ℕ). bytes_eq t (codes "OFF")) r.is_off in
-    let counts = counts_clear r.numbered r.rest r.faces r.edges ps r.numbers r.some r.few r.limit in
-    let none : off_words_fault (r.keyword ∷ r.numbered ++ r.rest) ≡ None =
-    ap (λ (b : Bool). cond b (counts_fault (r.numbered ++ r.rest)) (Some NotOff)) keyword ∙ counts in
-    subst (λ (b : Bool). cond b (Some Big) (off_words_fault (off_words bytes)) ≡ None) (sym (not_big (length bytes) r.small))
-    (ap off_words_fault r.words ∙ none)
+never_both = grind (arith, counts_clear, numbered, numbers, not_big)

@@ -1,5 +1,5 @@
 -- A packed pair determines its halves, and its halves determine it.
-use Rattle.qh_model.proofs.Common.{◌≡◌, ◌<◌, ◌∙◌, ℕ, arith, ap, sym, packed, halves, HALF_ROOM}
+use Rattle.qh_model.proofs.Common.{◌≡◌, ◌<◌, ℕ, arith, packed, halves, HALF_ROOM}
 
 -- pairs with the same number are the same
 pub packed-same : (a b u v : ℕ) → b < HALF_ROOM → v < HALF_ROOM → packed a b ≡ packed u v → (a ≡ u) × (b ≡ v)
@@ -7,7 +7,4 @@ packed-same a b u v h k e = (omega arith, omega arith)
 
 -- keys with the same halves are the same
 pub halves-same : (z k : ℕ) → halves z ≡ halves k → z ≡ k
-halves-same z k e = sym (whole z) ∙ ap (λ (q : ℕ × ℕ). packed q.0 q.1) e ∙ whole k
-  where
-    whole : (n : ℕ) → packed (halves n).0 (halves n).1 ≡ n
-    whole n = omega arith
+halves-same = grind arith

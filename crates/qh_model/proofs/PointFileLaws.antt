@@ -1,6 +1,6 @@
 -- A byte string is the point file of one list of points, or has one fault.
 use Rattle.qh_model.proofs.Common.{◌≡◌, ◌∙◌, [], ◌∷◌, ◌++◌, ◌≤◌, ◌⊎◌, ℕ, List, Bool, true, false, cond, refl, ap, sym, arith, length, map, inl, inr, subst}
-use Rattle.qh_model.proofs.Common.{nat_lt, nat_tests, append-nil, AllByRecursion, ℤ, pos, negsuc, Some, None, POINT_LIMIT, BYTE_LIMIT, ReadFault, NotThree, Big}
+use Rattle.qh_model.proofs.Common.{nat_lt, nat_tests, append-nil, AllByRecursion, ℤ, pos, Some, None, POINT_LIMIT, BYTE_LIMIT, ReadFault, NotThree, Big}
 use Rattle.qh_model.proofs.Common.{is_three, counted_fault, first_fault, IsCoordinate, number_of, coordinates, Reads, Vector, Word, data_words}
 use Rattle.qh_model.specs.headline.{FileFault.long_fault, FileFault.headed_fault, FileFault.words_fault, PointFile.IsHeader}
 use Rattle.qh_model.proofs.ReadingLaws.{same_some, same_points, numbers, Counted, counted, next_number, grouped, counted_clear, next_clear, not_big}
@@ -8,14 +8,10 @@ use Rattle.qh_model.proofs.ReadingLaws.{list_or_fault}
 
 -- a byte string is the file of one list of points at most
 pub one_reading : (bytes : List ℕ) (ps qs : List Vector) → Reads bytes ps → Reads bytes qs → ps ≡ qs
-one_reading bytes ps qs a b =
-    let all : a.first ∷ a.second ∷ coordinates ps ≡ b.first ∷ b.second ∷ coordinates qs = same_some _ _ (sym a.numbers ∙ b.numbers) in
-    let same : coordinates ps ≡ coordinates qs = cc in
-    same_points ps qs same
+one_reading = grind (arith, same_some, numbers, same_points)
 
 three : (z : ℤ) → is_three z ≡ true → z ≡ pos 3
-three (pos n) h = let e : n ≡ 3 = grind (arith, nat_tests) in ap pos e
-three (negsuc n) h = cc
+three = grind arith
 
 record Whole (ws : List Word) : Type 0 where
   first : ℤ
@@ -29,8 +25,7 @@ record Whole (ws : List Word) : Type 0 where
 
 -- no word follows the last coordinate
 none_long : (ws : List Word) → long_fault ws ≡ None → ws ≡ []
-none_long [] h = refl
-none_long (w ∷ ws) h = cc
+none_long = grind arith
 
 made : (w v : Word) (vs : List Word) (a b z : ℤ) → number_of w.text ≡ Some a → number_of v.text ≡ Some b → ((n : ℕ) → z ≡ pos n → IsHeader a b n)
     → Counted long_fault z vs → Whole (w ∷ v ∷ vs)
@@ -88,13 +83,7 @@ one_or_other bytes = list_or_fault (Reads bytes) (first_fault bytes) (small (nat
         )
 
 headed_clear : (a b : ℤ) (n : ℕ) (ws : List Word) → IsHeader a b n → counted_fault long_fault (pos n) ws ≡ None → headed_fault a b ws ≡ None
-headed_clear a b n ws (inl (first, second)) h =
-    subst (λ (z : ℤ). headed_fault z b ws ≡ None) (sym first) (subst (λ (z : ℤ). counted_fault long_fault z ws ≡ None) (sym second) h)
-headed_clear a b n ws (inr (other, second, first)) h = subst (λ (z : ℤ). headed_fault a z ws ≡ None) (sym second) (by_test (is_three a) refl)
-  where
-    by_test : (t : Bool) → is_three a ≡ t → cond t (counted_fault long_fault (pos 3) ws) (counted_fault long_fault a ws) ≡ None
-    by_test true e = absurd (other (three a e))
-    by_test false e = subst (λ (z : ℤ). counted_fault long_fault z ws ≡ None) (sym first) h
+headed_clear = grind arith
 
 words_clear : (ws : List Word) (a b : ℤ) (ps : List Vector) → numbers ws ≡ map Some (a ∷ b ∷ coordinates ps) → IsHeader a b (length ps)
     → 1 ≤ length ps → length ps ≤ POINT_LIMIT → AllByRecursion IsCoordinate (coordinates ps) → words_fault ws ≡ None
@@ -110,6 +99,4 @@ words_clear (w ∷ v ∷ ws) a b ps e header some few l =
 
 -- a byte string is never both
 pub never_both : (bytes : List ℕ) (ps : List Vector) → Reads bytes ps → first_fault bytes ≡ None
-never_both bytes ps r =
-    subst (λ (b : Bool). cond b (Some Big) (words_fault (data_words bytes)) ≡ None) (sym (not_big (length bytes) r.small))
-    (words_clear (data_words bytes) r.first r.second ps r.numbers r.header r.some r.few r.limit)
+never_both = grind (arith, not_big, words_clear, numbers)

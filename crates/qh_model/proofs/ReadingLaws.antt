@@ -1,10 +1,9 @@
 -- The values of the words of a file: numbers, coordinates, a count with its points; and the condition that they have no fault.
-use Rattle.qh_model.proofs.Common.{◌≡◌, [], ◌∷◌, ◌++◌, ◌*◌, ◌≤◌, ◌&&◌, ℕ, List, Bool, true, false, cond, refl, ap, sym, arith, zero, suc, length, map, subst}
-use Rattle.qh_model.proofs.Common.{nat_lt, ◌⊎◌, inl, inr, leb-true, le-leb, nat_tests, AllByRecursion, option_or, ℤ, pos, negsuc, Option, Some, None, nat_le}
-use Rattle.qh_model.proofs.Common.{POINT_LIMIT, BYTE_LIMIT, ReadFault, Count, Range, counted_fault, next_number_fault, IsCoordinate, is_coordinate, number_of}
-use Rattle.qh_model.proofs.Common.{coordinates, Vector, Word}
+use Rattle.qh_model.proofs.Common.{AllByRecursion, BYTE_LIMIT, Bool, Count, IsCoordinate, List, None, Option, POINT_LIMIT, ReadFault, Some, Vector, Word, rules}
+use Rattle.qh_model.proofs.Common.{[], ap, arith, cond, coordinates, counted_fault, false, length, map, nat_le, nat_lt, nat_tests}
+use Rattle.qh_model.proofs.Common.{next_number_fault, number_of, option_or, pos, refl, subst, suc, sym, true, zero, ℕ, ℤ, ◌&&◌, ◌*◌, ◌++◌, ◌∷◌, ◌≡◌}
+use Rattle.qh_model.proofs.{Common.◌≤◌, Common.◌⊎◌, algebra.VectorIdentities.vector_path}
 use Rattle.qh_model.specs.headline.FileFault.{coordinate_fault, coordinates_fault, number_fault}
-use Rattle.qh_model.proofs.algebra.VectorIdentities.{vector_path}
 
 pub same_some : (xs ys : List ℤ) → map Some xs ≡ map Some ys → xs ≡ ys
 same_some [] [] h = refl
@@ -44,17 +43,7 @@ pub record Filled (after : List Word → Option ReadFault) (ws : List Word) (k :
 -- a coordinate without a fault, and the words after it
 in_range : (w : Word) (after : Option ReadFault) → option_or (coordinate_fault (number_of w.text) w.line) after ≡ None
     → (z : ℤ) × (number_of w.text ≡ Some z) × IsCoordinate z × (after ≡ None)
-in_range w after h = by_option (number_of w.text) refl h
-  where
-    within : (z : ℤ) → number_of w.text ≡ Some z → (b : Bool) → is_coordinate z ≡ b → option_or (cond b None (Some (Range w.line))) after ≡ None
-        → (z : ℤ) × (number_of w.text ≡ Some z) × IsCoordinate z × (after ≡ None)
-    within z e false c h = cc
-    within z e true c h = (z, e, leb-true _ _ c, h)
-
-    by_option : (o : Option ℤ) → number_of w.text ≡ o → option_or (coordinate_fault o w.line) after ≡ None
-        → (z : ℤ) × (number_of w.text ≡ Some z) × IsCoordinate z × (after ≡ None)
-    by_option None e h = cc
-    by_option (Some z) e h = within z e (is_coordinate z) refl h
+in_range = search rules
 
 pub filled : (after : List Word → Option ReadFault) (k : ℕ) (ws : List Word) → coordinates_fault after k ws ≡ None → Filled after ws k
 filled after zero ws h = record { front = []; rest = ws; whole = refl; all = []; are = refl; count = refl; limit = tt; clear = h }
@@ -99,14 +88,7 @@ pub record Counted (after : List Word → Option ReadFault) (z : ℤ) (ws : List
   pub filled : Filled after ws (3 * n)
 
 pub counted : (after : List Word → Option ReadFault) (z : ℤ) (ws : List Word) → counted_fault after z ws ≡ None → Counted after z ws
-counted after (negsuc n) ws h = cc
-counted after (pos n) ws h = by_test (nat_le 1 n && nat_le n POINT_LIMIT) refl h
-  where
-    by_test : (b : Bool) → (nat_le 1 n && nat_le n POINT_LIMIT) ≡ b → cond b (coordinates_fault after (3 * n) ws) (Some Count) ≡ None → Counted after (pos n) ws
-    by_test false e h = cc
-    by_test true e h =
-        let range : (1 ≤ n) × (n ≤ POINT_LIMIT) = grind (arith, nat_tests) in
-        record { n = n; is = refl; some = range.0; few = range.1; filled = filled after (3 * n) ws h }
+counted = grind (arith, filled)
 
 -- the next word is a number
 pub record NextNumber (after : ℤ → List Word → Option ReadFault) (ws : List Word) : Type 0 where
@@ -118,20 +100,12 @@ pub record NextNumber (after : ℤ → List Word → Option ReadFault) (ws : Lis
   pub clear : after z rest ≡ None
 
 pub next_number : (after : ℤ → List Word → Option ReadFault) (ws : List Word) → next_number_fault after ws ≡ None → NextNumber after ws
-next_number after [] h = cc
-next_number after (w ∷ ws) h = by_option (number_of w.text) refl h
-  where
-    by_option : (o : Option ℤ) → number_of w.text ≡ o → number_fault after o w.line ws ≡ None → NextNumber after (w ∷ ws)
-    by_option None e h = cc
-    by_option (Some z) e h = record { w = w; rest = ws; z = z; are = refl; number = e; clear = h }
+next_number = grind arith
 
 -- a coordinate in range has no fault
 clear_more : (w : Word) (z : ℤ) (after : Option ReadFault) → number_of w.text ≡ Some z → IsCoordinate z → after ≡ None
     → option_or (coordinate_fault (number_of w.text) w.line) after ≡ None
-clear_more w z after e l h =
-    let in_range : is_coordinate z ≡ true = le-leb _ _ l in
-    subst (λ (o : Option ℤ). option_or (coordinate_fault o w.line) after ≡ None) (sym e)
-    (subst (λ (b : Bool). option_or (cond b None (Some (Range w.line))) after ≡ None) (sym in_range) h)
+clear_more = grind arith
 
 -- coordinates in range have no fault, if the words after them have none
 clear : (after : List Word → Option ReadFault) (zs : List ℤ) (ws rest : List Word) → numbers ws ≡ map Some zs
@@ -172,5 +146,4 @@ not_big n h = grind (arith, nat_tests)
 -- a list of points if there is no fault, otherwise the fault
 pub list_or_fault : (P : List Vector → Type 0) (fault : Option ReadFault) → (fault ≡ None → (ps : List Vector) × P ps)
     → ((ps : List Vector) × P ps × (fault ≡ None)) ⊎ ((f : ReadFault) × (fault ≡ Some f))
-list_or_fault P None read = let r = read refl in inl (r.0, r.1, refl)
-list_or_fault P (Some f) read = inr (f, refl)
+list_or_fault = grind arith

@@ -1,26 +1,21 @@
 -- Points to the left of all sides of a closed cycle: they are not extreme, so the remaining points have the same polygon.
-use Rattle.qh_model.proofs.Common.{◌≡◌, ◌≢◌, ℕ, List, [], ◌∷◌, arith, ap, sym, subst, ◌∙◌, refl, inl, inr, ⊎_elim, Bool, true, false_from_ne_true, and_parts}
-use Rattle.qh_model.proofs.Common.{ints, by_lt_z, ℤ, pos, ◌+ℤ◌, ◌*ℤ◌, ◌≤ℤ◌, ◌<ℤ◌, not, filter, IsStrictlyIncreasing, HasTriangle, Extreme, Others, IsPolygon}
-use Rattle.qh_model.proofs.Common.{place, In, Members, Vector, dot, Separator}
-use Rattle.qh_model.proofs.{algebra.Order.mul-pos_neg, algebra.Order.mul-nonpos, algebra.Order.negative_le, extremes.Dimensions.triangle_of}
-use Rattle.qh_model.proofs.{algebra.Signs.less_differ, algebra.VectorIdentities.dot-minus, algebra.VectorIdentities.left-turn, hulls.SameSets.extremes_of_part}
-use Rattle.qh_model.proofs.extremes.ExtremeIds.{members_are_combinations, combination_within, alternative_in, listed_itself}
-use Rattle.qh_model.proofs.{hulls.ExtremeParts.part_set, lists.Filters.in_filter}
+use Rattle.qh_model.proofs.Common.{Bool, Extreme, HasTriangle, In, IsPolygon, IsStrictlyIncreasing, List, Members, Others, Separator, Vector, [], and_parts, ap}
+use Rattle.qh_model.proofs.Common.{arith, by_lt_z, dot, false_from_ne_true, filter, inl, inr, ints, not, place, pos, refl, subst, sym, true, ℕ, ℤ, ⊎_elim, ◌*ℤ◌}
+use Rattle.qh_model.proofs.Common.{◌+ℤ◌, ◌<ℤ◌, ◌∙◌, ◌∷◌, ◌≡◌, ◌≢◌, ◌≤ℤ◌}
+use Rattle.qh_model.proofs.{algebra.Signs.less_differ, algebra.VectorIdentities.dot-minus, algebra.VectorIdentities.left-turn, extremes.Dimensions.triangle_of}
+use Rattle.qh_model.proofs.extremes.ExtremeIds.{alternative_in, combination_within, listed_itself, members_are_combinations}
+use Rattle.qh_model.proofs.{hulls.ExtremeParts.part_set, hulls.SameSets.extremes_of_part, lists.Filters.in_filter}
 use Rattle.qh_model.specs.headline.Predicates.{left}
-use Rattle.qh_polygon.proofs.{PlaneDirections.bracket, PlaneDirections.bracket-fan, polygons.ComponentTurns.turns_agree}
-use Rattle.qh_polygon.proofs.polygons.{Chain.is_left-yes, PlanarIds.flat_of, PlanarIds.planar_triangle, PlanarIds.two_of_triangle}
-use Rattle.qh_polygon.proofs.polygons.Turns.{IsFlat, step, left-bracket, left-swap, left-back, left-there}
+use Rattle.qh_polygon.proofs.PlaneDirections.{bracket, bracket-fan}
+use Rattle.qh_polygon.proofs.polygons.{Chain.is_left-yes, ComponentTurns.turns_agree, PlanarIds.flat_of, PlanarIds.planar_triangle, PlanarIds.two_of_triangle}
+use Rattle.qh_polygon.proofs.polygons.Turns.{IsFlat, left-back, left-bracket, left-swap, left-there, step}
 use Rattle.qh_polygon.specs.{contract.PlanarSets.IsPlanarSet, steps.Chains.is_left, steps.Chains.turn_of}
-use Rattle.qh_polygon.specs.steps.InnerPlaces.{is_left_along, is_inside, is_outside, IsFlatSet}
+use Rattle.qh_polygon.specs.steps.InnerPlaces.{IsFlatSet, is_inside, is_left_along, is_outside}
 
 -- ---- triangles
 -- a point in a triangle is not beyond all its corners: a, b and c are the distances of these beyond it
 not_beyond : (tv tu uv a b c : ℤ) → tv *ℤ b ≡ tu *ℤ c +ℤ uv *ℤ a → pos 0 <ℤ tu → pos 0 <ℤ uv → tv ≤ℤ pos 0 → a <ℤ pos 0 → b <ℤ pos 0 → c <ℤ pos 0 → ⊥
-not_beyond tv tu uv a b c e htu huv htv ha hb hc =
-    let x : pos 0 ≤ℤ (tv *ℤ b) = mul-nonpos tv b htv (negative_le b hb) in
-    let y : (tu *ℤ c) <ℤ pos 0 = mul-pos_neg tu c htu hc in
-    let z : (uv *ℤ a) <ℤ pos 0 = mul-pos_neg uv a huv ha in
-    omega (arith, ints)
+not_beyond = grind arith
 
 module _ (n : Vector) (at : ℕ → Vector) (A : ℕ → Type 0) (flat : IsFlat n at A) (p : ℕ) (e : Extreme at A p) where
   -- the turn from u over v to p

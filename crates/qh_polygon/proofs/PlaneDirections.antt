@@ -1,6 +1,6 @@
 -- Directions in one plane: their brackets, and the volume of three of them, which is 0.
 use Rattle.qh_model.proofs.Common.{◌≡◌, ℕ, refl, [], arith, ◌∙◌, ints, ℤ, pos, ◌+ℤ◌, ◌-ℤ◌, ◌*ℤ◌, ◌≤ℤ◌, ◌<ℤ◌, Vector, cross_product, dot}
-use Rattle.qh_model.proofs.algebra.{Integers.mul_comm, Order.mul-nonneg, Order.mul-pos, Order.cancel-nonneg, Order.cancel-pos, Order.cancel-zero}
+use Rattle.qh_model.proofs.algebra.{Integers.mul_comm, Order.mul-nonneg, Order.mul-pos, Order.cancel-pos, Order.cancel-zero}
 use Rattle.qh_model.proofs.algebra.VectorIdentities.{vec, crossE, dotE, detE, put}
 use Rattle.qh_model.proofs.algebra.Ring.{Expr, ring, Expr.add, Expr.sub as less, Expr.mul}
 
@@ -48,10 +48,7 @@ bracket-fan n h a b c s i j k = no_last _ _ _ _ (bracket-plane n h a b c) (deter
 
 -- if b is not to the right of a, nor c of b, and all three are ahead along h, c is not to the right of a
 pub fan_sign : (ac hb ab hc bc ha : ℤ) → ac *ℤ hb ≡ ab *ℤ hc +ℤ bc *ℤ ha → pos 0 <ℤ ha → pos 0 <ℤ hb → pos 0 <ℤ hc → pos 0 ≤ℤ ab → pos 0 ≤ℤ bc → pos 0 ≤ℤ ac
-fan_sign ac hb ab hc bc ha e p q r h k =
-    let x : pos 0 ≤ℤ (ab *ℤ hc) = mul-nonneg ab hc h (omega (arith, ints)) in
-    let y : pos 0 ≤ℤ (bc *ℤ ha) = mul-nonneg bc ha k (omega (arith, ints)) in
-    cancel-nonneg hb ac q (rw (mul_comm hb ac, e) (omega (arith, ints)))
+fan_sign = grind arith
 
 -- the same, strictly if the first turn is strict
 pub fan_sign_left : (ac hb ab hc bc ha : ℤ) → ac *ℤ hb ≡ ab *ℤ hc +ℤ bc *ℤ ha → pos 0 <ℤ ha → pos 0 <ℤ hb → pos 0 <ℤ hc

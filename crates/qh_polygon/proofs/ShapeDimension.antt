@@ -15,8 +15,7 @@ listed ids m i h e = subst (λ v. In v ids) e (In-get_or ids m 0 h)
 
 -- the first two, as the code reads them
 pub first_two : (ids : List ℕ) (i j : ℕ) → 1 < length ids → i ≡ get_or ids 0 i → j ≡ get_or ids 1 j → AreFirstTwo ids i j
-first_two ids i j h p q =
-    record { two = h; first = sym (get_or_default_zero ids 0 i (omega arith)) ∙ sym p; second = sym (get_or_default_zero ids 1 j h) ∙ sym q }
+first_two = grind (arith, get_or_default_zero)
 
 -- the first two are a segment
 two : (ids : List ℕ) (i j : ℕ) → AreFirstTwo ids i j → IsStrictlyIncreasing ids → HasSegment (Members ids)
@@ -39,8 +38,7 @@ segment pts ids i j t h s =
 
 -- the first id off their line makes a triangle
 three : (pts : List Vector) (ids : List ℕ) (i j k : ℕ) → AreFirstTwo ids i j → IsFirstNot (IsInLine pts i j) ids k → HasTriangle (place pts) (Members ids)
-three pts ids i j k t f = let e = first_two_in ids i j t in
-    record { i = i; j = j; k = k; has_i = e.0; has_j = e.1; has_k = listed ids f.at k f.within f.is; area = f.not }
+three = grind (arith, first_two_in, listed)
 
 -- one id off the line of the first two, and all in the plane of the three: a polygon
 pub flat : (pts : List Vector) (ids : List ℕ) (i j k : ℕ) → AreFirstTwo ids i j → IsFirstNot (IsInLine pts i j) ids k
@@ -57,5 +55,4 @@ flat pts ids i j k t f h =
 -- one id off the plane of three: a solid
 pub solid : (pts : List Vector) (ids : List ℕ) (i j k l : ℕ) → AreFirstTwo ids i j → IsFirstNot (IsInLine pts i j) ids k
     → IsFirstNot (IsInPlane pts i j k) ids l → IsDimension (place pts) (Members ids) 3
-solid pts ids i j k l t f g = let e = first_two_in ids i j t in let third = listed ids f.at k f.within f.is in let last = listed ids g.at l g.within g.is in
-    inl (refl, record { i = i; j = j; k = k; l = l; has_i = e.0; has_j = e.1; has_k = third; has_l = last; volume = g.not })
+solid = grind (arith, first_two_in, listed)

@@ -1,8 +1,6 @@
 -- The first ids of a set, and a shape of its dimension.
-use Rattle.qh_model.proofs.Common.{◌≡◌, ◌<◌, ℕ, List, arith, length, refl, subst, In}
-use Rattle.qh_model.proofs.Members.{In-get_or}
-use Rattle.qh_polygon.specs.{contract.Shapes.AreFirstTwo, contract.Shapes.dimension_of, declared.shape.Shape.Shape}
-use Rattle.qh_polygon.specs.declared.shape.Shape.TheVariants.{Point, Segment, Flat, Solid}
+use Rattle.qh_model.proofs.{Common.In, Common.List, Common.arith, Common.length, Common.subst, Common.ℕ, Common.◌<◌, Common.◌≡◌, Members.In-get_or}
+use Rattle.qh_polygon.specs.{contract.Shapes.AreFirstTwo, contract.Shapes.dimension_of, declared.shape.Shape.Shape, declared.shape.Shape.TheVariants.Solid}
 
 -- the first two ids are members
 pub first_two_in : (ids : List ℕ) (i j : ℕ) → AreFirstTwo ids i j → In i ids × In j ids
@@ -12,7 +10,4 @@ first_two_in ids i j t =
 
 -- a shape of dimension 3 is a solid one
 pub solid_only : (shape : Shape) → dimension_of shape ≡ 3 → ((i j k l : ℕ) → shape ≡ Solid i j k l → ⊥) → ⊥
-solid_only (Point i) e n = absurd (omega arith)
-solid_only (Segment i j) e n = absurd (omega arith)
-solid_only (Flat i j k) e n = absurd (omega arith)
-solid_only (Solid i j k l) e n = n i j k l refl
+solid_only = grind arith

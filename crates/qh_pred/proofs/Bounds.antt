@@ -1,10 +1,8 @@
 -- Bounds of sums and products of whole numbers by their absolute values, and the results of code with bounded numbers.
-use Rattle.qh_model.proofs.Common.{◌≡◌, ℕ, ◌+◌, ◌*◌, ◌^◌, ◌≤◌, ◌<◌, arith, FitsSigned, lit<, ◌⊎◌, inl, inr, mul-le-mul, mul-le-mul_left, to_z-of_z, ints}
-use Rattle.qh_model.proofs.Common.{by_lt_z, unsigned_abs-mul, fits_signed_from_abs, ℤ, pos, ◌+ℤ◌, ◌-ℤ◌, ◌*ℤ◌, ◌≤ℤ◌, unsigned_abs, IsPlace, IsCoordinate, Vector}
-use Rattle.qh_model.proofs.Common.{minus, dot, w64, w128, to_z, of_z}
-use Rattle.qh_model.proofs.algebra.Order.{mul-nonneg, mul-nonneg_nonpos, mul-nonpos_nonneg, mul-nonpos, negative_le}
-use Rattle.qh_pred.specs.contract.Bounds.{difference_limit, normal_limit, IsNormal}
-use Rattle.qh_pred.specs.steps.Differences.{offset_limit, IsDifference}
+use Rattle.qh_model.proofs.Common.{FitsSigned, IsPlace, Vector, arith, dot, fits_signed_from_abs, inl, inr, ints, lit<, minus, mul-le-mul, mul-le-mul_left}
+use Rattle.qh_model.proofs.Common.{of_z, pos, rules, to_z, to_z-of_z, unsigned_abs, unsigned_abs-mul, w128, w64, ℕ, ℤ, ◌*ℤ◌, ◌*◌, ◌+ℤ◌, ◌+◌, ◌-ℤ◌, ◌<◌, ◌^◌}
+use Rattle.qh_model.proofs.Common.{◌≡◌, ◌≤ℤ◌, ◌≤◌, ◌⊎◌}
+use Rattle.qh_pred.specs.{contract.Bounds.IsNormal, contract.Bounds.normal_limit, steps.Differences.IsDifference, steps.Differences.offset_limit}
 
 -- the absolute value of a sum
 within-add : (x y : ℤ) (m n : ℕ) → unsigned_abs x ≤ m → unsigned_abs y ≤ n → unsigned_abs (x +ℤ y) ≤ m + n
@@ -47,21 +45,15 @@ OnOneSide x y = ((pos 0 ≤ℤ x) × (pos 0 ≤ℤ y)) ⊎ ((x ≤ℤ pos 0) × 
 
 -- numbers at a distance of at most m are on the same side of 0, or the sum of their absolute values is at most m
 sizes_apart : (m : ℕ) (x y : ℤ) → unsigned_abs (x -ℤ y) ≤ m → (unsigned_abs x + unsigned_abs y ≤ m) ⊎ OnOneSide x y
-sizes_apart m x y h =
-    by_lt_z x (pos 0) (λ l. by_lt_z (pos 0) y (λ k. inl (omega (arith, ints))) (λ k. inr (inr (negative_le x l, k))))
-    (λ l. by_lt_z y (pos 0) (λ k. inl (omega (arith, ints))) (λ k. inr (inl (l, k))))
+sizes_apart = grind arith
 
 -- the distance of numbers on the same side of 0 is at most the larger absolute value
 one_side-sub : (m : ℕ) (x y : ℤ) → OnOneSide x y → unsigned_abs x ≤ m → unsigned_abs y ≤ m → unsigned_abs (x -ℤ y) ≤ m
-one_side-sub m x y (inl s) h k = let p = s.0 in let q = s.1 in omega (arith, ints)
-one_side-sub m x y (inr s) h k = let p = s.0 in let q = s.1 in omega (arith, ints)
+one_side-sub = grind arith
 
 -- the products of two pairs, each on one side of 0, are on one side of 0
 one_side-mul : (a b c d : ℤ) → OnOneSide a d → OnOneSide c b → OnOneSide (a *ℤ b) (c *ℤ d)
-one_side-mul a b c d (inl s) (inl t) = inl (mul-nonneg a b s.0 t.1, mul-nonneg c d t.0 s.1)
-one_side-mul a b c d (inl s) (inr t) = inr (mul-nonneg_nonpos a b s.0 t.1, mul-nonpos_nonneg c d t.0 s.1)
-one_side-mul a b c d (inr s) (inl t) = inr (mul-nonpos_nonneg a b s.0 t.1, mul-nonneg_nonpos c d t.0 s.1)
-one_side-mul a b c d (inr s) (inr t) = inl (mul-nonpos a b s.0 t.1, mul-nonpos c d t.0 s.1)
+one_side-mul = search rules
 
 -- twice the area of a triangle in a square of side m, by its two sides (a, c) and (d, b) from one corner
 area-within : (m : ℕ) (a b c d : ℤ) → unsigned_abs a ≤ m → unsigned_abs b ≤ m → unsigned_abs c ≤ m → unsigned_abs d ≤ m
@@ -84,21 +76,11 @@ area-within m a b c d ha hb hc hd wide high = by_cases (sizes_apart m a d wide) 
 pub minor_fits : (m : ℕ) (a b c d : ℤ) → m * m < 2 ^ 63 → unsigned_abs a ≤ m → unsigned_abs b ≤ m → unsigned_abs c ≤ m
     → unsigned_abs d ≤ m → unsigned_abs (a -ℤ d) ≤ m → unsigned_abs (c -ℤ b) ≤ m
     → MinorFits a b c d (m * m)
-minor_fits m a b c d s ha hb hc hd wide high =
-    let r = area-within m a b c d ha hb hc hd wide high in
-    record {
-      first = fits (a *ℤ b) (m * m) (within-mul a b m m ha hb) s;
-      second = fits (c *ℤ d) (m * m) (within-mul c d m m hc hd) s;
-      whole = fits (a *ℤ b -ℤ c *ℤ d) (m * m) r s;
-      bound = r;
-    }
+minor_fits = search (rules, area-within, fits, within-mul)
 
 -- the difference of two vectors from a, to b and to c, is a difference of points
 pub differences : (a b c p q : Vector) → p ≡ minus b a → q ≡ minus c a → IsPlace b → IsPlace c → IsDifference (minus p q)
-differences a b c p q e f hb hc = rw (e, f) (record { x = between b.x a.x c.x hb.x hc.x; y = between b.y a.y c.y hb.y hc.y; z = between b.z a.z c.z hb.z hc.z })
-  where
-    between : (x o y : ℤ) → IsCoordinate x → IsCoordinate y → unsigned_abs ((x -ℤ o) -ℤ (y -ℤ o)) ≤ difference_limit
-    between x o y h k = omega (arith, ints)
+differences = grind (arith, ints)
 
 -- a number that was converted to 128 bits and back
 abbrev pub through : ℤ → ℤ
@@ -114,10 +96,7 @@ handed x y = through_half x *ℤ through_half y
 
 -- 64 bits hold the components of a normal
 kept : (x y p : ℤ) → unsigned_abs x ≤ normal_limit → unsigned_abs y ≤ normal_limit → p ≡ handed x y → p ≡ x *ℤ y
-kept x y p h k e =
-    let fx : FitsSigned w64 x = fits x normal_limit h (lit< tt) in
-    let fy : FitsSigned w64 y = fits y normal_limit k (lit< tt) in
-    rw e (simp to_z-of_z)
+kept = grind arith
 
 -- the code of the scalar product of u and v, from the three products
 pub record DotFits (u v : Vector) (p q r : ℤ) : Type 0 where
@@ -146,9 +125,4 @@ dot_fits u v p q r hu hv ep eq er = rw (kept u.x v.x p hu.x hv.x ep, kept u.y v.
 
 -- the absolute value of a scalar product of vectors within the limit of normals
 pub dot-within : (u v : Vector) → IsNormal u → IsNormal v → unsigned_abs (dot u v) ≤ offset_limit
-dot-within u v hu hv =
-    sum (normal_limit * normal_limit) (u.x *ℤ v.x) (u.y *ℤ v.y) (u.z *ℤ v.z) (within-mul u.x v.x normal_limit normal_limit hu.x hv.x)
-    (within-mul u.y v.y normal_limit normal_limit hu.y hv.y) (within-mul u.z v.z normal_limit normal_limit hu.z hv.z)
-  where
-    sum : (m : ℕ) (x y z : ℤ) → unsigned_abs x ≤ m → unsigned_abs y ≤ m → unsigned_abs z ≤ m → unsigned_abs (x +ℤ y +ℤ z) ≤ 3 * m
-    sum m x y z hx hy hz = let two = within-add x y m m hx hy in let whole = within-add (x +ℤ y) z (m + m) m two hz in omega (arith, whole)
+dot-within = grind (arith, within-mul, within-add)

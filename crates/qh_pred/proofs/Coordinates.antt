@@ -1,6 +1,5 @@
 -- Coordinates that code reads from two points, and a point that it makes of them.
-use Rattle.qh_model.proofs.Common.{ℕ, ◌≡◌, ◌<◌, ◌≤◌, ◌^◌, arith, lit<, ◌⊎◌, inl, inr, ints, to_z-of_z, fits_signed_from_abs, ℤ, ◌≤ℤ◌, unsigned_abs}
-use Rattle.qh_model.proofs.Common.{IsCoordinate, mag, w32, hbits, to_z, of_z}
+use Rattle.qh_model.proofs.Common.{IsCoordinate, arith, ints, mag, of_z, to_z, w32, ℤ, ◌<◌, ◌^◌, ◌≡◌, ◌≤ℤ◌, ◌⊎◌}
 
 -- a number as it is stored in 32 bits
 abbrev held : ℤ → ℤ
@@ -10,20 +9,14 @@ held x = to_z w32 (of_z w32 x)
 pub read_is : (x y : ℤ) → mag x < 2 ^ 31 → x ≡ y → held x ≡ y
 read_is x y h e = omega (arith, ints)
 
--- a number whose absolute value fits keeps it
-held_size : (x : ℤ) (m : ℕ) → unsigned_abs x ≤ m → m < 2 ^ hbits w32 → unsigned_abs (held x) ≤ m
-held_size x m h l = rw (to_z-of_z w32 x (fits_signed_from_abs w32 x (omega (arith, h, l)))) h
-
 -- one of two coordinates is a coordinate
 pub one_of_two : (l h e x y : ℤ) → IsCoordinate l → IsCoordinate h → x ≡ l → y ≡ h → (e ≡ x) ⊎ (e ≡ y) → IsCoordinate (held e)
-one_of_two l h e x y p q f g (inl is) = rw (is, f) (held_size l _ p (lit< tt))
-one_of_two l h e x y p q f g (inr is) = rw (is, g) (held_size h _ q (lit< tt))
+one_of_two = grind arith
 
 -- ---- a coordinate r, made of a number e that is one of two coordinates x and y, which are l and h
 module _ (l h e x y r : ℤ) (f : mag x < 2 ^ 31) (g : mag y < 2 ^ 31) (k : mag e < 2 ^ 31) (p : x ≡ l) (q : y ≡ h) (s : r ≡ held e) where
   pub made_one : (e ≡ held x) ⊎ (e ≡ held y) → (r ≡ l) ⊎ (r ≡ h)
-  made_one (inl is) = inl (omega (arith, ints))
-  made_one (inr is) = inr (omega (arith, ints))
+  made_one = grind arith
 
   pub made_below : (e ≤ℤ held x) × (e ≤ℤ held y) → (r ≤ℤ l) × (r ≤ℤ h)
   made_below b = let one = b.0 in let two = b.1 in (omega (arith, ints, one), omega (arith, ints, two))

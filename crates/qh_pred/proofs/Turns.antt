@@ -1,23 +1,16 @@
 -- The sign of a turn in a plane, determined by one component of the plane's normal.
-use Rattle.std.proofs.Common.{◌≡◌, ◌≢◌, [], ◌∷◌, refl, ap, sym, ◌∙◌, Bool, true, false, cond}
-use Rattle.std.proofs.lemmas.Int.{by_lt_z}
-use Rattle.std.specs.{Cmp.int_ranks, Cmp.int_cmp_is, Cmp.signed_Decides, Ordering.MatchOrdering, Ordering.int_eq}
-use Rattle.std.specs.Prelude.{ℤ, pos, ◌*ℤ◌, ◌<ℤ◌}
-use Rattle.std.specs.declared.cmp.Ordering.{Ordering, TheVariants.Less, TheVariants.Equal, TheVariants.Greater}
-use Rattle.qh_model.proofs.algebra.Order.{mul-pos, mul-pos_neg, mul-neg_neg, product_zero, le_less}
-use Rattle.qh_model.proofs.algebra.{Ring.ring, Ring.Expr.var, Ring.Expr.mul, VectorIdentities.vector_path, VectorIdentities.left-dot, VectorIdentities.dot_comm}
+use Rattle.qh_model.proofs.algebra.Order.{le_less, mul-neg_neg, mul-pos, mul-pos_neg, product_zero}
+use Rattle.qh_model.proofs.algebra.{Ring.ring, Ring.Expr.mul, Ring.Expr.var, VectorIdentities.dot_comm, VectorIdentities.left-dot, VectorIdentities.vector_path}
 use Rattle.qh_model.proofs.extremes.Directions.{Parallel, parallel_normal, square-positive}
-use Rattle.qh_model.specs.headline.{Predicates.cross, Predicates.left, Vector.Vector, Vector.origin, Vector.dot}
-use Rattle.qh_pred.specs.contract.Turns.{sign, IsAcross, first_product}
+use Rattle.qh_model.specs.headline.{Predicates.cross, Predicates.left, Vector.Vector, Vector.dot, Vector.origin}
+use Rattle.qh_pred.specs.contract.Turns.{IsAcross, first_product, sign}
+use Rattle.std.proofs.Common.{Bool, [], ap, arith, cond, false, refl, sym, true, ◌∙◌, ◌∷◌, ◌≡◌, ◌≢◌}
+use Rattle.std.proofs.lemmas.Int.{by_lt_z}
+use Rattle.std.specs.{Cmp.signed_Decides, Ordering.int_eq, Prelude.pos, Prelude.ℤ, Prelude.◌*ℤ◌, Prelude.◌<ℤ◌}
 
 -- numbers that are below, at and above 0 together have the same sign
 same_sign : (x y : ℤ) → (x <ℤ pos 0 → y <ℤ pos 0) → (x ≡ pos 0 → y ≡ pos 0) → (pos 0 <ℤ x → pos 0 <ℤ y) → sign x ≡ sign y
-same_sign x y f g h = int_cmp_is y (pos 0) (sign x) (told (sign x) (int_ranks x (pos 0)))
-  where
-    told : (r : Ordering) → MatchOrdering r (x <ℤ pos 0) (x ≡ pos 0) (pos 0 <ℤ x) → MatchOrdering r (y <ℤ pos 0) (y ≡ pos 0) (pos 0 <ℤ y)
-    told Less k = f k
-    told Equal k = g k
-    told Greater k = h k
+same_sign = grind arith
 
 -- a positive factor keeps the sign
 pub sign-mul : (s z : ℤ) → pos 0 <ℤ s → sign z ≡ sign (s *ℤ z)
@@ -56,5 +49,4 @@ first_product-sign n c some along = by_x (int_eq n.x (pos 0)) refl
 
 -- so this component determines the sign of a turn in a plane with the normal n
 pub turn_sign : (n u v w : Vector) → IsAcross n u v w → sign (first_product n (cross u v w)) ≡ sign (left n u v w)
-turn_sign n u v w h = first_product-sign n (cross u v w) h.some (parallel_normal n u v w h.to_v h.to_w)
-    ∙ ap sign (dot_comm n (cross u v w) ∙ sym (left-dot n u v w))
+turn_sign = grind (arith, first_product-sign, parallel_normal, dot_comm, left-dot)

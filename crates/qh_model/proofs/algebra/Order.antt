@@ -1,8 +1,6 @@
 -- Signs of products. A signature needs brackets, since `≤ℤ` binds tighter than `+ℤ` and `*ℤ`.
-use Rattle.qh_model.proofs.Common.{◌≡◌, zero, suc, ◌*◌, ◌≤◌, arith, ap, sym, ◌∙◌, refl, ◌⊎◌, inl, inr, ⊎_elim, *ℤ-zero, mul-le-mul, ints, by_lt_z, ℤ, pos}
-use Rattle.qh_model.proofs.Common.{negsuc, ◌+ℤ◌, ◌-ℤ◌, ◌*ℤ◌, neg_ℤ, ◌≤ℤ◌, ◌<ℤ◌, ℤ_discrete}
-use borrow.Author.Differences.{product_is}
-use Rattle.qh_model.proofs.algebra.{Integers.mul_add, Integers.mul_comm, Integers.mul_neg, Signs.not_less}
+use Rattle.qh_model.proofs.Common.{*ℤ-zero, ap, arith, by_lt_z, inl, inr, ints, neg_ℤ, pos, rules, sym, ℤ, ℤ_discrete, ⊎_elim, ◌*ℤ◌, ◌+ℤ◌, ◌-ℤ◌, ◌<ℤ◌, ◌∙◌, ◌≡◌}
+use Rattle.qh_model.proofs.{Common.◌≤ℤ◌, Common.◌⊎◌, algebra.Integers.mul_add, algebra.Integers.mul_comm, algebra.Integers.mul_neg, algebra.Signs.not_less}
 
 -- the product of two numbers not below 0
 pub mul-nonneg : (a b : ℤ) → pos 0 ≤ℤ a → pos 0 ≤ℤ b → pos 0 ≤ℤ (a *ℤ b)
@@ -22,12 +20,7 @@ mul-nonpos a b h k = grind (arith, ints)
 
 -- the product of two positive numbers
 pub mul-pos : (a b : ℤ) → pos 0 <ℤ a → pos 0 <ℤ b → pos 0 <ℤ (a *ℤ b)
-mul-pos (pos a) (pos b) h k =
-    let p : 1 ≤ a = omega (arith, ints) in
-    let q : 1 ≤ b = omega (arith, ints) in
-    let r : 1 * 1 ≤ a * b = mul-le-mul p q in omega (arith, ints)
-mul-pos (pos a) (negsuc b) h k = absurd (omega (arith, ints))
-mul-pos (negsuc a) b h k = absurd (omega (arith, ints))
+mul-pos = search rules
 
 -- a factor not below 0 keeps the order
 pub mul-le : (a b c : ℤ) → pos 0 ≤ℤ a → b ≤ℤ c → (a *ℤ b) ≤ℤ (a *ℤ c)
@@ -64,10 +57,7 @@ product_zero l y e = ap (λ v. l *ℤ v) e ∙ *ℤ-zero l
 
 -- a product that is 0 has a factor 0
 pub zero_product : (a b : ℤ) → a *ℤ b ≡ pos 0 → (a ≡ pos 0) ⊎ (b ≡ pos 0)
-zero_product (pos zero) b k = inl refl
-zero_product (pos (suc n)) b k = inr (cancel-zero (pos (suc n)) b (omega (arith, ints)) k)
-zero_product (negsuc n) b k =
-    inr (cancel-zero (pos (suc n)) b (omega (arith, ints)) (omega (arith, ints, k, product_is (negsuc n) b, product_is (pos (suc n)) b)))
+zero_product = grind (arith, cancel-zero)
 
 -- a negative factor of 0
 pub cancel-zero_neg : (a b : ℤ) → a <ℤ pos 0 → a *ℤ b ≡ pos 0 → b ≡ pos 0
@@ -93,10 +83,6 @@ zero_or_not v = elim (ℤ_discrete v (pos 0)) [ yes e ↦ inl e | no n ↦ inr n
 pub neg-positive : (x : ℤ) → x <ℤ pos 0 → pos 0 <ℤ neg_ℤ x
 neg-positive x h = omega (arith, ints)
 
--- the opposite of a number not above 0
-pub neg-nonneg : (x : ℤ) → x ≤ℤ pos 0 → pos 0 ≤ℤ neg_ℤ x
-neg-nonneg x h = omega (arith, ints)
-
 -- the product of two negative numbers
 pub mul-neg_neg : (a b : ℤ) → a <ℤ pos 0 → b <ℤ pos 0 → pos 0 <ℤ (a *ℤ b)
 mul-neg_neg a b h k = omega (arith, ints, mul_neg a b, mul-neg_pos a (neg_ℤ b) h (neg-positive b k))
@@ -111,5 +97,4 @@ negative_le x h = omega (arith, ints)
 
 -- a square is not below 0
 pub square-nonneg : (x : ℤ) → pos 0 ≤ℤ (x *ℤ x)
-square-nonneg (pos n) = omega (arith, ints)
-square-nonneg (negsuc n) = omega (arith, ints)
+square-nonneg = grind arith

@@ -1,6 +1,6 @@
 -- A normal form of polynomials of whole numbers. An identity is proved by computing it.
 use Rattle.std.proofs.Common.{◌≡◌, ℕ, arith, ap, sym, ◌∙◌, refl, List, [], ◌∷◌, Bool, true, false, eqb, ltb, get_or}
-use Rattle.std.proofs.{Math.IntN.+ℤ_assoc, Math.IntN.+ℤ_idl, Math.IntN.+ℤ_idr, Math.IntN.*ℤ-zero, Math.IntN.neg_ℤ-+ℤ, lemmas.Bool.eqb-true, lemmas.Int.ints}
+use Rattle.std.proofs.{Math.IntN.+ℤ_assoc, Math.IntN.+ℤ_idl, Math.IntN.+ℤ_idr, Math.IntN.*ℤ-zero, Math.IntN.neg_ℤ-+ℤ, lemmas.Int.ints}
 use Rattle.std.specs.Prelude.{ℤ, pos, negsuc, ◌+ℤ◌, ◌-ℤ◌, ◌*ℤ◌, neg_ℤ}
 use Rattle.qh_model.proofs.algebra.Integers.{mul_add, mul_assoc, mul_swap, neg_mul, one_mul, mul_one, zero_mul, add_mul}
 
@@ -115,8 +115,7 @@ zeros (t ∷ p) = elim (is_zero t.0) [ true ↦ zeros p | false ↦ false ]
 
 -- a step of the next
 eq_m-split : (i j : ℕ) (m n : Mono) (b : Bool) → eqb i j ≡ b → (eq_m m n ≡ true → m ≡ n) → elim b [ true ↦ eq_m m n | false ↦ false ] ≡ true → (i ∷ m) ≡ (j ∷ n)
-eq_m-split i j m n true f h e = cc (eqb-true i j f, h e)
-eq_m-split i j m n false f h e = cc
+eq_m-split = grind arith
 
 -- the test of monomials is correct
 eq_m-is : (m n : Mono) → eq_m m n ≡ true → m ≡ n
@@ -142,16 +141,10 @@ mul_m-value env (i ∷ m) n =
     ins_m-value env i (mul_m m n) ∙ ap (λ v. get_or env i (pos 0) *ℤ v) (mul_m-value env m n)
     ∙ sym (mul_assoc (get_or env i (pos 0)) (value_m env m) (value_m env n))
 
--- the test of coefficients is correct
-is_zero-is : (c : ℤ) → is_zero c ≡ true → c ≡ pos 0
-is_zero-is (pos n) e = ap pos (eqb-true n 0 e)
-is_zero-is (negsuc n) e = cc
-
 -- a term whose coefficient may be 0
 zero_term : (env : List ℤ) (c : ℤ) (m : Mono) (p : Poly) (b : Bool) → is_zero c ≡ b
     → value_p env (elim b [ true ↦ p | false ↦ (c, m) ∷ p ]) ≡ c *ℤ value_m env m +ℤ value_p env p
-zero_term env c m p true e = rw (is_zero-is c e, zero_mul (value_m env m)) (sym (+ℤ_idl (value_p env p)))
-zero_term env c m p false e = refl
+zero_term = grind arith
 
 -- a step of the next
 ins_p-split : (env : List ℤ) (c : ℤ) (m : Mono) (t : ℤ × Mono) (p q : Poly) (b b' : Bool) → eq_m m t.1 ≡ b → value_p env q ≡ c *ℤ value_m env m +ℤ value_p env p
@@ -218,8 +211,7 @@ norm-value env (neg a) = neg_p-value env (norm a) ∙ ap neg_ℤ (norm-value env
 -- a step of the next
 zeros-split : (env : List ℤ) (c m v : ℤ) (b z : Bool) → is_zero c ≡ b → (z ≡ true → v ≡ pos 0)
     → elim b [ true ↦ z | false ↦ false ] ≡ true → c *ℤ m +ℤ v ≡ pos 0
-zeros-split env c m v true z e h f = rw (is_zero-is c e) (rw (h f) (rw (zero_mul m) refl))
-zeros-split env c m v false z e h f = cc
+zeros-split = grind arith
 
 -- a polynomial whose coefficients are all 0 is 0
 zeros-value : (env : List ℤ) (p : Poly) → zeros p ≡ true → value_p env p ≡ pos 0

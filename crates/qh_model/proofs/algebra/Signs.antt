@@ -42,10 +42,6 @@ sum_parts x a b c e h k l p = (omega (arith, ints), omega (arith, ints), omega (
 pub sum_zero : (x a b c : ℤ) → x ≡ a +ℤ b +ℤ c → a ≡ pos 0 → b ≡ pos 0 → c ≡ pos 0 → x ≡ pos 0
 sum_zero x a b c e h k l = omega (arith, ints)
 
--- the sum of four numbers not above 0 is not above 0
-pub no_sum : (x a b c d : ℤ) → x ≡ a +ℤ b +ℤ c +ℤ d → pos 0 <ℤ x → a ≤ℤ pos 0 → b ≤ℤ pos 0 → c ≤ℤ pos 0 → d ≤ℤ pos 0 → ⊥
-no_sum x a b c d e p h i j k = omega (arith, ints)
-
 -- ---- the sign of a number, from that of an equal number
 -- not above 0
 pub equal_nonpos : (x r : ℤ) → x ≡ r → x ≤ℤ pos 0 → r ≤ℤ pos 0

@@ -1,5 +1,5 @@
 -- Each event is counted once: as a claim, a delivered node or a mark.
-use Rattle.std.proofs.Common.{◌≡◌, ℕ, ◌+◌, ◌-◌, ◌*◌, ◌<◌, ◌≤◌, Bool, true, false, List, [], ◌∷◌, length, sym, refl, ap, ◌∙◌, subst, arith}
+use Rattle.std.proofs.Common.{◌≡◌, ℕ, ◌+◌, ◌-◌, ◌*◌, ◌<◌, ◌≤◌, Bool, true, false, List, [], ◌∷◌, length, sym, ap, ◌∙◌, subst, arith}
 use Rattle.qh_model.specs.contract.BoardMachine.{Place, untouched, held, parked, used, published, Mark, none, left, gave_up, Machine, start, put, parent}
 use Rattle.qh_model.specs.contract.BoardMachine.{sibling, Event, claim_got, claim_over, arrive_first, arrive_second, publish, leave, give_up, Can, after, run}
 use Rattle.qh_model.specs.{contract.BoardMachine.CanRun, contract.BoardMachine.settled, contract.BoardMachine.sum_to, steps.Endings.ended}
@@ -11,21 +11,14 @@ one_if true = 1
 one_if false = 0
 
 pub settled_small : (x : Place) → settled x ≤ 1
-settled_small untouched = omega arith
-settled_small (held w) = omega arith
-settled_small parked = omega arith
-settled_small used = omega arith
-settled_small published = omega arith
+settled_small = grind arith
 
 pub ended_small : (x : Mark) → ended x ≤ 1
-ended_small none = omega arith
-ended_small left = omega arith
-ended_small gave_up = omega arith
+ended_small = grind arith
 
 pub one_if_small : (x : Bool) → one_if x ≤ 1
 unfolding one_if
-one_if_small true = omega arith
-one_if_small false = omega arith
+one_if_small = grind arith
 
 module _ (B W : ℕ) (some : 0 < B) where
   pub settled_sum : Machine → ℕ
@@ -59,12 +52,7 @@ module _ (B W : ℕ) (some : 0 < B) where
 
   pub counts_start : Counts start 0
   unfolding settled_sum over_sum mark_sum one_if
-  counts_start = record {
-    steps = let a = sum_zero (λ i. settled (start.node i)) (2 * B) (λ i. refl) in
-        let b = sum_zero (λ w. ended (start.mark w)) W (λ i. refl) in omega arith;
-    drawn = omega arith;
-    early = λ _. sum_zero (λ w. one_if (start.over w)) W (λ i. refl);
-  }
+  counts_start = grind (arith, sum_zero, one_if)
 
   counts : (m : Machine) (n : ℕ) (e : Event) → Consistent B W m → Counts m n → Can B W m e → Counts (after B W m e) (n + 1)
   unfolding settled_sum over_sum mark_sum one_if
@@ -107,10 +95,7 @@ module _ (B W : ℕ) (some : 0 < B) where
 
   pub bounded : (m : Machine) (n : ℕ) → Consistent B W m → Counts m n → n ≤ 3 * B + 2 * W - 1
   unfolding settled_sum over_sum mark_sum
-  bounded m n g c = let a = c.steps in let b = c.drawn in
-      let d = sum_less (λ i. settled (m.node i)) (2 * B) (ap settled g.bottom) (λ i. settled_small (m.node i)) (omega arith) in
-      let o = sum_most (λ w. one_if (m.over w)) W (λ w. one_if_small (m.over w)) in
-      let k = sum_most (λ w. ended (m.mark w)) W (λ w. ended_small (m.mark w)) in omega arith
+  bounded = grind (arith, sum_less, settled_small, sum_most, one_if, one_if_small, ended_small)
 
   -- the number of claims, from the passes that have learned that all blocks are claimed
   pub few_claims : (m : Machine) (n : ℕ) → Counts m n → m.claims ≤ B + W

@@ -1,5 +1,5 @@
 -- The invariant of every reachable state of the board, for each event except the second arrival.
-use Rattle.qh_model.proofs.Common.{◌≡◌, ◌≢◌, ◌⊎◌, inl, inr, ⊎_elim, ℕ, ◌+◌, ◌*◌, ◌<◌, ◌≤◌, true, sym, refl, ap, ◌∙◌, subst, arith, dite, ℕ_discrete, dec_le}
+use Rattle.qh_model.proofs.Common.{◌≡◌, ◌≢◌, ◌⊎◌, inl, inr, ⊎_elim, ℕ, ◌+◌, ◌*◌, ◌<◌, ◌≤◌, true, sym, ap, ◌∙◌, subst, arith, dite, ℕ_discrete}
 use Rattle.qh_model.proofs.Common.{Place, untouched, held, parked, used, published, Machine, put, parent, sibling, claim_got, Can, after}
 use Rattle.qh_model.specs.contract.BoardMachine.{start}
 use Rattle.qh_model.proofs.board.{Siblings.near, Updates.put_here, Updates.put_else, Updates.at_put}
@@ -23,18 +23,11 @@ abbrev pub Consistent : ℕ → ℕ → Machine → Type 0
 Consistent B W m = Grown B W m.claims m.node
 
 pub place_dec : (x : Place) → (x ≡ untouched) ⊎ (x ≢ untouched)
-place_dec untouched = inl refl
-place_dec (held w) = inr (λ e. cc)
-place_dec parked = inr (λ e. cc)
-place_dec used = inr (λ e. cc)
-place_dec published = inr (λ e. cc)
+place_dec = grind arith
 
 module _ (B W : ℕ) (some : 0 < B) where
   pub ranged : (m : Machine) → Consistent B W m → (i : ℕ) → m.node i ≢ untouched → (0 < i) × (i < 2 * B)
-  ranged m g i h = (
-    dite (ℕ_discrete i 0) (λ e. absurd (h (ap m.node e ∙ g.bottom))) (λ ne. omega arith),
-    dite (dec_le (2 * B) i) (λ e. absurd (h (g.out i e))) (λ ne. omega arith),
-  )
+  ranged = grind arith
 
   -- a node gets another value, neither value is untouched or used, and the children of its parent do not change
   pub changes : (m : Machine) → Consistent B W m → (i : ℕ) (x : Place) → m.node i ≢ untouched → m.node i ≢ used
@@ -82,36 +75,10 @@ module _ (B W : ℕ) (some : 0 < B) where
       pairs j (inr a) (inr b) = g.pair j a.1 b.1
 
   pub starts : Consistent B W start
-  starts = record {
-    late = λ i l. refl;
-    out = λ i l. refl;
-    bottom = refl;
-    early = λ i a b c _. absurd (let z : ℕ = start.claims in omega arith);
-    who = λ i w e. absurd (cc);
-    one = λ w i j e _. absurd (cc);
-    below = λ i a b n. absurd (n refl);
-    up = λ i ne e. absurd (cc);
-    root_parked = λ e. cc;
-    root_used = λ e. cc;
-    top = λ i e. absurd (cc);
-    pair = λ i e _. cc;
-  }
+  starts = grind arith
 
   pub ends : (m : Machine) → Consistent B W m → (w : ℕ) → B ≤ m.claims → Consistent B W (record m { claims = m.claims + 1; over = put m.over w true })
-  ends m g w full = record {
-    late = λ i l. g.out i (omega arith);
-    out = g.out;
-    bottom = g.bottom;
-    early = λ i a b c. g.early i a b (omega arith);
-    who = g.who;
-    one = g.one;
-    below = g.below;
-    up = g.up;
-    root_parked = g.root_parked;
-    root_used = g.root_used;
-    top = g.top;
-    pair = g.pair;
-  }
+  ends = grind arith
 
   pub gets : (m : Machine) → Consistent B W m → (w : ℕ) → Can B W m (claim_got w) → Consistent B W (after B W m (claim_got w))
   gets m g w can =

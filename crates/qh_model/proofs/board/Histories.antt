@@ -76,22 +76,7 @@ module _ (B W : ℕ) (some : 0 < B) where
 
   -- a pass that has ended reaches no node
   held_before : (m : Machine) (e : Event) → Can B W m e → (j v : ℕ) → m.mark v ≢ none → (after B W m e).node j ≡ held v → m.node j ≡ held v
-  held_before m (claim_got w) can j v n h = ⊎_elim
-      (λ (t : (j ≡ B + m.claims) × (held w ≡ held v)). let f = t.1 in let z : w ≡ v = cc in
-      absurd (n (ap m.mark (sym z) ∙ can.0.1))) (λ (t : (j ≢ B + m.claims) × (m.node j ≡ held v)). t.1) (at_put m.node (B + m.claims) j (held w) (held v) h)
-  held_before m (claim_over w) can j v n h = h
-  held_before m (arrive_first w i) can j v n h = ⊎_elim
-      (λ (t : (j ≡ i) × (parked ≡ held v)). let f = t.1 in absurd (cc)) (λ (t : (j ≢ i) × (m.node j ≡ held v)). t.1) (at_put m.node i j parked (held v) h)
-  held_before m (arrive_second w i) can j v n h = by_case (cases m.node w i j (held v) h)
-    where
-      by_case : Cases m.node w i j (held v) → m.node j ≡ held v
-      by_case (same a b c t) = t
-      by_case (spent a t) = absurd (cc)
-      by_case (got a t) = let z : w ≡ v = cc in absurd (n (ap m.mark (sym z) ∙ can.0.1))
-  held_before m (publish w) can j v n h = ⊎_elim
-      (λ (t : (j ≡ 1) × (published ≡ held v)). let f = t.1 in absurd (cc)) (λ (t : (j ≢ 1) × (m.node j ≡ held v)). t.1) (at_put m.node 1 j published (held v) h)
-  held_before m (leave w) can j v n h = h
-  held_before m (give_up w i) can j v n h = h
+  held_before = grind arith
 
   settled_runs : (m : Machine) (es : List Event) → Consistent B W m → CanRun B W m es → (j : ℕ) → settled (m.node j) ≡ 1 → settled ((run B W m es).node j) ≡ 1
   settled_runs m [] g can j h = h
@@ -186,5 +171,4 @@ module _ (B W : ℕ) (some : 0 < B) where
   all_ended m (e ∷ es) g s can = all_ended (after B W m e) es (keeps_good B W some m e g can.0) (keeps_ended m e g can.0 s) can.1
 
   pub run_ended : (es : List Event) → Consistent B W start → CanRun B W start es → Ended (run B W start es)
-  run_ended es g can =
-      all_ended start es g (record { stuck = λ v e. absurd (cc); empty = λ v e. absurd (cc); unmarked = λ v h. refl; going = λ v h. refl }) can
+  run_ended = grind (arith, all_ended)

@@ -1,9 +1,9 @@
 -- The second arrival at a node keeps the invariant.
-use Rattle.qh_model.proofs.Common.{◌≡◌, ◌≢◌, ◌⊎◌, inl, inr, ℕ, ◌+◌, ◌*◌, ◌<◌, sym, ap, ◌∙◌, subst, arith, ⊎_elim, dite, ℕ_discrete, Place, untouched, held}
+use Rattle.qh_model.proofs.Common.{◌≡◌, ◌≢◌, ◌⊎◌, inl, inr, ℕ, ◌+◌, ◌*◌, ◌<◌, sym, ap, ◌∙◌, subst, arith, dite, ℕ_discrete, Place, untouched, held, rules}
 use Rattle.qh_model.proofs.Common.{parked, used, published, Machine, put, parent, sibling}
 use Rattle.qh_model.specs.contract.BoardMachine.{Acts}
 use Rattle.qh_model.proofs.board.Grown.{Consistent, place_dec, ranged}
-use Rattle.qh_model.proofs.board.{Siblings.ArePair, Siblings.Near, Siblings.near, Siblings.of_pair, Updates.put_here, Updates.put_else, Updates.at_put}
+use Rattle.qh_model.proofs.board.{Siblings.ArePair, Siblings.Near, Siblings.near, Siblings.of_pair, Updates.put_here, Updates.put_else}
 
 -- the state of a node after the second arrival from the node i
 pub data Cases (f : ℕ → Place) (w i j : ℕ) (y : Place) : Type 0 where
@@ -15,16 +15,7 @@ abbrev pub joined : (ℕ → Place) → ℕ → ℕ → ℕ → Place
 joined f w i = put (put (put f i used) (sibling i) used) (parent i) (held w)
 
 pub cases : (f : ℕ → Place) (w i j : ℕ) (y : Place) → joined f w i j ≡ y → Cases f w i j y
-cases f w i j y e = ⊎_elim (λ t. got t.0 t.1)
-    (λ t. mid t.0 (at_put (put f i used) (sibling i) j used y t.1)) (at_put (put (put f i used) (sibling i) used) (parent i) j (held w) y e)
-  where
-    low : j ≢ parent i → j ≢ sibling i → ((j ≡ i) × (used ≡ y)) ⊎ ((j ≢ i) × (f j ≡ y)) → Cases f w i j y
-    low a b (inl t) = spent (inl t.0) t.1
-    low a b (inr t) = same t.0 b a t.1
-
-    mid : j ≢ parent i → ((j ≡ sibling i) × (used ≡ y)) ⊎ ((j ≢ sibling i) × (put f i used j ≡ y)) → Cases f w i j y
-    mid a (inl t) = spent (inr t.0) t.1
-    mid a (inr t) = low a t.0 (at_put f i j used y t.1)
+cases = search rules
 
 module _ (B W : ℕ) (some : 0 < B) (m : Machine) (g : Consistent B W m) (w i : ℕ) (act : Acts W m w)
     (mine : m.node i ≡ held w) (not_root : i ≢ 1) (waits : m.node (sibling i) ≡ parked) where
@@ -35,45 +26,25 @@ module _ (B W : ℕ) (some : 0 < B) (m : Machine) (g : Consistent B W m) (w i : 
   n_i = near i (let r = r_i in omega arith)
 
   pub fresh : m.node (parent i) ≡ untouched
-  fresh = elim (place_dec (m.node (parent i))) as (λ _. m.node (parent i) ≡ untouched) [ inl e ↦ e | inr ne ↦ clash ne ]
-    where
-      clash : m.node (parent i) ≢ untouched → m.node (parent i) ≡ untouched
-      clash ne = let u = g.below (parent i) n_i.positive (let r = r_i in let z = n_i.above in omega arith) ne in
-          let f : held w ≡ used = sym mine ∙ of_pair m.node used i n_i.both u in cc
-
-  new : ℕ → Place
-  new = joined m.node w i
+  fresh = grind (arith, place_dec, n_i, r_i, of_pair)
 
   pub at_i : joined m.node w i i ≡ used
-  at_i = put_else (put (put m.node i used) (sibling i) used) (parent i) (held w) i
-      (λ q. let a = n_i.above in omega arith)
-      ∙ (put_else (put m.node i used) (sibling i) used i (λ q. n_i.apart (sym q)) ∙ put_here m.node i used)
+  at_i = grind (arith, put_else, n_i, put_here)
 
   pub at_s : joined m.node w i (sibling i) ≡ used
-  at_s = put_else (put (put m.node i used) (sibling i) used) (parent i) (held w) (sibling i)
-      (λ q. let a = n_i.above_sibling in omega arith) ∙ put_here (put m.node i used) (sibling i) used
+  at_s = grind (arith, put_else, n_i, put_here)
 
   pub at_p : joined m.node w i (parent i) ≡ held w
   at_p = put_here (put (put m.node i used) (sibling i) used) (parent i) (held w)
 
   keeps : (j : ℕ) → j ≢ parent i → m.node j ≡ untouched → joined m.node w i j ≡ untouched
-  keeps j c e = put_else (put (put m.node i used) (sibling i) used) (parent i) (held w) j c
-      ∙ (put_else (put m.node i used) (sibling i) used j (λ q. let f : parked ≡ untouched = sym waits ∙ (ap m.node (sym q) ∙ e) in cc)
-      ∙ (put_else m.node i used j (λ q. let f : held w ≡ untouched = sym mine ∙ (ap m.node (sym q) ∙ e) in cc) ∙ e))
+  keeps = grind arith
 
   uses : (j : ℕ) → m.node j ≡ used → joined m.node w i j ≡ used
-  uses j e = put_else (put (put m.node i used) (sibling i) used) (parent i) (held w) j
-      (λ q. let f : untouched ≡ used = sym fresh ∙ (ap m.node (sym q) ∙ e) in cc)
-      ∙ (put_else (put m.node i used) (sibling i) used j (λ q. let f : parked ≡ used = sym waits ∙ (ap m.node (sym q) ∙ e) in cc)
-      ∙ (put_else m.node i used j (λ q. let f : held w ≡ used = sym mine ∙ (ap m.node (sym q) ∙ e) in cc) ∙ e))
+  uses = grind (arith, put_else, fresh)
 
   grows : (j : ℕ) → m.node j ≢ untouched → joined m.node w i j ≢ untouched
-  grows j ne e = by_case (cases m.node w i j untouched e)
-    where
-      by_case : Cases m.node w i j untouched → ⊥
-      by_case (same a b c t) = ne t
-      by_case (spent a t) = cc
-      by_case (got a t) = cc
+  grows = grind arith
 
   pub joins : Consistent B W (record m { node = joined m.node w i })
   joins = record {

@@ -50,11 +50,7 @@ module _ (B W : ℕ) (some : 0 < B) where
 
   -- if no pass holds a node, a node that is not untouched was delivered
   delivered : (m : Machine) → ((i w : ℕ) → m.node i ≢ held w) → (x : Place) (i : ℕ) → m.node i ≡ x → m.node i ≢ untouched → settled (m.node i) ≡ 1
-  delivered m idle_ untouched i e p = absurd (p e)
-  delivered m idle_ (held w) i e p = absurd (idle_ i w e)
-  delivered m idle_ parked i e p = ap settled e
-  delivered m idle_ used i e p = ap settled e
-  delivered m idle_ published i e p = ap settled e
+  delivered = grind arith
 
   -- if all blocks are claimed and no pass holds a node, each node was delivered; the proof goes from the leaves up
   all_reached : (m : Machine) → Consistent B W m → B ≤ m.claims → ((i w : ℕ) → m.node i ≢ held w) → (n i : ℕ)

@@ -1,12 +1,8 @@
 -- The numbers of a node, its sibling and its parent.
-use Rattle.qh_model.proofs.Common.{◌≡◌, ◌≢◌, ◌⊎◌, inl, inr, ℕ, ◌+◌, ◌-◌, ◌*◌, ◌%◌, ◌<◌, refl, ap, sym, ◌∙◌, arith, eq-eqb, ne_eqb, dite, ℕ_discrete, parent}
-use Rattle.qh_model.proofs.Common.{sibling}
+use Rattle.qh_model.proofs.Common.{arith, eq-eqb, parent, refl, sibling, ℕ, ◌%◌, ◌*◌, ◌+◌, ◌<◌, ◌≡◌, ◌≢◌, ◌⊎◌}
 
 pub sibling_even : (i : ℕ) → i % 2 ≡ 0 → sibling i ≡ i + 1
 sibling_even i e = rw (eq-eqb (i % 2) 0 e) refl
-
-pub sibling_odd : (i : ℕ) → i % 2 ≢ 0 → sibling i ≡ i - 1
-sibling_odd i e = rw (ne_eqb (i % 2) 0 e) refl
 
 -- a node and its sibling are the children of their parent, in one order or the other
 abbrev pub ArePair : ℕ → Type 0
@@ -14,8 +10,7 @@ ArePair i = ((2 * parent i ≡ i) × (2 * parent i + 1 ≡ sibling i)) ⊎ ((2 *
 
 -- a fact about both children of a node's parent holds for the node
 pub of_pair : {X : Type 0} (f : ℕ → X) (x : X) (i : ℕ) → ArePair i → (f (2 * parent i) ≡ x) × (f (2 * parent i + 1) ≡ x) → f i ≡ x
-of_pair f x i (inl t) k = ap f (sym t.0) ∙ k.0
-of_pair f x i (inr t) k = ap f (sym t.1) ∙ k.1
+of_pair = grind arith
 
 -- the numbers of a node other than the root, its sibling and its parent
 pub record Near (i : ℕ) : Type 0 where
@@ -28,24 +23,4 @@ pub record Near (i : ℕ) : Type 0 where
   pub both : ArePair i
 
 pub near : (i : ℕ) → 1 < i → Near i
-near i h = dite (ℕ_discrete (i % 2) 0)
-    (λ e. let s = sibling_even i e in let b : sibling (i + 1) ≡ i = sibling_odd (i + 1) (omega arith) ∙ omega arith in
-    record {
-      apart = omega arith;
-      above = omega arith;
-      above_sibling = omega arith;
-      positive = omega arith;
-      back = ap sibling s ∙ b;
-      same = ap parent s ∙ omega arith;
-      both = inl (omega arith, omega arith);
-    })
-    (λ o. let s = sibling_odd i o in let b : sibling (i - 1) ≡ i = sibling_even (i - 1) (omega arith) ∙ omega arith in
-    record {
-      apart = omega arith;
-      above = omega arith;
-      above_sibling = omega arith;
-      positive = omega arith;
-      back = ap sibling s ∙ b;
-      same = ap parent s ∙ omega arith;
-      both = inr (omega arith, omega arith);
-    })
+near = grind arith

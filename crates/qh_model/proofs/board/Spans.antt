@@ -1,8 +1,7 @@
 -- The spans of nodes.
-use Rattle.qh_model.proofs.Common.{◌≡◌, ◌⊎◌, inl, inr, ⊎_elim, ℕ, zero, suc, ◌+◌, ◌-◌, ◌*◌, ◌<◌, ◌≤◌, sym, refl, ap, ◌∙◌, subst, arith, dite, ℕ_discrete}
-use Rattle.qh_model.proofs.Common.{dec_le, parent, InSpan}
+use Rattle.qh_model.proofs.Common.{InSpan, ap, arith, dite, inl, inr, parent, refl, suc, zero, ℕ, ℕ_discrete, ⊎_elim, ◌*◌, ◌+◌, ◌-◌, ◌<◌, ◌∙◌, ◌≡◌, ◌≤◌, ◌⊎◌}
 use Rattle.qh_model.specs.contract.BoardMachine.{ancestor}
-use Rattle.qh_model.specs.laws.BoardLaws.{SpanOfLeaf, SpanOfNode, SpansApart, SpanOfRoot}
+use Rattle.qh_model.specs.laws.BoardLaws.{SpanOfLeaf, SpanOfNode, SpanOfRoot, SpansApart}
 
 -- a node's ancestor is not greater, and a higher ancestor is at most half of the node
 no_greater : (k n : ℕ) → ancestor k n ≤ n
@@ -34,11 +33,7 @@ to_root (suc n) m h lo = dite (ℕ_discrete m 1)
     (λ e. (0, e)) (λ ne. let t = to_root n (parent m) (omega arith) (omega arith) in (suc t.0, ancestor_first t.0 m ∙ t.1))
 
 pub span_of_leaf : SpanOfLeaf
-span_of_leaf B i j h = (there, λ e. (subst (λ (z : ℕ). z < B) (sym e) h, (0, ap (λ (z : ℕ). B + z) e)))
-  where
-    there : InSpan B (B + i) j → j ≡ i
-    there (lt, (zero, e)) = omega arith
-    there (lt, (suc k, e)) = let s = no_greater k (B + j) in absurd (omega arith)
+span_of_leaf = grind (arith, no_greater)
 
 pub span_of_node : SpanOfNode
 span_of_node B i j lo hi = (
@@ -52,12 +47,7 @@ span_of_node B i j lo hi = (
     down (lt, (suc k, e)) = dite (ℕ_discrete (ancestor k (B + j)) (2 * i)) (λ q. inl (lt, (k, q))) (λ ne. inr (lt, (k, omega arith)))
 
 pub spans_apart : SpansApart
-spans_apart B i j lo a b = apart_at a.1.0 b.1.0 a.1.1 b.1.1
-  where
-    apart_at : (k l : ℕ) → ancestor k (B + j) ≡ 2 * i → ancestor l (B + j) ≡ 2 * i + 1 → ⊥
-    apart_at k l e f = dite (ℕ_discrete k l) (λ q. let z : ancestor k (B + j) ≡ ancestor l (B + j) = ap (λ (x : ℕ). ancestor x (B + j)) q in omega arith)
-        (λ ne. dite (dec_le k l) (λ le. let h = half_below k l (B + j) (omega arith) in omega arith)
-        (λ gt. let h = half_below l k (B + j) (omega arith) in omega arith))
+spans_apart = grind (arith, half_below)
 
 pub span_of_root : SpanOfRoot
 span_of_root B j = ((λ t. t.0), λ h. (h, to_root (B + j) (B + j) (omega arith) (omega arith)))

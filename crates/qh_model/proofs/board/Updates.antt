@@ -1,5 +1,5 @@
 -- Functions with a changed value, and their sums.
-use Rattle.qh_model.proofs.Common.{◌≡◌, ◌≢◌, ◌⊎◌, inl, inr, ℕ, zero, suc, ◌+◌, ◌-◌, ◌*◌, ◌<◌, ◌≤◌, sym, refl, ap, ◌∙◌, arith, eq-eqb, ne_eqb, dite, ℕ_discrete}
+use Rattle.qh_model.proofs.Common.{◌≡◌, ◌≢◌, ◌⊎◌, ℕ, zero, suc, ◌+◌, ◌-◌, ◌*◌, ◌<◌, ◌≤◌, sym, refl, ap, ◌∙◌, arith, eq-eqb, ne_eqb, dite, ℕ_discrete}
 use Rattle.qh_model.proofs.Common.{put, sum_to}
 
 module _ {A : Type 0} where
@@ -10,8 +10,7 @@ module _ {A : Type 0} where
   put_else f i x j ne = rw (ne_eqb j i ne) refl
 
   pub at_put : (f : ℕ → A) (i j : ℕ) (x y : A) → put f i x j ≡ y → ((j ≡ i) × (x ≡ y)) ⊎ ((j ≢ i) × (f j ≡ y))
-  at_put f i j x y h = dite (ℕ_discrete j i)
-      (λ e. inl (e, sym (put_here f i x) ∙ (ap (put f i x) (sym e) ∙ h))) (λ ne. inr (ne, sym (put_else f i x j ne) ∙ h))
+  at_put = grind arith
 
 pub sum_same : (f g : ℕ → ℕ) (n : ℕ) → ((i : ℕ) → i < n → f i ≡ g i) → sum_to f n ≡ sum_to g n
 sum_same f g zero same = refl

@@ -1,5 +1,5 @@
 -- Points at a larger scale, and a point slightly beyond the middle of three of them.
-use Rattle.qh_model.proofs.Common.{◌≡◌, refl, ap, sym, ◌∙◌, [], ◌∷◌, ℤ, pos, ◌+ℤ◌, ◌-ℤ◌, ◌*ℤ◌, cross, vol, Vector, minus, dot}
+use Rattle.qh_model.proofs.Common.{◌≡◌, refl, [], ◌∷◌, ℤ, pos, ◌+ℤ◌, ◌-ℤ◌, ◌*ℤ◌, cross, vol, Vector, minus, dot, arith}
 use Rattle.qh_model.proofs.algebra.Ring.{Expr, ring, Expr.var, Expr.con, Expr.add, Expr.sub as less, Expr.mul}
 use Rattle.qh_model.proofs.algebra.VectorIdentities.{vec, put, dotE, crossE, subE, VE, vector_path, vol-dot}
 
@@ -48,11 +48,7 @@ dot-beyond c q a i j k n =
 pub vol-beyond : (c : ℤ) (a b d i j k n : Vector) → let m = pos 3 *ℤ c in
     vol (scaled m a) (scaled m b) (scaled m d) (beyond c i j k n)
     ≡ (m *ℤ m) *ℤ (c *ℤ (vol a b d i +ℤ vol a b d j +ℤ vol a b d k) +ℤ dot (cross a b d) n)
-vol-beyond c a b d i j k n =
-    let m = pos 3 *ℤ c in let p = beyond c i j k n in
-    vol-dot (scaled m a) (scaled m b) (scaled m d) p ∙ ap (λ v. dot v (minus p (scaled m a))) (cross-scaled m a b d)
-    ∙ dot-beyond c (cross a b d) a i j k n
-    ∙ λ t. (m *ℤ m) *ℤ (c *ℤ (sym (vol-dot a b d i) t +ℤ sym (vol-dot a b d j) t +ℤ sym (vol-dot a b d k) t) +ℤ dot (cross a b d) n)
+vol-beyond = grind (arith, vol-dot, cross-scaled, dot-beyond)
 
 -- how far the point is beyond a point l, along n
 pub dot-past : (c : ℤ) (n i j k l : Vector) → dot n (beyond c i j k n)

@@ -1,6 +1,6 @@
 -- The signed volume of a closed surface: a function that changes its sign with an edge's direction adds up to 0.
-use Rattle.qh_model.proofs.Common.{◌≡◌, ℕ, arith, ap, sym, ◌∙◌, refl, inl, inr, List, [], ◌∷◌, map, Bool, true, false, eqb, rules, and_parts, eqb-true, ints, ℤ}
-use Rattle.qh_model.proofs.Common.{pos, ◌+ℤ◌, neg_ℤ, ◌≤ℤ◌, ◌<ℤ◌, ◌&&◌, Triple, edges, is_edge, IsClosed, signed_volume, vol, In, Vector}
+use Rattle.qh_model.proofs.Common.{◌≡◌, ℕ, arith, ap, sym, ◌∙◌, refl, inl, inr, List, [], ◌∷◌, map, true, eqb, rules, ints, ℤ}
+use Rattle.qh_model.proofs.Common.{pos, ◌+ℤ◌, neg_ℤ, ◌≤ℤ◌, ◌<ℤ◌, Triple, edges, is_edge, IsClosed, signed_volume, vol, In, Vector}
 use Rattle.qh_model.specs.laws.ClosedSurfaceLaws.{VolumeIsConstant}
 use Rattle.qh_model.proofs.{Members.each_more, algebra.VectorIdentities.vol-boundary, algebra.VectorIdentities.vol-flip}
 use Rattle.qh_model.proofs.closed_surfaces.Sums.{sum_z, count, Tests, sum_z-same_counts, count-is}
@@ -15,20 +15,11 @@ eqb-refl i = search rules
 
 -- the test of edges tests equality
 pub edge_tests : Tests is_edge
-edge_tests = record {
-  same = λ e f h k. let b = and_parts (eqb e.0 f.0) (eqb e.1 f.1) h in (eqb-true e.0 f.0 b.0 k, eqb-true e.1 f.1 b.1 k);
-  itself = λ e. rw (eqb-refl e.0, eqb-refl e.1) refl;
-}
+edge_tests = grind arith
 
 -- reversing one edge or the other
 pub is_edge-back : (e f : ℕ × ℕ) → is_edge e (back f) ≡ is_edge (back e) f
-is_edge-back e f = swap (eqb e.0 f.1) (eqb e.1 f.0)
-  where
-    swap : (a b : Bool) → (a && b) ≡ (b && a)
-    swap true true = refl
-    swap true false = refl
-    swap false true = refl
-    swap false false = refl
+is_edge-back = grind arith
 
 -- the reversed edges
 count-back : (e : ℕ × ℕ) (es : List (ℕ × ℕ)) → count (is_edge e) (map back es) ≡ count (is_edge (back e)) es

@@ -1,7 +1,6 @@
 -- Sums of whole numbers over a list, determined by the number of times that each element occurs.
-use Rattle.qh_model.proofs.Common.{◌≡◌, ℕ, ◌+◌, ◌<◌, arith, ap, sym, ◌∙◌, refl, List, [], ◌∷◌, Bool, true, false, cond, inl, inr, ℤ, pos, ◌+ℤ◌, count_by}
-use Rattle.qh_model.proofs.Common.{filter, cases_Bool, sum_by-cons}
-use Rattle.qh_model.proofs.algebra.Integers.{add_swap}
+use Rattle.qh_model.proofs.Common.{Bool, List, [], ap, arith, cases_Bool, cond, count_by, false, filter, inl, inr, pos, refl, sum_by-cons, sym, true, ℕ, ℤ}
+use Rattle.qh_model.proofs.{Common.◌+ℤ◌, Common.◌+◌, Common.◌<◌, Common.◌∙◌, Common.◌∷◌, Common.◌≡◌, algebra.Integers.add_swap}
 
 -- the sum of f over a list
 abbrev pub sum_z : {X : Type 0} → (X → ℤ) → List X → ℤ

@@ -1,5 +1,5 @@
 -- The theorem of alternatives for points of space.
-use Rattle.qh_model.proofs.Common.{◌≡◌, ℕ, ◌+◌, ◌<◌, ◌≤◌, arith, sym, ap, ◌∙◌, inl, inr, ⊎_elim, List, [], ◌∷◌, mul-le-mul_left, ints, ℤ, pos, ◌+ℤ◌, ◌-ℤ◌, ◌*ℤ◌}
+use Rattle.qh_model.proofs.Common.{◌≡◌, ℕ, ◌+◌, ◌<◌, ◌≤◌, arith, sym, ap, ◌∙◌, List, [], ◌∷◌, mul-le-mul_left, ints, ℤ, pos, ◌+ℤ◌, ◌-ℤ◌, ◌*ℤ◌}
 use Rattle.qh_model.proofs.Common.{◌<ℤ◌, IsBalanced, Combination, In, Members, Vector, dot, Separator}
 use borrow.Author.Differences.{lt_out}
 use Rattle.qh_model.proofs.{Members.every_at, algebra.Integers.ring_rules, algebra.Integers.add_mul, combinations.Vectors.V, combinations.Vectors.dot as vdot}
@@ -89,8 +89,7 @@ separator_of at ids p s = record {
 
 -- proof of the law `CombinationOrSeparator`
 pub combination_or_separator : CombinationOrSeparator
-combination_or_separator at ids p =
-    ⊎_elim (λ m. inl (combination_of at ids p m)) (λ s. inr (separator_of at ids p s)) (alternative 3 (toward at p) ids)
+combination_or_separator = grind (arith, combination_of, separator_of, alternative)
 
 -- ---- not both
 -- numbers below P do not balance to P

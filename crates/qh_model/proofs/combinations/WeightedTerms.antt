@@ -1,13 +1,12 @@
 -- Weighted members of a list, and the theorem of alternatives in any dimension.
-use Rattle.qh_model.proofs.Common.{◌≡◌, ℕ, zero, suc, ◌+◌, ◌*◌, ◌<◌, ◌≤◌, arith, refl, sym, ap, ◌∙◌, ◌⊎◌, inl, inr, ⊎_elim, List, [], ◌∷◌, mul-le-mul_left}
-use Rattle.qh_model.proofs.Common.{ints, by_lt_z, ℤ, pos, negsuc, ◌+ℤ◌, ◌*ℤ◌, neg_ℤ, ◌<ℤ◌, ◌≤ℤ◌, *ℤ-zero, +ℤ_idr, In}
-use Rattle.std.specs.List.{AllByRecursion as Every}
-use Rattle.std.specs.Prelude.{nat_abs}
-use lib.IntN.{*ℤ_comm}
+use Rattle.qh_model.proofs.Common.{*ℤ-zero, +ℤ_idr, In, List, [], ap, arith, by_lt_z, inl, inr, ints, mul-le-mul_left, neg_ℤ, negsuc, pos, refl, suc}
+use Rattle.qh_model.proofs.Common.{sym, zero, ℕ, ℤ, ⊎_elim, ◌*ℤ◌, ◌*◌, ◌+ℤ◌, ◌+◌, ◌<ℤ◌, ◌<◌, ◌∙◌, ◌∷◌, ◌≡◌, ◌≤ℤ◌, ◌≤◌, ◌⊎◌}
 use Rattle.qh_model.proofs.Members.{every_at, every_map, every_zip}
-use Rattle.qh_model.proofs.algebra.Integers.{ring_rules, mul_add, mul_assoc}
-use Rattle.qh_model.proofs.combinations.Vectors.{V, dot, lin, nil, dot_lin, Cut, Flat, cut}
+use Rattle.qh_model.proofs.algebra.Integers.{mul_add, mul_assoc, ring_rules}
+use Rattle.qh_model.proofs.combinations.Vectors.{Cut, Flat, V, cut, dot, dot_lin, lin, nil}
+use Rattle.std.specs.{List.AllByRecursion as Every, Prelude.nat_abs}
 use borrow.Author.Differences.{lt_out}
+use lib.IntN.{*ℤ_comm}
 
 -- ---- weighted members
 -- the total of g over weighted members
@@ -59,10 +58,7 @@ total_scaled k g (t ∷ ts) = ap (λ s. pos (k * t.0) *ℤ g t.1 +ℤ s) (total_
 
 -- a step of the next
 linear_step : (α c m g q r G Q R : ℤ) → α *ℤ g ≡ c *ℤ q +ℤ r → α *ℤ G ≡ c *ℤ Q +ℤ R → α *ℤ (m *ℤ g +ℤ G) ≡ c *ℤ (m *ℤ q +ℤ Q) +ℤ (m *ℤ r +ℤ R)
-linear_step α c m g q r G Q R e f =
-    mul_add α (m *ℤ g) G ∙ ap (λ s. α *ℤ (m *ℤ g) +ℤ s) f
-    ∙ ap (λ s. s +ℤ (c *ℤ Q +ℤ R)) (sym (mul_assoc α m g) ∙ ap (λ s. s *ℤ g) (*ℤ_comm α m) ∙ mul_assoc m α g ∙ ap (λ s. m *ℤ s) e)
-    ∙ simp ring_rules
+linear_step = grind (arith, mul_add, mul_assoc, *ℤ_comm, ring_rules)
 
 -- totals are linear
 pub total_linear : {A : Type 0} (α c : ℤ) (g q r : A → ℤ) → ((a : A) → α *ℤ g a ≡ c *ℤ q a +ℤ r a) → (ts : List (ℕ × A))
@@ -134,10 +130,7 @@ parted {A} n f a xs c s = record {
 
 -- if k T = D κ, with T below zero and D not below zero, κ is below zero
 sign : (k : ℕ) (T D κ : ℤ) → pos (suc k) *ℤ T ≡ D *ℤ κ → T <ℤ pos 0 → pos 0 ≤ℤ D → (m : ℕ) × (κ ≡ negsuc m)
-sign k T D (negsuc m) e h l = (m, refl)
-sign k (negsuc t) (pos d) (pos m) e h l = absurd (omega (arith, ints))
-sign k (pos t) D (pos m) e h l = absurd (omega (arith, ints))
-sign k (negsuc t) (negsuc d) (pos m) e h l = absurd (omega (arith, ints))
+sign = grind arith
 
 -- the two parts cancel
 two_cancel : (m : ℕ) (D : ℤ) → pos (suc m) *ℤ D +ℤ D *ℤ negsuc m ≡ pos 0

@@ -1,6 +1,6 @@
 -- A set has one dimension. A set whose convex combinations include another set has its tetrahedra, triangles and segments.
-use Rattle.qh_model.proofs.Common.{◌≡◌, ◌≢◌, ℕ, arith, ap, sym, subst, ◌∙◌, inl, inr, ints, pos, ◌-ℤ◌, neg_ℤ, HasDistinctPoints, Combination, HasTetrahedron}
-use Rattle.qh_model.proofs.Common.{HasTriangle, HasSegment, IsDimension, cross, vol, AreInLine, Members, Vector, origin, minus, cross_product, dot}
+use Rattle.qh_model.proofs.Common.{◌≡◌, ◌≢◌, ℕ, arith, ap, sym, ◌∙◌, inl, inr, ints, pos, ◌-ℤ◌, neg_ℤ, HasDistinctPoints, Combination, HasTetrahedron}
+use Rattle.qh_model.proofs.Common.{HasTriangle, HasSegment, IsDimension, cross, vol, Members, Vector, origin, minus, cross_product, dot}
 use Rattle.qh_model.specs.{headline.Predicates.left, laws.DimensionLaws.DimensionIsUnique}
 use Rattle.qh_model.proofs.{algebra.Ring.equal_from_zero, extremes.Axes.Differ, extremes.Axes.differ}
 use Rattle.qh_model.proofs.algebra.VectorIdentities.{vol-linear, vol-first_last, vol-second_last, vol-third_last, left-dot, left-linear, left-turn, in_line-vol}
@@ -93,27 +93,11 @@ segment_of at A E d m h =
 -- ---- one dimension
 -- corners of a tetrahedron are not in line, and corners of a triangle differ
 pub triangle_of_tetrahedron : (at : ℕ → Vector) (A : ℕ → Type 0) → HasTetrahedron at A → HasTriangle at A
-triangle_of_tetrahedron at A h =
-    record {
-      i = h.i;
-      j = h.j;
-      k = h.k;
-      has_i = h.has_i;
-      has_j = h.has_j;
-      has_k = h.has_k;
-      area = λ e. h.volume (in_line-vol (at h.i) (at h.j) (at h.k) (at h.l) e);
-    }
+triangle_of_tetrahedron = grind (arith, in_line-vol)
 
 -- two corners of a triangle differ
 pub segment_of_triangle : (at : ℕ → Vector) (A : ℕ → Type 0) → HasTriangle at A → HasSegment A
-segment_of_triangle at A h =
-    record {
-      i = h.i;
-      j = h.j;
-      has_i = h.has_i;
-      has_j = h.has_j;
-      differ = λ e. h.area (subst (λ t. AreInLine (at h.i) (at t) (at h.k)) e (in_line-twice (at h.i) (at h.k)));
-    }
+segment_of_triangle = grind (arith, differ, in_line-twice)
 
 -- the dimension is unique
 pub one_dimension : (at : ℕ → Vector) (A : ℕ → Type 0) (k l : ℕ) → IsDimension at A k → IsDimension at A l → k ≡ l

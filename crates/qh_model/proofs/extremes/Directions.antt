@@ -1,13 +1,12 @@
 -- Directions up to a positive scale, and the normals of triangles in one plane.
-use Rattle.qh_model.proofs.Common.{◌≡◌, ◌≢◌, ℕ, zero, suc, ◌<◌, arith, refl, sym, ap, subst, ◌∙◌, ◌⊎◌, inl, inr, [], ◌∷◌, ⊎_elim, ints, by_lt_z, ◌↔◌, ℤ, pos}
-use Rattle.qh_model.proofs.Common.{negsuc, ◌*ℤ◌, neg_ℤ, ◌<ℤ◌, ◌≤ℤ◌, cross, vol, AreInLine, Vector, origin, minus, cross_product, dot, IsAlong}
+use Rattle.qh_model.proofs.Common.{AreInLine, IsAlong, Vector, [], ap, arith, by_lt_z, cross, cross_product, dot, inl, inr, ints, minus, neg_ℤ, negsuc, origin}
+use Rattle.qh_model.proofs.Common.{pos, refl, rules, subst, suc, sym, vol, zero, ℕ, ℤ, ◌*ℤ◌, ◌<ℤ◌, ◌<◌, ◌↔◌, ◌∙◌, ◌∷◌, ◌≡◌, ◌≢◌, ◌≤ℤ◌, ◌⊎◌}
+use Rattle.qh_model.proofs.algebra.{Integers.mul_neg, Integers.neg_mul, Integers.zero_mul, Order.cancel-nonneg}
+use Rattle.qh_model.proofs.algebra.Order.{cancel-nonpos, cancel-zero, le_antisym, mul-nonneg, mul-nonneg_nonpos, neg-positive, product_zero, square-nonneg}
+use Rattle.qh_model.proofs.algebra.Ring.{ring, Expr.add, Expr.con, Expr.mul, Expr.neg, Expr.sub as less, Expr.var}
+use Rattle.qh_model.proofs.algebra.VectorIdentities.{combine3, crossE, dot-minus, dotE, dot_comm, left-dot, opposite, put, subE, vec, vector_path, vol-dot}
+use Rattle.qh_model.proofs.algebra.VectorIdentities.{vol-linear}
 use Rattle.qh_model.specs.headline.Predicates.{left}
-use Rattle.qh_model.proofs.algebra.{Integers.zero_mul, Integers.neg_mul, Integers.mul_neg, Signs.equal_positive}
-use Rattle.qh_model.proofs.algebra.Order.{mul-nonneg, mul-nonneg_nonpos, mul-pos, cancel-nonneg, cancel-nonpos, cancel-pos, cancel-zero, le_antisym}
-use Rattle.qh_model.proofs.algebra.Order.{square-nonneg, neg-positive, product_zero}
-use Rattle.qh_model.proofs.algebra.VectorIdentities.{vec, put, dotE, crossE, subE, combine3, opposite, vector_path, dot-minus, vol-dot, vol-linear, left-dot}
-use Rattle.qh_model.proofs.algebra.VectorIdentities.{dot_comm}
-use Rattle.qh_model.proofs.algebra.Ring.{ring, Expr.var, Expr.con, Expr.add, Expr.sub as less, Expr.mul, Expr.neg}
 
 -- ---- signs under a positive scale
 -- if s v = t w with positive s and t, v and w have the same sign
@@ -20,8 +19,7 @@ at_least_along s t v w h k e l = cancel-nonneg (pos t) w (omega (arith, ints)) (
 
 -- above 0
 pub positive_along : (s t : ℕ) (v w : ℤ) → 0 < s → 0 < t → pos s *ℤ v ≡ pos t *ℤ w → pos 0 <ℤ v → pos 0 <ℤ w
-positive_along s t v w h k e l =
-    cancel-pos (pos t) w (omega (arith, ints)) (equal_positive (pos s *ℤ v) (pos t *ℤ w) e (mul-pos (pos s) v (omega (arith, ints)) l))
+positive_along = grind arith
 
 -- 0
 pub zero_along : (s t : ℕ) (v w : ℤ) → 0 < t → pos s *ℤ v ≡ pos t *ℤ w → v ≡ pos 0 → w ≡ pos 0
@@ -42,9 +40,7 @@ dot_along n m h q =
 
 -- turns
 pub left_along : (n m : Vector) (h : IsAlong n m) (u v w : Vector) → pos h.s *ℤ left n u v w ≡ pos h.t *ℤ left m u v w
-left_along n m h u v w =
-    ap (λ x. pos h.s *ℤ x) (left-dot n u v w ∙ dot_comm (cross u v w) n) ∙ dot_along n m h (cross u v w)
-    ∙ ap (λ x. pos h.t *ℤ x) (dot_comm m (cross u v w) ∙ sym (left-dot m u v w))
+left_along = grind (arith, left-dot, dot_comm, dot_along)
 
 -- IsAlong is symmetric
 pub along_back : (n m : Vector) → IsAlong n m → IsAlong m n
@@ -83,23 +79,9 @@ unfolding cross
 parallel_normal n a b c h k = parallel_product n (minus b a) (minus c a) h k
 
 -- ---- the same direction or the opposite one
--- a positive number as a successor
-positive_number : (z : ℤ) → pos 0 <ℤ z → (m : ℕ) × (z ≡ pos (suc m))
-positive_number (pos zero) h = absurd (omega (arith, ints))
-positive_number (pos (suc m)) h = (m, refl)
-positive_number (negsuc m) h = absurd (omega (arith, ints))
-
 -- the same direction, with whole factors
 pub along_by : (n m : Vector) (s t : ℤ) → pos 0 <ℤ s → pos 0 <ℤ t → s *ℤ n.x ≡ t *ℤ m.x → s *ℤ n.y ≡ t *ℤ m.y → s *ℤ n.z ≡ t *ℤ m.z → IsAlong n m
-along_by n m s t h k x y z = let a = positive_number s h in let b = positive_number t k in record {
-  s = suc a.0;
-  t = suc b.0;
-  some_s = omega arith;
-  some_t = omega arith;
-  x = ap (λ v. v *ℤ n.x) (sym a.1) ∙ x ∙ ap (λ v. v *ℤ m.x) b.1;
-  y = ap (λ v. v *ℤ n.y) (sym a.1) ∙ y ∙ ap (λ v. v *ℤ m.y) b.1;
-  z = ap (λ v. v *ℤ n.z) (sym a.1) ∙ z ∙ ap (λ v. v *ℤ m.z) b.1;
-}
+along_by = grind arith
 
 -- a square that is not above 0
 square-zero : (x : ℤ) → (x *ℤ x) ≤ℤ pos 0 → x ≡ pos 0
@@ -151,18 +133,12 @@ cross-flip a b c =
 
 -- three points are in line in any order
 pub in_line-flip : (a b c : Vector) → AreInLine a c b → AreInLine a b c
-in_line-flip a b c e =
-    vector_path (cross a b c) origin (omega (arith, ints, ap (λ v. v.x) back))
-    (omega (arith, ints, ap (λ v. v.y) back)) (omega (arith, ints, ap (λ v. v.z) back))
-  where
-    back : opposite (cross a b c) ≡ origin
-    back = sym (cross-flip a b c) ∙ e
+in_line-flip = grind (arith, vector_path, opposite, cross-flip)
 
 -- a triangle at right angles to n has the direction of n, or the reversed triangle has it
 pub normal_along : (n a b c : Vector) → n ≢ origin → ¬ (AreInLine a b c) → dot n (minus b a) ≡ pos 0 → dot n (minus c a) ≡ pos 0
     → IsAlong n (cross a b c) ⊎ IsAlong n (cross a c b)
-normal_along n a b c h k e f =
-    ⊎_elim (λ l. inl l) (λ l. inr (subst (λ v. IsAlong n v) (sym (cross-flip a b c)) l)) (along_or_opposite n (cross a b c) h k (parallel_normal n a b c e f))
+normal_along = search (rules, cross-flip, along_or_opposite, parallel_normal)
 
 -- the difference of two points, from one point in the plane
 pub from_plane : (a b c p l : Vector) → vol a b c p ≡ pos 0 → dot (cross a b c) (minus l p) ≡ vol a b c l

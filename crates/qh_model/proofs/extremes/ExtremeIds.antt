@@ -1,15 +1,13 @@
 -- The greatest member in a direction is extreme, members are convex combinations of extremes, and extremes of a union.
-use Rattle.qh_model.proofs.Common.{◌≡◌, ◌≢◌, ℕ, arith, refl, sym, subst, ◌⊎◌, inl, inr, ◌↔◌, List, [], ◌∷◌, ⊎_elim, ints, HasDistinctPoints, Combination}
-use Rattle.qh_model.proofs.Common.{Others, Extreme, In, Members, Vector, dot, Separator}
-use Rattle.std.specs.{List.AllByRecursion as Every, List.flat_map, List.range_with_len, Prelude.filter, Prelude.ℤ, Prelude.◌+ℤ◌, Prelude.◌*ℤ◌, Prelude.◌<ℤ◌}
-use lib.Signed.{<ℤ_irrefl}
-use Rattle.qh_model.proofs.{Decisions.contrary, Decisions.same_id, Decisions.test, Decisions.told, Decisions.holds, algebra.Integers.ring_rules}
-use Rattle.qh_model.proofs.{Members.every_at, lists.Filters.in_filter, lists.Filters.of_filter, lists.Joined.in_flat_map, lists.Joined.of_flat_map}
-use Rattle.qh_model.proofs.{algebra.VectorIdentities.vector_path, combinations.Alternatives.combination_or_separator, combinations.Alternatives.all_lower}
-use Rattle.qh_model.proofs.extremes.LexicographicOrder.{Less, Same, AtMost, Greatest, greatest, collapse}
-use Rattle.qh_model.proofs.lists.Ranges.{range_below, range_has}
-use Rattle.qh_model.proofs.combinations.{OtherNames.combination_by_names, Vectors.V, Vectors.dot as vdot}
-use Rattle.qh_model.specs.laws.ExtremeLaws.{IsLower, InBlocks, GreatestIsExtreme, MembersAreCombinations, UnionOfExtremes}
+use Rattle.qh_model.proofs.Common.{Combination, Extreme, HasDistinctPoints, In, List, Members, Others, Separator, Vector, [], arith, dot, inl, inr, ints, refl}
+use Rattle.qh_model.proofs.Common.{subst, sym, ℕ, ⊎_elim, ◌↔◌, ◌∷◌, ◌≡◌, ◌≢◌, ◌⊎◌}
+use Rattle.qh_model.proofs.Decisions.{contrary, holds, same_id, test, told}
+use Rattle.qh_model.proofs.{Members.every_at, algebra.Integers.ring_rules, algebra.VectorIdentities.vector_path, combinations.Alternatives.all_lower}
+use Rattle.qh_model.proofs.combinations.{Alternatives.combination_or_separator, OtherNames.combination_by_names, Vectors.V, Vectors.dot as vdot}
+use Rattle.qh_model.proofs.extremes.LexicographicOrder.{AtMost, Greatest, Less, Same, collapse, greatest}
+use Rattle.qh_model.proofs.lists.{Filters.in_filter, Filters.of_filter, Joined.in_flat_map, Joined.of_flat_map, Ranges.range_below, Ranges.range_has}
+use Rattle.qh_model.specs.laws.ExtremeLaws.{GreatestIsExtreme, InBlocks, IsLower, MembersAreCombinations, UnionOfExtremes}
+use Rattle.std.specs.{List.AllByRecursion as Every, List.flat_map, List.range_with_len, Prelude.filter, Prelude.ℤ, Prelude.◌*ℤ◌, Prelude.◌+ℤ◌, Prelude.◌<ℤ◌}
 
 -- the key of the order
 abbrev key : Vector → Vector → V 4
@@ -17,10 +15,7 @@ key w p = (dot w p, (p.x, (p.y, (p.z, tt))))
 
 -- the order of the definition, by keys
 less_of : (w p q : Vector) → IsLower w p q → Less 4 (key w p) (key w q)
-less_of w p q (inl h) = inl h
-less_of w p q (inr (e, inl h)) = inr (e, inl h)
-less_of w p q (inr (e, inr (f, inl h))) = inr (e, inr (f, inl h))
-less_of w p q (inr (e, inr (f, inr (g, h)))) = inr (e, inr (f, inr (g, inl h)))
+less_of = grind arith
 
 -- equal keys are equal points
 pub same_vector : (w p q : Vector) → Same 4 (key w p) (key w q) → p ≡ q
@@ -117,9 +112,7 @@ top_is_extreme at A xs l d w g = (has, no_combination at (Others A g.top) w (at 
 
 -- the greatest is not below another
 not_above : (a b : ℤ) (T U : Type 0) → ((a ≡ b) × T) ⊎ ((a <ℤ b) ⊎ ((a ≡ b) × U)) → b <ℤ a → ⊥
-not_above a b T U (inl e) h = <ℤ_irrefl (subst (λ t. b <ℤ t) e.0 h)
-not_above a b T U (inr (inl l)) h = omega (arith, ints)
-not_above a b T U (inr (inr e)) h = <ℤ_irrefl (subst (λ t. b <ℤ t) e.0 h)
+not_above = grind arith
 
 -- a list with a member has a greatest
 a_greatest : (key : ℕ → V 4) (xs : List ℕ) (i : ℕ) → In i xs → Greatest 4 key xs

@@ -1,11 +1,10 @@
 -- Faces and dimensions of sets and of their extremes.
-use Rattle.qh_model.proofs.Common.{◌≡◌, ◌≢◌, ℕ, arith, sym, ◌∙◌, ◌⊎◌, inl, inr, ⊎_elim, List, ints, by_lt_z, ℤ, pos, ◌+ℤ◌, ◌*ℤ◌, ◌<ℤ◌, Combination, Others}
-use Rattle.qh_model.proofs.Common.{Extreme, cross, vol, Members, Supports, OnPlane, Vector, dot, Separator}
-use Rattle.qh_model.proofs.algebra.Integers.{ring_rules}
-use Rattle.qh_model.proofs.{algebra.Order.le_less, algebra.Order.zero_or_not, algebra.VectorIdentities.vol-linear, extremes.LexicographicOrder.Less}
-use Rattle.qh_model.proofs.extremes.ExtremeIds.{Listed, apart, listed_itself, listed_part, alternative_in, combination_within, combination_of_extremes}
-use Rattle.qh_model.proofs.extremes.ExtremeIds.{no_combination_by}
+use Rattle.qh_model.proofs.Common.{Combination, Extreme, List, Members, OnPlane, Others, Separator, Supports, Vector, arith, by_lt_z, cross, dot, inl, inr}
+use Rattle.qh_model.proofs.Common.{ints, pos, sym, vol, ℕ, ℤ, ⊎_elim, ◌*ℤ◌, ◌+ℤ◌, ◌<ℤ◌, ◌∙◌, ◌≡◌, ◌≢◌, ◌⊎◌}
+use Rattle.qh_model.proofs.algebra.{Integers.ring_rules, Order.le_less, Order.zero_or_not, VectorIdentities.vol-linear}
 use Rattle.qh_model.proofs.combinations.{Alternatives.all_lower, Vectors.V, Vectors.dot as vdot}
+use Rattle.qh_model.proofs.extremes.ExtremeIds.{Listed, alternative_in, apart, combination_of_extremes, combination_within, listed_itself, listed_part}
+use Rattle.qh_model.proofs.extremes.{ExtremeIds.no_combination_by, LexicographicOrder.Less}
 use Rattle.qh_model.specs.laws.FaceLaws.{ExtremesOfFace, SupportOfExtremes}
 
 -- ---- two directions, one after the other

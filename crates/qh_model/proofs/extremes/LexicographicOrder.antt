@@ -3,7 +3,7 @@ use Rattle.qh_model.proofs.Common.{◌≡◌, ℕ, zero, suc, arith, refl, sym, 
 use Rattle.std.specs.{List.AllByRecursion as Every, Prelude.ℤ, Prelude.pos, Prelude.◌+ℤ◌, Prelude.◌-ℤ◌, Prelude.◌*ℤ◌, Prelude.neg_ℤ, Prelude.◌<ℤ◌, Prelude.◌≤ℤ◌}
 use borrow.Author.Differences.{lt_out, le_out}
 use Rattle.qh_model.proofs.{Members.every_map, Members.every_zip, algebra.Order.le_antisym}
-use Rattle.qh_model.proofs.{algebra.Signs.less_le, algebra.Signs.equal_le, combinations.Vectors.V, combinations.Vectors.dot, combinations.WeightedTerms.bound}
+use Rattle.qh_model.proofs.{combinations.Vectors.V, combinations.Vectors.dot, combinations.WeightedTerms.bound}
 
 -- u comes before v
 abbrev pub Less : (n : ℕ) → V n → V n → Type 0
@@ -35,8 +35,7 @@ same_less (suc n) u v w h (inr k) = inr (h.0 ∙ k.0, same_less n u.1 v.1 w.1 h.
 
 -- a vector at most one that is less is less
 at_most_less : (n : ℕ) (u v w : V n) → AtMost n u v → Less n v w → Less n u w
-at_most_less n u v w (inl h) k = same_less n u v w h k
-at_most_less n u v w (inr h) k = less_trans n u v w h k
+at_most_less = grind (arith, same_less, less_trans)
 
 -- a vector is equal to itself
 same : (n : ℕ) (u : V n) → Same n u u
@@ -78,20 +77,15 @@ greatest n key i (x ∷ xs) = with_first n key i (x ∷ xs) (greatest n key x xs
 -- ---- one functional for the order
 -- the case of dimension 0
 keep : (Q R : Type 0) → Q ⊎ ⊥ → Q ⊎ R
-keep Q R (inl q) = inl q
-keep Q R (inr b) = absurd b
+keep = grind arith
 
 -- the case of the first coordinate, as a lemma
 regroup : (Q F E T : Type 0) → Q ⊎ (F ⊎ (E × T)) → (Q ⊎ F) ⊎ T
-regroup Q F E T (inl q) = inl (inl q)
-regroup Q F E T (inr (inl f)) = inl (inr f)
-regroup Q F E T (inr (inr p)) = inr p.1
+regroup = grind arith
 
 -- the first coordinate is at most
 first : (Q T : Type 0) (a b : ℤ) → Q ⊎ ((a <ℤ b) ⊎ ((a ≡ b) × T)) → Q ⊎ (a ≤ℤ b)
-first Q T a b (inl q) = inl q
-first Q T a b (inr (inl h)) = inr (less_le a b h)
-first Q T a b (inr (inr p)) = inr (equal_le a b p.0)
+first = grind arith
 
 -- with a large factor the first coordinate decides, and if it is equal, the rest decides
 joined : (Q : Type 0) (N : ℕ) (a b t s : ℤ) → (Q ⊎ (a <ℤ b)) ⊎ (t <ℤ s) → (Q ⊎ (a ≤ℤ b)) × (neg_ℤ (s -ℤ t) <ℤ pos N)

@@ -1,5 +1,5 @@
 -- Sets of the same dimension: members with other names, and the extreme ids of a set.
-use Rattle.qh_model.proofs.Common.{◌≡◌, ℕ, refl, sym, ◌∙◌, inl, inr, HasTetrahedron, HasTriangle, HasSegment, IsDimension, Extreme, cross, vol, Members, Vector}
+use Rattle.qh_model.proofs.Common.{◌≡◌, ℕ, refl, inl, inr, HasTetrahedron, HasTriangle, HasSegment, IsDimension, Extreme, Members, Vector, arith}
 use Rattle.qh_model.specs.laws.DimensionLaws.{DimensionOfExtremes}
 use Rattle.qh_model.proofs.extremes.Dimensions.{AreCombinations, tetrahedron_of, triangle_of, segment_of}
 use Rattle.qh_model.proofs.extremes.ExtremeIds.{listed_itself, combination_of_extremes}
@@ -21,39 +21,15 @@ dimension_as at at' A B f g h k (inr (inr (inr (e, n)))) = inr (inr (inr (e, λ 
 module _ {at at' : ℕ → Vector} {A B : ℕ → Type 0} (f : ℕ → ℕ) (to : (i : ℕ) → A i → B (f i)) where
   -- a tetrahedron by other names
   pub tetrahedron_by_names : ((i : ℕ) → A i → at' (f i) ≡ at i) → HasTetrahedron at A → HasTetrahedron at' B
-  tetrahedron_by_names point t = record {
-    i = f t.i;
-    j = f t.j;
-    k = f t.k;
-    l = f t.l;
-    has_i = to t.i t.has_i;
-    has_j = to t.j t.has_j;
-    has_k = to t.k t.has_k;
-    has_l = to t.l t.has_l;
-    volume = λ e. t.volume (sym (λ z. vol (point t.i t.has_i z) (point t.j t.has_j z) (point t.k t.has_k z) (point t.l t.has_l z)) ∙ e);
-  }
+  tetrahedron_by_names = grind arith
 
   -- a triangle by other names
   pub triangle_by_names : ((i : ℕ) → A i → at' (f i) ≡ at i) → HasTriangle at A → HasTriangle at' B
-  triangle_by_names point t = record {
-    i = f t.i;
-    j = f t.j;
-    k = f t.k;
-    has_i = to t.i t.has_i;
-    has_j = to t.j t.has_j;
-    has_k = to t.k t.has_k;
-    area = λ e. t.area (sym (λ z. cross (point t.i t.has_i z) (point t.j t.has_j z) (point t.k t.has_k z)) ∙ e);
-  }
+  triangle_by_names = grind arith
 
 -- a segment, if different members have different names
 pub segment_by_names : {A B : ℕ → Type 0} (f : ℕ → ℕ) (to : (i : ℕ) → A i → B (f i)) → ((i j : ℕ) → A i → A j → f i ≡ f j → i ≡ j) → HasSegment A → HasSegment B
-segment_by_names f to apart s = record {
-  i = f s.i;
-  j = f s.j;
-  has_i = to s.i s.has_i;
-  has_j = to s.j s.has_j;
-  differ = λ e. s.differ (apart s.i s.j s.has_i s.has_j e);
-}
+segment_by_names = grind arith
 
 -- proof of the law `DimensionOfExtremes`
 pub dimension_of_extremes : DimensionOfExtremes

@@ -1,5 +1,5 @@
 -- Each supporting plane of a set is spanned by extreme ids.
-use Rattle.qh_model.proofs.Common.{◌≡◌, ℕ, sym, ◌∙◌, ◌⊎◌, inl, inr, pos, ◌*ℤ◌, HasTriangle, Extreme, cross, vol, AreInLine, Members, IsSupportingTriple}
+use Rattle.qh_model.proofs.Common.{◌≡◌, ℕ, sym, ◌∙◌, ◌⊎◌, inl, inr, pos, ◌*ℤ◌, HasTriangle, Extreme, cross, vol, AreInLine, Members, IsSupportingTriple, arith}
 use Rattle.qh_model.proofs.Common.{Supports, OnPlane, Vector, IsAlong, SpannedByExtremes}
 use Rattle.qh_model.specs.laws.FaceLaws.{PlanesOfExtremes}
 use Rattle.qh_model.proofs.{algebra.Order.zero_or_not, extremes.Dimensions.triangle_of, extremes.Faces.extremes_of_face}
@@ -37,15 +37,7 @@ either_way at A i j k s u v w hu hv hw z n (inr h) = spanned at A i j k s u w v 
 
 -- a supporting triple is a triangle of its plane
 pub own_triangle : (at : ℕ → Vector) (A : ℕ → Type 0) (i j k : ℕ) → IsSupportingTriple at A i j k → HasTriangle at (OnPlane at A i j k)
-own_triangle at A i j k t = record {
-  i = i;
-  j = j;
-  k = k;
-  has_i = (t.has_i, vol-first (at i) (at j) (at k));
-  has_j = (t.has_j, vol-second (at i) (at j) (at k));
-  has_k = (t.has_k, vol-third (at i) (at j) (at k));
-  area = t.area;
-}
+own_triangle = grind (arith, vol-first, vol-second, vol-third)
 
 -- proof of the law `PlanesOfExtremes`
 pub planes_of_extremes : PlanesOfExtremes

@@ -1,8 +1,7 @@
 -- Sets in one plane: their triangles have one direction or the opposite one, and one of the two points forward.
-use Rattle.qh_model.proofs.Common.{◌≡◌, ◌≢◌, ℕ, arith, ap, ◌∙◌, ◌⊎◌, inl, inr, ⊎_elim, ints, pos, HasTetrahedron, PointsForward, cross, vol, AreInLine, Vector}
-use Rattle.qh_model.proofs.Common.{origin, minus, dot, IsAlong}
-use Rattle.qh_model.proofs.algebra.{Order.zero_or_not, VectorIdentities.opposite}
-use Rattle.qh_model.proofs.extremes.Directions.{positive_along, zero_along, normal_along, from_plane}
+use Rattle.qh_model.proofs.Common.{AreInLine, HasTetrahedron, IsAlong, PointsForward, Vector, arith, cross, dot, minus, origin, pos, vol, ℕ, ⊎_elim, ◌∙◌, ◌≡◌}
+use Rattle.qh_model.proofs.{Common.◌≢◌, Common.◌⊎◌, algebra.Order.zero_or_not, algebra.VectorIdentities.opposite}
+use Rattle.qh_model.proofs.extremes.Directions.{from_plane, normal_along, positive_along, zero_along}
 
 -- four points of a set with no tetrahedron lie in one plane
 pub flat_volume : (at : ℕ → Vector) (A : ℕ → Type 0) → ¬ (HasTetrahedron at A) → (i j k l : ℕ) → A i → A j → A k → A l → vol (at i) (at j) (at k) (at l) ≡ pos 0
@@ -12,26 +11,15 @@ flat_volume at A n i j k l hi hj hk hl =
 
 -- a vector that points forward is not zero
 pub forward_not_zero : (n : Vector) → PointsForward n → n ≢ origin
-forward_not_zero n (inl h) e = let z : n.x ≡ pos 0 = ap (λ v. v.x) e in omega (arith, ints)
-forward_not_zero n (inr (x, inl h)) e = let z : n.y ≡ pos 0 = ap (λ v. v.y) e in omega (arith, ints)
-forward_not_zero n (inr (x, inr (y, h))) e = let z : n.z ≡ pos 0 = ap (λ v. v.z) e in omega (arith, ints)
+forward_not_zero = grind arith
 
 -- two vectors of the same direction both point forward, or neither does
 pub forward_along : (n m : Vector) → IsAlong n m → PointsForward n → PointsForward m
-forward_along n m h (inl x) = inl (positive_along h.s h.t n.x m.x h.some_s h.some_t h.x x)
-forward_along n m h (inr (x, inl y)) = inr (zero_along h.s h.t n.x m.x h.some_t h.x x, inl (positive_along h.s h.t n.y m.y h.some_s h.some_t h.y y))
-forward_along n m h (inr (x, inr (y, z))) =
-    inr (zero_along h.s h.t n.x m.x h.some_t h.x x, inr (zero_along h.s h.t n.y m.y h.some_t h.y y, positive_along h.s h.t n.z m.z h.some_s h.some_t h.z z))
+forward_along = grind (arith, positive_along, zero_along)
 
 -- so at most one of two opposite directions points forward
 pub one_forward : (n : Vector) → PointsForward n → PointsForward (opposite n) → ⊥
-one_forward n (inl x) (inl x') = omega (arith, ints, x')
-one_forward n (inl x) (inr (x', k)) = omega (arith, ints, x')
-one_forward n (inr (x, k)) (inl x') = omega (arith, ints, x')
-one_forward n (inr (x, inl y)) (inr (x', inl y')) = omega (arith, ints, y')
-one_forward n (inr (x, inl y)) (inr (x', inr (y', k))) = omega (arith, ints, y')
-one_forward n (inr (x, inr (y, z))) (inr (x', inl y')) = omega (arith, ints, y')
-one_forward n (inr (x, inr (y, z))) (inr (x', inr (y', z'))) = omega (arith, ints, z')
+one_forward = grind arith
 
 -- a triangle of a flat set has the direction of another triangle, or the reversed triangle has it
 pub flat_normals : (at : ℕ → Vector) (A : ℕ → Type 0) → ¬ (HasTetrahedron at A) → (i j k u v w : ℕ) → A i → A j → A k → A u → A v → A w

@@ -1,13 +1,12 @@
 -- A set and its extreme ids have the same supporting planes and the same polygons.
-use Rattle.qh_model.proofs.Common.{ℕ, inl, inr, ⊎_elim, List, ◌↔◌, HasDistinctPoints, HasTetrahedron, HasTriangle, HasSegment, Extreme, AreExtremes, AreFaces}
-use Rattle.qh_model.proofs.Common.{IsFacePolygon, IsFlatFace, IsSegmentFace, ArePolygons, cross, Members, IsSupportingTriple, OnPlane, Vector, IsAlong}
-use Rattle.qh_model.proofs.Common.{SpannedByExtremes}
-use Rattle.qh_model.specs.laws.HullLaws.{BodyOfExtremes, TriplesOfExtremes, PolygonsOfExtremes}
-use Rattle.qh_model.proofs.{extremes.Dimensions.triangle_of, extremes.SpanningTriples.planes_of_extremes, hulls.Unique.flat_of, hulls.Unique.alone_of}
-use Rattle.qh_model.proofs.extremes.{Directions.along_itself, Directions.along_back, SameDimension.dimension_of_extremes}
-use Rattle.qh_model.proofs.extremes.ExtremeIds.{listed_itself, extremes_between, combination_of_extremes}
-use Rattle.qh_model.proofs.{extremes.Faces.support_of_extremes, hulls.FlatSets.forward_not_zero, hulls.FlatSets.forward_along, hulls.FlatSets.flat_normals}
-use Rattle.qh_model.proofs.polygons.Direction.{polygon_as}
+use Rattle.qh_model.proofs.Common.{AreExtremes, AreFaces, ArePolygons, Extreme, HasDistinctPoints, HasSegment, HasTetrahedron, HasTriangle, IsAlong}
+use Rattle.qh_model.proofs.Common.{IsFacePolygon, IsFlatFace, IsSegmentFace, IsSupportingTriple, List, Members, OnPlane, SpannedByExtremes, Vector, arith}
+use Rattle.qh_model.proofs.Common.{cross, inl, inr, ℕ, ⊎_elim, ◌↔◌}
+use Rattle.qh_model.proofs.extremes.{Dimensions.triangle_of, Directions.along_back, Directions.along_itself, ExtremeIds.combination_of_extremes}
+use Rattle.qh_model.proofs.extremes.{ExtremeIds.extremes_between, ExtremeIds.listed_itself, Faces.support_of_extremes, SameDimension.dimension_of_extremes}
+use Rattle.qh_model.proofs.{extremes.SpanningTriples.planes_of_extremes, hulls.FlatSets.flat_normals, hulls.FlatSets.forward_along}
+use Rattle.qh_model.proofs.{hulls.FlatSets.forward_not_zero, hulls.Unique.alone_of, hulls.Unique.flat_of, polygons.Direction.polygon_as}
+use Rattle.qh_model.specs.laws.HullLaws.{BodyOfExtremes, PolygonsOfExtremes, TriplesOfExtremes}
 
 -- ---- facts about extreme ids hold for another set with the same extreme ids
 -- the list of the extreme ids
@@ -50,8 +49,7 @@ module _ (at : ℕ → Vector) (ids : List ℕ) (d : HasDistinctPoints at (Membe
   -- ---- supporting triples
   -- a triple that supports the extremes supports the set
   triple_up : (i j k : ℕ) → IsSupportingTriple at E i j k → IsSupportingTriple at A i j k
-  triple_up i j k t =
-      record { has_i = t.has_i.0; has_j = t.has_j.0; has_k = t.has_k.0; area = t.area; supports = support_of_extremes at ids d i j k t.supports }
+  triple_up = grind (arith, support_of_extremes)
 
   -- extremes that span a plane of the set are a supporting triple of the extremes
   triple_down : {i j k : ℕ} (s : SpannedByExtremes at A i j k) → IsSupportingTriple at E s.u s.v s.w

@@ -1,5 +1,5 @@
 -- Right values of blocks: of one block, of two sets of blocks together, and of all blocks.
-use Rattle.qh_model.proofs.Common.{ℕ, zero, suc, ◌≡◌, ◌+◌, ◌-◌, ◌*◌, ◌<◌, ◌⊎◌, inl, inr, List, [], ◌++◌, length, get_or, take, drop, subst, refl, sym, ◌∙◌}
+use Rattle.qh_model.proofs.Common.{ℕ, zero, suc, ◌≡◌, ◌+◌, ◌-◌, ◌<◌, ◌⊎◌, inl, inr, List, [], ◌++◌, length, get_or, take, drop, subst, refl, sym, ◌∙◌, rules}
 use Rattle.qh_model.proofs.Common.{arith, common_steps, ◌↔◌, ℕ_discrete, dite, InSpan, IsCut, bound, block_count, positions, HasDistinctPoints, IsIdSet}
 use Rattle.qh_model.proofs.Common.{RightValue, Extreme, Others, AreExtremes, place, In, Members, Vector}
 use Rattle.qh_model.specs.contract.RightValue.{block_ids, IsIdOfBlocks}
@@ -31,11 +31,7 @@ in_block ids bounds k p b h =
 
 -- the ids of a block rise and have distinct points
 pub block_set : (pts : List Vector) (ids bounds : List ℕ) (k : ℕ) → IsIdSet pts ids → IsIdSet pts (block_ids ids bounds k)
-block_set pts ids bounds k set =
-    record {
-      rising = rising_part ids (bound bounds k) (bound bounds (k + 1) - bound bounds k) set.rising;
-      distinct = λ i j m n e. set.distinct i j (block_within ids bounds k i m) (block_within ids bounds k j n) e;
-    }
+block_set = grind (arith, rising_part, block_within)
 
 -- ---- right values
 -- the extreme ids of a block are right for the set of this block alone
@@ -146,13 +142,10 @@ module _ (pts : List Vector) (ids bounds : List ℕ) (J : ℕ → Type 0) (xs : 
 
 -- ---- the laws
 pub right_of_leaf : RightOfLeaf
-right_of_leaf pts ids bounds k xs h x =
-    right_of_block pts ids bounds k (InSpan (block_count bounds) (block_count bounds + k)) xs h (λ l. span_of_leaf (block_count bounds) k l h) x
+right_of_leaf = search (rules, right_of_block, span_of_leaf)
 
 pub right_of_node : RightOfNode
-right_of_node pts ids bounds i xs ys zs vs apart lo hi x y union v =
-    right_of_both pts ids bounds (InSpan (block_count bounds) (2 * i)) (InSpan (block_count bounds) (2 * i + 1))
-    (InSpan (block_count bounds) i) xs ys zs vs apart (λ k. span_of_node (block_count bounds) i k lo hi) x y union v
+right_of_node = search (rules, right_of_both, span_of_node)
 
 pub hull_of_root : HullOfRoot
 hull_of_root pts ids bounds xs b apart cut whole x h =

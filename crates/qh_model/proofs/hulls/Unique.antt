@@ -1,13 +1,12 @@
 -- Each part of a hull is unique: distinct ids, polygons, and the number of edges.
-use Rattle.qh_model.proofs.Common.{◌≡◌, ℕ, ◌<◌, refl, List, [], ◌∷◌, length, arith, sym, ap, subst, ◌∙◌, ◌⊎◌, inl, inr, ℕ_discrete, dite, ◌↔◌, HasTetrahedron}
-use Rattle.qh_model.proofs.Common.{HasSegment, IsDimension, Extreme, BodyValue, HullValue, IsBody, AreFaces, IsFlatFace, IsSegmentFace, ArePolygons}
-use Rattle.qh_model.proofs.Common.{IsEdgeCount, PointsForward, cross, place, In, Members, OnPlane, hull_text, Vector, IsAlong}
-use Rattle.qh_model.specs.headline.Polygons.{IsPointFace}
-use Rattle.qh_model.specs.laws.HullLaws.{BodyIsUnique, HullIsUnique, TextIsUnique, PolygonsAreUnique, EdgeCountIsUnique, RisingListIsUnique}
-use Rattle.qh_model.specs.laws.HullLaws.{DistinctIdsAreUnique}
-use Rattle.qh_model.proofs.{extremes.Dimensions.one_dimension, lists.Lexicographic.rising_unique, lists.Ordered.ordered_rising, lists.Ordered.ordered_unique}
-use Rattle.qh_model.proofs.{extremes.Directions.cross-flip, lists.OnceEach.once_length, polygons.Direction.polygon_as, polygons.Unique.one_polygon}
-use Rattle.qh_model.proofs.hulls.FlatSets.{forward_not_zero, forward_along, one_forward, flat_normals}
+use Rattle.qh_model.proofs.Common.{AreFaces, ArePolygons, BodyValue, Extreme, HasSegment, HasTetrahedron, HullValue, In, IsAlong, IsBody, IsDimension}
+use Rattle.qh_model.proofs.Common.{IsEdgeCount, IsFlatFace, IsSegmentFace, List, Members, OnPlane, PointsForward, Vector, [], ap, arith, cross, dite, hull_text}
+use Rattle.qh_model.proofs.Common.{inl, inr, length, place, refl, subst, sym, ℕ, ℕ_discrete, ◌<◌, ◌↔◌, ◌∙◌, ◌∷◌, ◌≡◌, ◌⊎◌}
+use Rattle.qh_model.proofs.{extremes.Dimensions.one_dimension, extremes.Directions.cross-flip, hulls.FlatSets.flat_normals, hulls.FlatSets.forward_along}
+use Rattle.qh_model.proofs.{hulls.FlatSets.forward_not_zero, hulls.FlatSets.one_forward, lists.Lexicographic.rising_unique, lists.OnceEach.once_length}
+use Rattle.qh_model.proofs.{lists.Ordered.ordered_rising, lists.Ordered.ordered_unique, polygons.Direction.polygon_as, polygons.Unique.one_polygon}
+use Rattle.qh_model.specs.{headline.Polygons.IsPointFace, laws.HullLaws.BodyIsUnique}
+use Rattle.qh_model.specs.laws.HullLaws.{DistinctIdsAreUnique, EdgeCountIsUnique, HullIsUnique, PolygonsAreUnique, RisingListIsUnique, TextIsUnique}
 
 -- proof of the law `RisingListIsUnique`
 pub rising_list_is_unique : RisingListIsUnique
@@ -15,8 +14,7 @@ rising_list_is_unique xs ys f g h = ordered_unique (λ i j. i < j) (λ i j p q. 
 
 -- proof of the law `DistinctIdsAreUnique`
 pub distinct_ids_are_unique : DistinctIdsAreUnique
-distinct_ids_are_unique pts xs ys a b =
-    rising_list_is_unique xs ys a.rising b.rising (λ i. (λ h. (b.members i).1 ((a.members i).0 h), λ h. (a.members i).1 ((b.members i).0 h)))
+distinct_ids_are_unique = grind (arith, rising_list_is_unique)
 
 -- proof of the law `EdgeCountIsUnique`
 pub edge_count_is_unique : EdgeCountIsUnique
@@ -78,17 +76,11 @@ one_of_one F u ps qs (p, a, e) (q, b, f) = e ∙ ap (λ r. r ∷ []) (u p q a b)
 
 -- a set of dimension 2 has no tetrahedron
 pub flat_of : (at : ℕ → Vector) (A : ℕ → Type 0) (k : ℕ) → k ≡ 2 → IsDimension at A k → ¬ (HasTetrahedron at A)
-flat_of at A k e (inl (f, t)) = absurd (omega arith)
-flat_of at A k e (inr (inl (f, t, n))) = n
-flat_of at A k e (inr (inr (inl (f, t, n)))) = absurd (omega arith)
-flat_of at A k e (inr (inr (inr (f, n)))) = absurd (omega arith)
+flat_of = grind arith
 
 -- a set of dimension 0 has no two members
 pub alone_of : (at : ℕ → Vector) (A : ℕ → Type 0) (k : ℕ) → k ≡ 0 → IsDimension at A k → ¬ (HasSegment A)
-alone_of at A k e (inl (f, t)) = absurd (omega arith)
-alone_of at A k e (inr (inl (f, t, n))) = absurd (omega arith)
-alone_of at A k e (inr (inr (inl (f, t, n)))) = absurd (omega arith)
-alone_of at A k e (inr (inr (inr (f, n)))) = n
+alone_of = grind arith
 
 -- the cases of two lists of polygons of one dimension
 pub one_polygon_list : (at : ℕ → Vector) (A : ℕ → Type 0) (k : ℕ) (ps qs : List (List ℕ)) → IsDimension at A k

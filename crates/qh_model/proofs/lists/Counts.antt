@@ -35,11 +35,7 @@ module _ {X : Type 0} (p : X → Bool) (d : X) where
   -- so the number of members that pass before it determines it
   pub counted_apart : (xs : List X) (i j : ℕ) → i < length xs → j < length xs → p (get_or xs i d) ≡ true → p (get_or xs j d) ≡ true
       → count_by p (take i xs) ≡ count_by p (take j xs) → i ≡ j
-  counted_apart xs i j l m e f q = elim (cases_order i j) [
-    | inl h ↦ h
-    | inr (inl h) ↦ (let c = counted-first xs i j h (omega arith) e in absurd (omega arith))
-    | inr (inr h) ↦ (let c = counted-first xs j i h (omega arith) f in absurd (omega arith))
-  ]
+  counted_apart = grind (arith, cases_order, counted-first)
 
   -- each number below the count of the first n is the count before some member that passes
   pub counted_at : (xs : List X) (r n : ℕ) → n ≤ length xs → r < count_by p (take n xs)

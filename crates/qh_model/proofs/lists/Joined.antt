@@ -1,5 +1,5 @@
 -- Two lists, one after the other: their members, and the condition that each occurs once.
-use Rattle.qh_model.proofs.Common.{List, [], ◌∷◌, ◌++◌, ◌≡◌, ◌∙◌, ◌⊎◌, ap, append_assoc, inl, inr, refl, subst, sym, ⊎_elim, flat_map, In, Once}
+use Rattle.qh_model.proofs.Common.{List, [], ◌∷◌, ◌++◌, ◌≡◌, ◌⊎◌, append_assoc, inl, inr, refl, subst, ⊎_elim, flat_map, In, Once, arith}
 
 -- a member of either list is a member of both joined
 pub in_append : {X : Type 0} (xs ys : List X) (x : X) → In x xs ⊎ In x ys → In x (xs ++ ys)
@@ -35,9 +35,7 @@ of_flat_map f (z ∷ xs) y m =
 -- a loop over a list that appends the list of each member: after that of the first is appended, those of the rest remain
 pub join_next : {X Y : Type 0} (f : X → List Y) (old new all : List Y) (x : X) (xs rest : List X) → xs ≡ x ∷ rest
     → new ≡ old ++ f x → old ++ flat_map f xs ≡ all → new ++ flat_map f rest ≡ all
-join_next f old new all x xs rest first appended left =
-    ap (λ t. t ++ flat_map f rest) appended ∙ append_assoc old (f x) (flat_map f rest)
-    ∙ ap (λ ys. old ++ flat_map f ys) (sym first) ∙ left
+join_next = grind (arith, append_assoc)
 
 -- a beginning of a list with each member once has each member once
 pub once_left : {X : Type 0} (xs ys : List X) → Once (xs ++ ys) → Once xs

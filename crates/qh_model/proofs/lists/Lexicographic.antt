@@ -36,8 +36,7 @@ rises-ordered q (r ∷ ps) h = (before-all q (r ∷ ps) h, rises-ordered r ps h.
 
 -- a rising list is ordered
 pub rising-ordered : (qs : List (List ℕ)) → RiseStrictly qs → Ordered ComesBefore qs
-rising-ordered [] h = tt
-rising-ordered (q ∷ qs) h = rises-ordered q qs h
+rising-ordered = grind (arith, rises-ordered)
 
 -- strictly rising lists of lists with the same members are equal
 pub rising_unique : (ps qs : List (List ℕ)) → RiseStrictly ps → RiseStrictly qs → ((q : List ℕ) → In q ps ↔ In q qs) → ps ≡ qs

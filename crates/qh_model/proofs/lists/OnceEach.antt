@@ -1,7 +1,6 @@
 -- Lists with each member once: their members determine their length, and a member determines its position.
-use Rattle.qh_model.proofs.Common.{◌≡◌, ℕ, zero, suc, ◌+◌, ◌<◌, ◌≤◌, refl, List, [], ◌∷◌, length, get_or, arith, ap, sym, subst, ◌∙◌, ◌⊎◌, inl, inr, ⊎_elim}
-use Rattle.qh_model.proofs.Common.{◌↔◌, In, Once}
-use Rattle.qh_model.proofs.Members.{In-get_or}
+use Rattle.qh_model.proofs.Common.{In, List, Once, [], ap, arith, get_or, inl, inr, length, refl, subst, suc, sym, zero, ℕ, ⊎_elim, ◌+◌, ◌<◌, ◌↔◌, ◌∙◌, ◌∷◌}
+use Rattle.qh_model.proofs.{Common.◌≡◌, Common.◌≤◌, Common.◌⊎◌, Members.In-get_or}
 
 -- the list without the member at this position
 without : {X : Type 0} (x : X) (xs : List X) → In x xs → List X
@@ -41,8 +40,7 @@ once_within {X} (x ∷ xs) ys o h =
 
 -- lists with the same members, each once, have the same length
 pub once_length : {X : Type 0} (xs ys : List X) → Once xs → Once ys → ((z : X) → In z xs ↔ In z ys) → length xs ≡ length ys
-once_length xs ys o p h =
-    let a = once_within xs ys o (λ z. (h z).0) in let b = once_within ys xs p (λ z. (h z).1) in omega arith
+once_length = grind (arith, once_within)
 
 -- a member that occurs once has one position
 pub once_place : {X : Type 0} (d : X) (xs : List X) → Once xs → (i j : ℕ) → i < length xs → j < length xs → get_or xs i d ≡ get_or xs j d → i ≡ j

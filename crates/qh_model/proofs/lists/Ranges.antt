@@ -25,8 +25,7 @@ range_has n l h = subst (λ (k : ℕ). In k (range_with_len 0 n)) (get_or-range_
 
 -- each number below n occurs once in the first n
 pub range_once : (n : ℕ) → Once (range_with_len 0 n)
-range_once n = rising_once (range_with_len 0 n) (λ k h. let e = length-range_with_len 0 n in
-    rw (get_or-range_with_len 0 n k 0 (omega arith), get_or-range_with_len 0 n (k + 1) 0 (omega arith)) (omega arith))
+range_once = grind (arith, rising_once, length-range_with_len, get_or-range_with_len)
 
 -- there are at most N distinct numbers below N
 pub pigeon : (N k : ℕ) (f : ℕ → ℕ) → ((i : ℕ) → i < k → f i < N) → ((i j : ℕ) → i < j → j < k → f i ≢ f j) → k ≤ N

@@ -36,9 +36,7 @@ rising_back xs ys h k l =
 
 -- the numbers below a count rise
 pub range_rises : (n : ℕ) → IsStrictlyIncreasing (range_with_len 0 n)
-range_rises n k h =
-    let e = length-range_with_len 0 n in
-    rw (get_or-range_with_len 0 n k 0 (omega arith), get_or-range_with_len 0 n (k + 1) 0 (omega arith)) (omega arith)
+range_rises = grind (arith, length-range_with_len, get_or-range_with_len)
 
 -- two rising lists, the second above the first, joined rise
 pub rising_append : (xs ys : List ℕ) → IsStrictlyIncreasing xs → IsStrictlyIncreasing ys

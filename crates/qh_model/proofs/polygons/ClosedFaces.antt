@@ -42,9 +42,7 @@ balanced_along u v a b (w ∷ r) = omega (arith, balanced_along u v a w r, one-b
 
 -- the same for a polygon
 balanced_round : (u v : ℕ) (q : List ℕ) → both_ways u v (triples_in q) (steps_round q) ≡ both_ways v u (triples_in q) (steps_round q)
-balanced_round u v [] = refl
-balanced_round u v (a ∷ []) = omega (arith, one-back u v a a)
-balanced_round u v (a ∷ b ∷ r) = balanced_along u v a b r
+balanced_round = grind (arith, one-back, balanced_along)
 
 -- lists joined one after the other
 times-append : (u v : ℕ) (xs ys : List (ℕ × ℕ)) → times u v (xs ++ ys) ≡ times u v xs + times u v ys

@@ -1,5 +1,5 @@
 -- A fact about all neighbours round a list, as one product.
-use Rattle.qh_model.proofs.Common.{ℕ, refl, subst, inl, inr, List, [], ◌∷◌, FollowsAlong, Follows}
+use Rattle.qh_model.proofs.Common.{ℕ, refl, subst, inl, inr, List, [], ◌∷◌, FollowsAlong, Follows, arith}
 
 -- P holds for each pair of neighbours on the path from u along the list to e
 abbrev pub AlongPath : (ℕ → ℕ → Type 0) → ℕ → List ℕ → ℕ → Type 0
@@ -19,8 +19,7 @@ along_holds P u v t (w ∷ r) e h (inr f) = along_holds P u v w r e h.1 f
 
 -- a fact about each pair of neighbours round a polygon
 pub round_holds : (P : ℕ → ℕ → Type 0) (q : List ℕ) → AroundCycle P q → (u v : ℕ) → Follows u v q → P u v
-round_holds P [] h u v f = absurd f
-round_holds P (t ∷ r) h u v f = along_holds P u v t r t h f
+round_holds = grind (arith, along_holds)
 
 -- the converse on a path
 along_told : (P : ℕ → ℕ → Type 0) (u : ℕ) (r : List ℕ) (e : ℕ) → ((a b : ℕ) → FollowsAlong a b u r e → P a b) → AlongPath P u r e
@@ -29,8 +28,7 @@ along_told P u (v ∷ r) e f = (f u v (inl (refl, refl)), along_told P v r e (λ
 
 -- the converse round a polygon
 pub round_told : (P : ℕ → ℕ → Type 0) (q : List ℕ) → ((u v : ℕ) → Follows u v q → P u v) → AroundCycle P q
-round_told P [] f = tt
-round_told P (u ∷ r) f = along_told P u r u f
+round_told = grind (arith, along_told)
 
 -- a consequence for each pair of neighbours on a path
 path_map : (P Q : ℕ → ℕ → Type 0) → ((u v : ℕ) → P u v → Q u v) → (u : ℕ) (r : List ℕ) (e : ℕ) → AlongPath P u r e → AlongPath Q u r e
@@ -39,5 +37,4 @@ path_map P Q f u (v ∷ r) e h = (f u v h.0, path_map P Q f v r e h.1)
 
 -- a consequence for each pair of neighbours round a polygon
 pub cycle_map : (P Q : ℕ → ℕ → Type 0) → ((u v : ℕ) → P u v → Q u v) → (q : List ℕ) → AroundCycle P q → AroundCycle Q q
-cycle_map P Q f [] h = tt
-cycle_map P Q f (u ∷ r) h = path_map P Q f u r u h
+cycle_map = grind (arith, path_map)

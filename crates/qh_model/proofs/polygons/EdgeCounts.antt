@@ -113,29 +113,11 @@ of_along a b t (w ∷ r) e (inr m) = let s = of_along a b w r e m in record { u 
 
 -- neighbours of a face are among its pairs
 in_round : (u v : ℕ) (q : List ℕ) → u < v → Follows u v q ⊎ Follows v u q → In (u, v) (pairs_round q)
-in_round u v [] h (inl f) = absurd f
-in_round u v [] h (inr f) = absurd f
-in_round u v (t ∷ r) h (inl f) =
-    let low : min u v ≡ u = omega arith in let high : max u v ≡ v = omega arith in
-    subst (λ x. In x (pairs_along t r t)) (λ i. (low i, high i)) (in_along u v t r t f)
-in_round u v (t ∷ r) h (inr f) =
-    let low : min v u ≡ u = omega arith in let high : max v u ≡ v = omega arith in
-    subst (λ x. In x (pairs_along t r t)) (λ i. (low i, high i)) (in_along v u t r t f)
+in_round = grind (arith, in_along)
 
 -- the converse
 of_round : (a b : ℕ) (q : List ℕ) → In (a, b) (pairs_round q) → a ≢ b → (a < b) × (Follows a b q ⊎ Follows b a q)
-of_round a b [] m d = absurd m
-of_round a b (t ∷ r) m d = along_ring (of_along a b t r t m)
-  where
-    along_ring : IsNeighbours t r t a b → (a < b) × (FollowsAlong a b t r t ⊎ FollowsAlong b a t r t)
-    along_ring s = by_direction (way s.u s.v s.low s.high)
-      where
-        way : (u v : ℕ) → a ≡ min u v → b ≡ max u v → (a < b) × (((a ≡ u) × (b ≡ v)) ⊎ ((a ≡ v) × (b ≡ u)))
-        way u v low high = grind (arith, low, high, d)
-
-        by_direction : (a < b) × (((a ≡ s.u) × (b ≡ s.v)) ⊎ ((a ≡ s.v) × (b ≡ s.u))) → (a < b) × (FollowsAlong a b t r t ⊎ FollowsAlong b a t r t)
-        by_direction (h, inl (p, q)) = (h, inl (subst (λ x. FollowsAlong x b t r t) (sym p) (subst (λ y. FollowsAlong s.u y t r t) (sym q) s.follows)))
-        by_direction (h, inr (p, q)) = (h, inr (subst (λ x. FollowsAlong x a t r t) (sym q) (subst (λ y. FollowsAlong s.u y t r t) (sym p) s.follows)))
+of_round = grind (arith, of_along)
 
 -- proof of the law `EdgesAreCounted`
 pub edges_are_counted : EdgesAreCounted

@@ -1,5 +1,5 @@
 -- Fans of triangles: the corners of their triangles are those of the polygons, and the triangles support the set.
-use Rattle.qh_model.proofs.Common.{ℕ, ◌≡◌, List, [], ◌∷◌, All, inl, inr, refl, sym, subst, ⊎_elim, pos, ◌<ℤ◌, ◌≤ℤ◌, face_triangles, HasDistinctPoints}
+use Rattle.qh_model.proofs.Common.{ℕ, ◌≡◌, List, [], ◌∷◌, All, inl, inr, refl, sym, subst, ⊎_elim, pos, ◌<ℤ◌, ◌≤ℤ◌, face_triangles, HasDistinctPoints, arith}
 use Rattle.qh_model.proofs.Common.{triangles_along, fan, FollowsAlong, IsFacePolygon, cross, vol, In, Members, IsSupportingTriple, Vector, dot}
 use Rattle.qh_model.specs.{headline.Predicates.left, laws.FanLaws.CornersSupport, laws.FanLaws.FansSupport, laws.FanLaws.IsSupportingTriangle}
 use Rattle.qh_model.proofs.{Members.All-In, Members.All-of, Members.each_of_three, algebra.Signs.less_differ, extremes.SpanningTriples.planes_of_extremes}
@@ -45,11 +45,7 @@ triangle_along first u (x ∷ r) t (inr m) =
 
 -- the triangles of a face have no other ids than the face
 pub triangle_members : (q t : List ℕ) → In t (face_triangles q) → (i : ℕ) → In i t → In i q
-triangle_members [] t m i h = absurd m
-triangle_members (a ∷ []) t m i h = absurd m
-triangle_members (a ∷ b ∷ r) t m i h =
-    let s = triangle_along a b r t m in
-    each_of_three (λ j. In j (a ∷ b ∷ r)) a s.v s.w (inl refl) (inr s.has_v) (inr (inr s.has_w)) i (subst (In i) s.is h)
+triangle_members = grind (arith, triangle_along, each_of_three)
 
 -- a fact about the ids of a face holds for those of its triangles
 pub triangles_all : (P : ℕ → Type 0) (q : List ℕ) → All P q → All (All P) (face_triangles q)
@@ -58,13 +54,7 @@ triangles_all P q all =
 
 -- the members of a fan have no other ids than the polygon
 pub fan_members : (q t : List ℕ) → In t (fan q) → (i : ℕ) → In i t → In i q
-fan_members [] t (inl e) i h = subst (In i) e h
-fan_members [] t (inr n) i h = absurd n
-fan_members (a ∷ []) t (inl e) i h = subst (In i) e h
-fan_members (a ∷ []) t (inr n) i h = absurd n
-fan_members (a ∷ b ∷ []) t (inl e) i h = subst (In i) e h
-fan_members (a ∷ b ∷ []) t (inr n) i h = absurd n
-fan_members (a ∷ b ∷ c ∷ r) t m i h = triangle_members (a ∷ b ∷ c ∷ r) t m i h
+fan_members = grind (arith, triangle_members)
 
 -- ---- the fans of faces
 module _ (at : ℕ → Vector) (ids : List ℕ) (d : HasDistinctPoints at (Members ids)) (i j k : ℕ) (triple : IsSupportingTriple at (Members ids) i j k) where

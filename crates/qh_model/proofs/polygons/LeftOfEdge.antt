@@ -1,15 +1,13 @@
 -- The side to the left of an edge in the plane of its face: the other members of the plane lie there.
-use Rattle.qh_model.proofs.Common.{◌≡◌, ◌≢◌, ℕ, arith, refl, sym, ap, subst, ◌∙◌, ◌⊎◌, inl, inr, List, ints, by_lt_z, ℕ_discrete, dite, ℤ, pos, ◌*ℤ◌, ◌≤ℤ◌}
-use Rattle.qh_model.proofs.Common.{◌<ℤ◌, HasDistinctPoints, Extreme, Follows, IsFacePolygon, cross, vol, AreInLine, Members, IsSupportingTriple, OnPlane}
-use Rattle.qh_model.proofs.Common.{Vector, minus, cross_product, dot, SpannedByExtremes}
+use Rattle.qh_model.proofs.Common.{AreInLine, Extreme, Follows, HasDistinctPoints, IsFacePolygon, IsSupportingTriple, List, Members, OnPlane, SpannedByExtremes}
+use Rattle.qh_model.proofs.Common.{Vector, ap, arith, by_lt_z, cross, cross_product, dite, dot, inl, inr, ints, minus, pos, refl, subst, sym, vol, ℕ}
+use Rattle.qh_model.proofs.Common.{ℕ_discrete, ℤ, ◌*ℤ◌, ◌<ℤ◌, ◌∙◌, ◌≡◌, ◌≢◌, ◌≤ℤ◌, ◌⊎◌}
+use Rattle.qh_model.proofs.algebra.{Order.cancel-nonpos, Order.mul-nonneg_nonpos, Order.positive_le, Order.zero_or_not, VectorIdentities.dot-opposite}
+use Rattle.qh_model.proofs.algebra.VectorIdentities.{in_line-last, in_line-left, in_line-twice, left-linear, opposite, vol-first, vol-second, vol-third}
+use Rattle.qh_model.proofs.{combinations.Alternatives.all_lower, extremes.Directions.in_line-flip, extremes.Directions.square-positive}
+use Rattle.qh_model.proofs.extremes.{ExtremeIds.combination_of_extremes, ExtremeIds.listed_itself, ExtremeIds.listed_part, Faces.extremes_of_face}
+use Rattle.qh_model.proofs.{extremes.SpanningTriples.planes_of_extremes, polygons.Neighbours.follows_members, polygons.PlaneTurns.level_volume}
 use Rattle.qh_model.specs.headline.Predicates.{left}
-use Rattle.qh_model.proofs.algebra.Order.{mul-nonneg, mul-nonneg_nonpos, mul-pos_neg, mul-neg_neg, cancel-nonpos, zero_or_not, positive_le}
-use Rattle.qh_model.proofs.algebra.VectorIdentities.{opposite, dot-opposite, vol-first, vol-second, vol-third, left-linear, in_line-left, in_line-twice}
-use Rattle.qh_model.proofs.algebra.VectorIdentities.{in_line-last}
-use Rattle.qh_model.proofs.{combinations.Alternatives.all_lower, polygons.Neighbours.follows_members, polygons.PlaneTurns.level_volume}
-use Rattle.qh_model.proofs.extremes.{Directions.square-positive, Directions.in_line-flip, SpanningTriples.planes_of_extremes}
-use Rattle.qh_model.proofs.extremes.ExtremeIds.{listed_itself, listed_part, combination_of_extremes}
-use Rattle.qh_model.proofs.extremes.Faces.{extremes_of_face}
 
 -- ---- signs
 -- s x = l y with s above 0
@@ -18,13 +16,11 @@ at_most s l x y h e p q = cancel-nonpos s x h (subst (λ v. v ≤ℤ pos 0) (sym
 
 -- the same strictly
 pub below : (s l x y : ℤ) → pos 0 <ℤ s → s *ℤ x ≡ l *ℤ y → pos 0 <ℤ l → y <ℤ pos 0 → x <ℤ pos 0
-below s l x y h e p q =
-    by_lt_z x (pos 0) (λ k. k) (λ k. absurd (omega (arith, ints, e, mul-nonneg s x (positive_le s h) k, mul-pos_neg l y p q)))
+below = grind arith
 
 -- s x = l y with s above 0, y below 0 and x not above 0
 pub turn_sign : (s l x y : ℤ) → pos 0 <ℤ s → s *ℤ x ≡ l *ℤ y → y <ℤ pos 0 → x ≤ℤ pos 0 → pos 0 ≤ℤ l
-turn_sign s l x y h e q k =
-    by_lt_z l (pos 0) (λ p. absurd (omega (arith, ints, e, mul-nonneg_nonpos s x (positive_le s h) k, mul-neg_neg l y p q))) (λ p. p)
+turn_sign = grind arith
 
 -- ---- a third member
 -- of three different numbers one is different from two given ones

@@ -1,5 +1,5 @@
 -- Neighbours round a polygon.
-use Rattle.qh_model.proofs.Common.{◌≡◌, ℕ, refl, sym, ◌⊎◌, inl, inr, List, [], ◌∷◌, ⊎_elim, FollowsAlong, Follows, In}
+use Rattle.qh_model.proofs.Common.{◌≡◌, ℕ, refl, sym, ◌⊎◌, inl, inr, List, [], ◌∷◌, ⊎_elim, FollowsAlong, Follows, In, arith}
 
 -- neighbours on a path are members of it
 pub along_members : (u v t : ℕ) (r : List ℕ) (e : ℕ) → FollowsAlong u v t r e → In u (t ∷ r) × ((v ≡ e) ⊎ In v r)
@@ -9,8 +9,7 @@ along_members u v t (w ∷ r) e (inr f) = let g = along_members u v w r e f in (
 
 -- neighbours are members
 pub follows_members : (u v : ℕ) (q : List ℕ) → Follows u v q → In u q × In v q
-follows_members u v [] f = absurd f
-follows_members u v (t ∷ r) f = let g = along_members u v t r t f in (g.0, g.1)
+follows_members = grind (arith, along_members)
 
 -- each id on a path has a successor
 pub along_next : (u t : ℕ) (r : List ℕ) (e : ℕ) → In u (t ∷ r) → (v : ℕ) × FollowsAlong u v t r e

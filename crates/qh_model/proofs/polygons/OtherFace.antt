@@ -17,8 +17,7 @@ vol-both u v x y = omega (arith, ints, vol-flip v u y x, vol-swap_last u v y x)
 
 -- of two points, the one beyond the plane through the other and the line u v comes first, by their volumes with a and b
 gift_wrap : (u v a b p y : Vector) → pos 0 <ℤ vol u v a b → pos 0 <ℤ vol u v p y → pos 0 <ℤ (vol u v a p *ℤ vol u v b y -ℤ vol u v b p *ℤ vol u v a y)
-gift_wrap u v a b p y h k =
-    rw (mul_comm (vol u v b p) (vol u v a y), edge_product u v a b p y) (mul-pos (vol u v a b) (vol u v p y) h k)
+gift_wrap = grind (arith, mul_comm, edge_product, mul-pos)
 
 module _ (at : ℕ → Vector) (ids : List ℕ) (d : HasDistinctPoints at (Members ids))
     (solid : HasTetrahedron at (Members ids)) (i j k : ℕ) (q : List ℕ) (u v : ℕ)

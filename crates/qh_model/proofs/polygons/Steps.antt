@@ -1,5 +1,5 @@
 -- The faces of a solid close up: one face takes each step along an edge, and another the step back.
-use Rattle.qh_model.proofs.Common.{◌≡◌, ℕ, suc, ◌≤◌, length, refl, sym, ap, subst, ◌∙◌, inl, inr, ⊎_elim, List, [], ◌∷◌, flat_map, ◌↔◌, steps_along}
+use Rattle.qh_model.proofs.Common.{◌≡◌, ℕ, suc, ◌≤◌, length, refl, sym, ap, subst, ◌∙◌, inl, inr, ⊎_elim, List, [], ◌∷◌, flat_map, ◌↔◌, steps_along, arith}
 use Rattle.qh_model.proofs.Common.{steps_round, step_count, is_edge, FollowsAlong, Follows, ComesBefore, In, Once}
 use Rattle.std.proofs.Common.{le_antisymm}
 use Rattle.qh_model.specs.laws.ClosedFaceLaws.{FacesClose}
@@ -36,8 +36,7 @@ on_along u v t (w ∷ r) e = (
 
 -- the steps of a polygon are its neighbours
 pub on_round : (u v : ℕ) (q : List ℕ) → Has u v (steps_round q) ↔ Follows u v q
-on_round u v [] = (λ m. m, λ f. f)
-on_round u v (t ∷ r) = on_along u v t r t
+on_round = grind (arith, on_along)
 
 -- each step occurs once
 once_along : (t : ℕ) (r : List ℕ) (e : ℕ) → Once (t ∷ r) → Once (steps_along t r e)
@@ -45,8 +44,7 @@ once_along t [] e o = ((λ m. m), tt)
 once_along t (w ∷ r) e o = ((λ m. o.0 (along_members t w w r e ((on_along t w w r e).0 m)).0), once_along w r e o.1)
 
 once_round : (q : List ℕ) → Once q → Once (steps_round q)
-once_round [] o = tt
-once_round (t ∷ r) o = once_along t r t o
+once_round = grind (arith, once_along)
 
 -- if no two polygons take the same step, each step occurs once
 all_once : (qs : List (List ℕ)) → Once qs → ((q : List ℕ) → In q qs → Once q)

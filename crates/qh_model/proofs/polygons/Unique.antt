@@ -37,9 +37,7 @@ follow n at q p m u (v ∷ r) (w ∷ s) e f g i o k a b = with_rest (λ f' g' i'
 
 -- heads that are least in lists with the same members are equal
 heads : (u v : ℕ) (us vs : List ℕ) → BeginsWithLeast (u ∷ us) → BeginsWithLeast (v ∷ vs) → In v (u ∷ us) → In u (v ∷ vs) → u ≡ v
-heads u v us vs f g (inl e) j = sym e
-heads u v us vs f g (inr i) (inl e) = e
-heads u v us vs f g (inr i) (inr j) = let x = f v i in let y = g u j in omega arith
+heads = grind arith
 
 -- a set and a normal have at most one polygon
 pub one_polygon : (at : ℕ → Vector) (X : ℕ → Type 0) (n : Vector) (p q : List ℕ) → IsPolygon at X n p → IsPolygon at X n q → p ≡ q

@@ -1,20 +1,11 @@
 -- The hull of a set that is renamed in its order.
-use Rattle.qh_model.proofs.Common.{◌≡◌, ℕ, List, [], ◌∷◌, map, sym, subst, ◌∙◌, inl, inr, ⊎_elim, BodyValue, IsBody, ArePolygons, In, Vector}
+use Rattle.qh_model.proofs.Common.{ℕ, List, map, BodyValue, IsBody, ArePolygons, Vector, arith}
 use Rattle.qh_model.proofs.renamed.{Edges.edge_count_renamed, Polygons.members_renamed, Polygons.polygons_renamed}
 use Rattle.qh_model.proofs.renamed.{Lists.AreWithin, Lists.rising_map, Renaming.IsRenaming, Renaming.extremes_renamed, Renaming.dimension_renamed}
 
--- the only member of a list of one
-alone : (qs : List (List ℕ)) (p : List ℕ) → qs ≡ p ∷ [] → (q : List ℕ) → In q qs → q ≡ p
-alone qs p s q m = ⊎_elim (λ d. d) (λ n. absurd n) (subst (In q) s m)
-
 -- the members of polygons are members of the set
 pub polygon_members : (at : ℕ → Vector) (A : ℕ → Type 0) (k : ℕ) (qs : List (List ℕ)) → ArePolygons at A k qs → AreWithin A qs
-polygon_members at A k qs (inl (e, h)) q m i j = let face = h.only q m in ((face.4.members i).0 j).0.0
-polygon_members at A k qs (inr (inl (e, (p, h, s)))) q m i j = ((h.polygon.members i).0 (subst (In i) (alone qs p s q m) j)).0
-polygon_members at A k qs (inr (inr (inl (e, (p, h, s))))) q m i j =
-    ((h.members i).0 (⊎_elim (λ d. inl d) (λ t. ⊎_elim (λ d. inr d) (λ n. absurd n) t) (subst (In i) (alone qs p s q m ∙ h.is) j))).0
-polygon_members at A k qs (inr (inr (inr (e, (p, h, s))))) q m i j =
-    ⊎_elim (λ d. subst A (sym d) h.has_i) (λ n. absurd n) (subst (In i) (alone qs p s q m ∙ h.is) j)
+polygon_members = grind arith
 
 -- ---- all parts
 -- the body with other names of its ids

@@ -1,14 +1,13 @@
 -- The edges of a set that is renamed in its order.
-use Rattle.qh_model.proofs.Common.{◌≡◌, ℕ, ◌<◌, ◌⊎◌, List, map, sym, ap, subst, ◌∙◌, inl, inr, ⊎_elim, length-map, Follows, IsEdge, IsEdgeCount, In, Vector}
-use Rattle.qh_model.proofs.lists.Images.{in_map, of_map, once_map}
-use Rattle.qh_model.proofs.{polygons.Neighbours.follows_members, renamed.Renaming.IsRenaming, renamed.Renaming.renaming_apart, renamed.Renaming.renaming_falls}
+use Rattle.qh_model.proofs.Common.{Follows, In, IsEdge, IsEdgeCount, List, Vector, ap, arith, inl, inr, length-map, map, subst, sym, ℕ, ⊎_elim, ◌<◌, ◌∙◌, ◌≡◌}
+use Rattle.qh_model.proofs.{Common.◌⊎◌, lists.Images.in_map, lists.Images.of_map, lists.Images.once_map, polygons.Neighbours.follows_members}
 use Rattle.qh_model.proofs.renamed.Lists.{AreWithin, follows_map, of_follows_map}
+use Rattle.qh_model.proofs.renamed.Renaming.{IsRenaming, renaming_apart, renaming_falls}
 
 module _ {at at' : ℕ → Vector} {A B : ℕ → Type 0} {f g : ℕ → ℕ} (r : IsRenaming at at' A B f g) where
   -- the members of an edge
   edge_members : (qs : List (List ℕ)) → AreWithin A qs → (u v : ℕ) → IsEdge qs u v → A u × A v
-  edge_members qs within u v (h, (q, m, inl s)) = let e = follows_members u v q s in (within q m u e.0, within q m v e.1)
-  edge_members qs within u v (h, (q, m, inr s)) = let e = follows_members v u q s in (within q m u e.1, within q m v e.0)
+  edge_members = grind (arith, follows_members)
 
   -- an edge with renamed ends
   edge_renamed : (qs : List (List ℕ)) → AreWithin A qs → (u v : ℕ) → IsEdge qs u v → IsEdge (map (map f) qs) (f u) (f v)

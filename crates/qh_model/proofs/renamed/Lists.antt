@@ -1,5 +1,5 @@
 -- Images of lists of ids under a renaming: members once, neighbours, the least id first, and lexicographic order.
-use Rattle.qh_model.proofs.Common.{◌≡◌, ℕ, ◌+◌, ◌<◌, ◌≤◌, refl, List, [], ◌∷◌, length, get_or, map, arith, ap, sym, subst, inl, inr, length-map, get_or-map}
+use Rattle.qh_model.proofs.Common.{◌≡◌, ℕ, ◌+◌, ◌<◌, refl, List, [], ◌∷◌, length, get_or, map, arith, ap, sym, subst, inl, inr, length-map, get_or-map}
 use Rattle.qh_model.proofs.Common.{IsStrictlyIncreasing, FollowsAlong, Follows, ComesBefore, RisesFrom, RiseStrictly, In, BeginsWithLeast}
 use Rattle.qh_model.proofs.{Members.In-get_or, lists.Images.of_map}
 
@@ -27,8 +27,7 @@ of_along_map f u v t (w ∷ r) e (inr h) =
 
 -- neighbours round a polygon have neighbours as images
 pub follows_map : (f : ℕ → ℕ) (u v : ℕ) (q : List ℕ) → Follows u v q → Follows (f u) (f v) (map f q)
-follows_map f u v [] h = absurd h
-follows_map f u v (t ∷ r) h = along_map f u v t r t h
+follows_map = grind (arith, along_map)
 
 -- neighbours round the image are images of neighbours
 pub of_follows_map : (f : ℕ → ℕ) (u v : ℕ) (q : List ℕ) → Follows u v (map f q) → (a : ℕ) × (b : ℕ) × Follows a b q × (u ≡ f a) × (v ≡ f b)
@@ -43,13 +42,7 @@ AreWithin A qs = (q : List ℕ) → In q qs → (i : ℕ) → In i q → A i
 module _ (A : ℕ → Type 0) (f : ℕ → ℕ) (rises : (i j : ℕ) → A i → A j → i < j → f i < f j) where
   -- the least stays first
   pub least_map : (q : List ℕ) → ((i : ℕ) → In i q → A i) → BeginsWithLeast q → BeginsWithLeast (map f q)
-  least_map [] within h = tt
-  least_map (u ∷ us) within h = λ v m.
-      let (w, i, e) = of_map f us v m in
-      let low : u ≤ w = h w i in
-      let up : u < w → f u < f w = rises u w (within u (inl refl)) (within w (inr i)) in
-      let same : u ≡ w → f u ≡ f w = ap f in
-      grind (arith, low, up, same, e)
+  least_map = grind (arith, of_map)
 
   -- lists keep their order
   pub before_map : (p q : List ℕ) → ((i : ℕ) → In i p → A i) → ((i : ℕ) → In i q → A i) → ComesBefore p q → ComesBefore (map f p) (map f q)
@@ -66,8 +59,7 @@ module _ (A : ℕ → Type 0) (f : ℕ → ℕ) (rises : (i j : ℕ) → A i →
 
   -- the images of rising lists of lists rise
   pub rise_map : (qs : List (List ℕ)) → AreWithin A qs → RiseStrictly qs → RiseStrictly (map (map f) qs)
-  rise_map [] within h = tt
-  rise_map (q ∷ qs) within h = rises_map q qs (within q (inl refl)) (λ t i. within t (inr i)) h
+  rise_map = grind (arith, rises_map)
 
   -- the images of rising lists of numbers rise
   pub rising_map : (xs : List ℕ) → ((i : ℕ) → In i xs → A i) → IsStrictlyIncreasing xs → IsStrictlyIncreasing (map f xs)

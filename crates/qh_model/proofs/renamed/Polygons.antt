@@ -1,6 +1,6 @@
 -- The polygons of a set that is renamed in its order.
-use Rattle.std.proofs.Common.{◌↔◌, ◌≡◌, ℕ, ◌⊎◌, List, map, refl, sym, ap, subst, ◌∙◌, inl, inr, ⊎_elim}
-use Rattle.std.specs.Prelude.{pos, ◌<ℤ◌, ◌≤ℤ◌}
+use Rattle.std.proofs.Common.{◌↔◌, ◌≡◌, ℕ, ◌⊎◌, List, map, refl, sym, ap, subst, ◌∙◌, inl, inr, ⊎_elim, arith}
+use Rattle.std.specs.Prelude.{pos, ◌<ℤ◌}
 use Rattle.qh_model.specs.headline.{Extreme.Extreme, Polygon.Follows, Polygon.TurnsLeft, Polygon.IsPolygon}
 use Rattle.qh_model.specs.headline.Polygons.{IsFacePolygon, AreFaces, PointsForward, IsFlatFace, IsSegmentFace, ArePolygons}
 use Rattle.qh_model.specs.headline.{Predicates.vol, Predicates.left, Sets.In, SupportingPlane.IsSupportingTriple, SupportingPlane.OnPlane, Vector.Vector}
@@ -11,10 +11,7 @@ use Rattle.qh_model.proofs.renamed.Renaming.{renaming_apart, renaming_back, part
 module _ {at at' : ℕ → Vector} {A B : ℕ → Type 0} {f g : ℕ → ℕ} (r : IsRenaming at at' A B f g) where
   -- a list has the members of A, and its image has their names
   pub members_renamed : (q : List ℕ) → ((i : ℕ) → In i q ↔ A i) → (k : ℕ) → In k (map f q) ↔ B k
-  members_renamed q members k = (
-    λ m. let s = of_map f q k m in subst B (sym s.2) (r.to s.0 ((members s.0).0 s.1)),
-    λ b. subst (λ n. In n (map f q)) (r.under k b) (in_map f q (g k) ((members (g k)).1 (r.from k b))),
-  )
+  members_renamed = grind (arith, of_map, in_map)
 
   -- the polygon of A
   polygon_renamed : (n m : Vector) (q : List ℕ) → n ≡ m → IsPolygon at A n q → IsPolygon at' B m (map f q)
@@ -40,13 +37,7 @@ module _ {at at' : ℕ → Vector} {A B : ℕ → Type 0} {f g : ℕ → ℕ} (r
 
   -- a supporting triple with renamed ids
   triple_renamed : (i j k : ℕ) → IsSupportingTriple at A i j k → IsSupportingTriple at' B (f i) (f j) (f k)
-  triple_renamed i j k t = record {
-    has_i = r.to i t.has_i;
-    has_j = r.to j t.has_j;
-    has_k = r.to k t.has_k;
-    area = λ e. t.area (sym (normal_renamed r i j k t.has_i t.has_j t.has_k) ∙ e);
-    supports = λ l h. subst (λ z. z ≤ℤ pos 0) (sym (volume_renamed r i j k l t.has_i t.has_j t.has_k h)) (t.supports (g l) (r.from l h));
-  }
+  triple_renamed = grind arith
 
 module _ {at at' : ℕ → Vector} {A B : ℕ → Type 0} {f g : ℕ → ℕ} (r : IsRenaming at at' A B f g) where
   -- ---- dimension 3

@@ -22,15 +22,7 @@ number_at (x ∷ xs) (suc k) o h =
 
 -- positions rise with the members
 number_rises : (xs : List ℕ) → IsStrictlyIncreasing xs → (i j : ℕ) → In i xs → In j xs → i < j → vertex_number xs i < vertex_number xs j
-number_rises xs rise i j m n h =
-    let p = at_number xs i m in
-    let q = at_number xs j n in
-    ordered (vertex_number xs i) (vertex_number xs j) p.1 q.1 (λ l. rising_between xs (vertex_number xs j) (vertex_number xs i) rise l p.0)
-  where
-    ordered : (k l : ℕ) → get_or xs k 0 ≡ i → get_or xs l 0 ≡ j → (l < k → get_or xs l 0 < get_or xs k 0) → k < l
-    ordered k l e d up =
-        let same : k ≡ l → get_or xs k 0 ≡ get_or xs l 0 = ap (λ t. get_or xs t 0) in
-        grind (arith, e, d, up, same, h)
+number_rises = grind (arith, at_number, rising_between)
 
 -- ---- the points at the positions
 -- the positions of all members
@@ -48,9 +40,7 @@ point_at pts xs i m = let r = at_number xs i m in get_or-map (place pts) xs (ver
 
 -- positions are numbers below the length
 position_below : (xs : List ℕ) (k : ℕ) → In k (vertex_numbers xs) → k < length xs
-position_below xs k m =
-    let r = of_map (vertex_number xs) xs k m in
-    subst (λ n. n < length xs) (sym r.2) (at_number xs r.0 r.1).0
+position_below = grind (arith, of_map, at_number)
 
 module _ (pts : List Vector) (A : ℕ → Type 0) (xs : List ℕ) (rising : IsStrictlyIncreasing xs) (members : (i : ℕ) → In i xs ↔ A i) where
   -- the member at a position has this position
@@ -75,9 +65,7 @@ module _ (pts : List Vector) (A : ℕ → Type 0) (xs : List ℕ) (rising : IsSt
 
   -- different positions have different points
   positions_apart : HasDistinctPoints (place pts) A → HasDistinctPoints (place (points_of pts xs)) (Members (vertex_numbers xs))
-  positions_apart apart j k m n e =
-      let back = renaming_back by_position in
-      renaming_apart back j k m n (apart (get_or xs j 0) (get_or xs k 0) (back.to j m) (back.to k n) (back.point j m ∙ e ∙ sym (back.point k n)))
+  positions_apart = grind (arith, renaming_back, by_position, renaming_apart)
 
   -- the positions are the distinct ids of these points
   positions_distinct : HasDistinctPoints (place pts) A → AreDistinctIds (points_of pts xs) (vertex_numbers xs)

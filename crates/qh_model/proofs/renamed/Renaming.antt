@@ -19,34 +19,16 @@ module _ {at at' : ℕ → Vector} {A B : ℕ → Type 0} {f g : ℕ → ℕ} (r
 
   -- rising names are those of rising ids
   pub renaming_falls : (i j : ℕ) → A i → A j → f i < f j → i < j
-  renaming_falls i j a b h =
-      let above : j < i → f j < f i = r.rises j i b a in
-      let same : j ≡ i → f j ≡ f i = ap f in
-      grind (arith, above, same, h)
+  renaming_falls = grind arith
 
   -- the inverse renaming
   pub renaming_back : IsRenaming at' at B A g f
-  renaming_back = record {
-    to = r.from;
-    from = r.to;
-    over = r.under;
-    under = r.over;
-    point = λ k b. sym (r.point (g k) (r.from k b)) ∙ ap at' (r.under k b);
-    rises = λ k l b c h. renaming_falls (g k) (g l) (r.from k b) (r.from l c)
-        (subst (λ n. n < f (g l)) (sym (r.under k b)) (subst (λ n. k < n) (sym (r.under l c)) h));
-  }
+  renaming_back = grind arith
 
   -- a part of the set is renamed to a part of the names
   pub part_renamed : {X Y : ℕ → Type 0} → ((i : ℕ) → X i → A i) → ((k : ℕ) → Y k → B k) → ((i : ℕ) → X i → Y (f i))
       → ((k : ℕ) → Y k → X (g k)) → IsRenaming at at' X Y f g
-  part_renamed of_x of_y to from = record {
-    to = to;
-    from = from;
-    over = λ i x. r.over i (of_x i x);
-    under = λ k y. r.under k (of_y k y);
-    point = λ i x. r.point i (of_x i x);
-    rises = λ i j x y. r.rises i j (of_x i x) (of_x j y);
-  }
+  part_renamed = grind arith
 
   -- the normal of three members
   pub normal_renamed : (i j k : ℕ) → A i → A j → A k → cross (at' (f i)) (at' (f j)) (at' (f k)) ≡ cross (at i) (at j) (at k)

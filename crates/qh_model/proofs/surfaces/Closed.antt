@@ -1,13 +1,12 @@
 -- The live facets of a sound surface are a closed surface: each directed edge is that of at most one facet, and the reversed edge is that of its twin. The
 -- signed volume of the surface is below 0.
-use Rattle.qh_model.proofs.Common.{◌≡◌, ℕ, zero, suc, ◌+◌, ◌<◌, ◌≤◌, arith, refl, sym, ap, subst, ◌∙◌, inl, inr, List, [], ◌∷◌, length, Bool, true, false, cond}
-use Rattle.qh_model.proofs.Common.{ints, ℤ, pos, ◌+ℤ◌, ◌≤ℤ◌, ◌<ℤ◌, Triple, edges, is_edge, IsClosed, signed_volume, triples_from, triples_of, weighted_at}
-use Rattle.qh_model.proofs.Common.{middle_at, IsSound, IsInner, Surface, Side, end, IsWhole, rise, first, second, third, Weighted, above, vol, AreInLine, In}
-use Rattle.qh_model.proofs.Common.{Once, Vector}
-use Rattle.qh_model.specs.{contract.Surface.start, laws.ClosedSurfaceLaws.SoundIsClosed, laws.ClosedSurfaceLaws.SoundHasVolume}
-use Rattle.qh_model.proofs.{Members.each_more, algebra.Signs.less_le, surfaces.Facets.ends_differ, surfaces.KeptSound.edge_once}
-use Rattle.qh_model.proofs.{algebra.VectorIdentities.in_line-vol, closed_surfaces.SignedVolume.edge_tests, closed_surfaces.SignedVolume.volume_is_constant}
-use Rattle.qh_model.proofs.{closed_surfaces.Sums.count, closed_surfaces.Sums.count-is, surfaces.Determinants.above-together, surfaces.SurfaceLaws.rise_is_vol}
+use Rattle.qh_model.proofs.Common.{AreInLine, Bool, In, IsClosed, IsInner, IsSound, IsWhole, List, Once, Side, Surface, Triple, Vector, Weighted, [], ap, arith}
+use Rattle.qh_model.proofs.Common.{cond, edges, end, false, first, inl, inr, ints, is_edge, length, middle_at, pos, refl, rise, rules, second, signed_volume}
+use Rattle.qh_model.proofs.Common.{subst, suc, sym, third, triples_from, triples_of, true, vol, weighted_at, zero, ℕ, ℤ, ◌+ℤ◌, ◌+◌, ◌<ℤ◌, ◌<◌, ◌∙◌, ◌∷◌, ◌≡◌}
+use Rattle.qh_model.proofs.{Common.◌≤ℤ◌, Common.◌≤◌, Members.each_more, algebra.Signs.less_le, algebra.VectorIdentities.in_line-vol}
+use Rattle.qh_model.proofs.closed_surfaces.{SignedVolume.edge_tests, SignedVolume.volume_is_constant, Sums.count, Sums.count-is}
+use Rattle.qh_model.proofs.surfaces.{Determinants.above-together, Facets.ends_differ, KeptSound.edge_once, SurfaceLaws.rise_is_vol}
+use Rattle.qh_model.specs.{contract.Surface.start, laws.ClosedSurfaceLaws.SoundHasVolume, laws.ClosedSurfaceLaws.SoundIsClosed}
 
 -- ---- edges as sides
 -- a side of one of the facets goes from u to v
@@ -65,13 +64,7 @@ module _ (m : Surface) (u v : ℕ) where
 -- at most one of three, and no further one if there is one
 one_of_three : (a b c : Bool) (n : ℕ) → (a ≡ true → b ≡ true → ⊥) → (b ≡ true → c ≡ true → ⊥) → (c ≡ true → a ≡ true → ⊥)
     → (a ≡ true → n ≡ 0) → (b ≡ true → n ≡ 0) → (c ≡ true → n ≡ 0) → n ≤ 1 → cond a 1 0 + (cond b 1 0 + (cond c 1 0 + n)) ≤ 1
-one_of_three true true c n ab bc ca ha hb hc h = absurd (ab refl refl)
-one_of_three true false true n ab bc ca ha hb hc h = absurd (ca refl refl)
-one_of_three true false false n ab bc ca ha hb hc h = let e = ha refl in omega arith
-one_of_three false true true n ab bc ca ha hb hc h = absurd (bc refl refl)
-one_of_three false true false n ab bc ca ha hb hc h = let e = hb refl in omega arith
-one_of_three false false true n ab bc ca ha hb hc h = let e = hc refl in omega arith
-one_of_three false false false n ab bc ca ha hb hc h = omega arith
+one_of_three = grind arith
 
 module _ (m : Surface) (home : ℕ → Weighted) (o : Weighted) (z : IsSound m home o) where
   -- each directed edge is that of at most one facet
@@ -131,22 +124,11 @@ module _ (at : ℕ → Vector) (m : Surface) (s t u v : ℕ) where
   -- the four volumes of a facet add up to its height above the middle
   four_volumes : (f : ℕ) → let volume : ℕ → ℤ = λ l. vol (at (m.i f)) (at (m.j f)) (at (m.k f)) (at l) in
       rise m (weighted_at at) f (middle_at at s t u v) ≡ volume s +ℤ volume t +ℤ volume u +ℤ volume v
-  four_volumes f =
-      above-together (P (m.i f)) (P (m.j f)) (P (m.k f)) (P s) (P t) (P u) (P v)
-      ∙ λ k. volume s k +ℤ volume t k +ℤ volume u k +ℤ volume v k
-    where
-      P : ℕ → Weighted
-      P = weighted_at at
-
-      volume : (l : ℕ) → above (P (m.i f)) (P (m.j f)) (P (m.k f)) (P l) ≡ vol (at (m.i f)) (at (m.j f)) (at (m.k f)) (at l)
-      volume l = rise_is_vol (at (m.i f)) (at (m.j f)) (at (m.k f)) (at l)
+  four_volumes = search (rules, above-together, rise_is_vol)
 
   -- a facet that the middle is strictly below is a triangle
   pub inner_area : (f : ℕ) → rise m (weighted_at at) f (middle_at at s t u v) <ℤ pos 0 → ¬ (AreInLine (at (m.i f)) (at (m.j f)) (at (m.k f)))
-  inner_area f h e = omega (arith, ints, four_volumes f, flat s, flat t, flat u, flat v)
-    where
-      flat : (l : ℕ) → vol (at (m.i f)) (at (m.j f)) (at (m.k f)) (at l) ≡ pos 0
-      flat l = in_line-vol (at (m.i f)) (at (m.j f)) (at (m.k f)) (at l) e
+  inner_area = grind (arith, four_volumes, in_line-vol)
 
   -- the sum of the signed volumes with the four
   abbrev volumes : List ℕ → ℤ

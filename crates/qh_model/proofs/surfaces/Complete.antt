@@ -1,16 +1,14 @@
 -- A finished surface determines the hull: its dimension, its extreme ids and its polygons.
 use Rattle.qh_model.proofs.Common.{◌≡◌, ℕ, refl, inl, List, pos, ◌↔◌, IsFinished, Surface, HasTetrahedron, Extreme, IsFacePolygon, cross, vol, In, Members}
-use Rattle.qh_model.proofs.Common.{OnPlane, Vector, CornerInPlane, IsLiveCorner}
+use Rattle.qh_model.proofs.Common.{OnPlane, Vector, CornerInPlane, IsLiveCorner, arith}
 use Rattle.qh_model.specs.laws.CompletenessLaws.{FacetOfPlane, FinishedIsSolid, ExtremesOfCorners, ExtremesOfPlane, PolygonsOfFacets}
 use Rattle.qh_model.proofs.{algebra.Order.zero_or_not, extremes.Directions.along_back, extremes.Faces.extremes_of_face, polygons.Direction.polygon_as}
-use Rattle.qh_model.proofs.algebra.Signs.{less_differ}
 use Rattle.qh_model.proofs.extremes.ExtremeIds.{Listed, listed_itself, listed_part, extremes_between}
 use Rattle.qh_model.proofs.surfaces.Finished.{extremes_are_corners, extremes_of_plane_are_corners, facets_support, planes_have_facets}
 
 -- the four ids of the middle are a tetrahedron
 pub finished_tetrahedron : (at : ℕ → Vector) (ids : List ℕ) (m : Surface) → IsFinished at ids m → HasTetrahedron at (Members ids)
-finished_tetrahedron at ids m z =
-    record { i = z.s; j = z.t; k = z.u; l = z.v; has_i = z.has_s; has_j = z.has_t; has_k = z.has_u; has_l = z.has_v; volume = less_differ _ _ z.volume }
+finished_tetrahedron = grind arith
 
 -- proof of the law `FinishedIsSolid`
 pub finished_is_solid : FinishedIsSolid

@@ -1,11 +1,10 @@
 -- A surface whose facets that see an id are replaced by its cone over the horizon.
-use Rattle.qh_model.proofs.Common.{IsInner, IsSound, IsStrict, perturbed, towards, put, IsCorner, Side, Surface, IsWhole, end, rise, Weighted, In, far, ◌≡◌}
-use Rattle.qh_model.proofs.Common.{◌≢◌, ℕ, ◌+◌, ◌≤◌, refl, arith, ap, sym, ◌∙◌, subst, ◌⊎◌, inl, inr, ⊎_elim, pos, ◌≤ℤ◌, ◌<ℤ◌}
+use Rattle.qh_model.proofs.Common.{In, IsCorner, IsInner, IsSound, IsStrict, IsWhole, Side, Surface, Weighted, ap, arith, end, far, inl, inr, perturbed, pos}
+use Rattle.qh_model.proofs.Common.{put, refl, rise, subst, sym, towards, ℕ, ⊎_elim, ◌+◌, ◌<ℤ◌, ◌∙◌, ◌≡◌, ◌≢◌, ◌≤ℤ◌, ◌≤◌, ◌⊎◌}
+use Rattle.qh_model.proofs.{algebra.Signs.equal_negative, algebra.Signs.not_less, board.Updates.put_else, board.Updates.put_here, surfaces.ConePlanes.Old}
+use Rattle.qh_model.proofs.surfaces.{ConePlanes.apex_inner, ConePlanes.apex_rise, ConePlanes.corner_below_cone, Connected.cert, Facets.corner_end}
+use Rattle.qh_model.proofs.surfaces.{Facets.corner_rest, Facets.corner_start, Facets.side_rise, PerturbedInwards.Choice, PerturbedInwards.choose}
 use Rattle.qh_model.specs.contract.{SoundSurface.IsStrictWhenPerturbed, Surface.start}
-use Rattle.qh_model.proofs.{algebra.Signs.not_less, algebra.Signs.equal_negative, surfaces.PerturbedInwards.Choice, surfaces.PerturbedInwards.choose}
-use Rattle.qh_model.proofs.{board.Updates.put_here, board.Updates.put_else, surfaces.Connected.cert}
-use Rattle.qh_model.proofs.surfaces.ConePlanes.{Old, apex_rise, apex_inner, corner_below_cone}
-use Rattle.qh_model.proofs.surfaces.Facets.{corner_start, corner_end, corner_rest, side_rise}
 
 -- a kept facet: p is not above it
 pub record KeptOf (m m' : Surface) (home : ℕ → Weighted) (p f' : ℕ) : Type 0 where
@@ -38,15 +37,11 @@ pub record Replaced (m m' : Surface) (home : ℕ → Weighted) (p : ℕ) : Type 
 module _ {m m' : Surface} {home : ℕ → Weighted} {p f' : ℕ} (k : KeptOf m m' home p f') where
   -- a kept facet's corners are the same
   pub kept_corner : (l : ℕ) → IsCorner m f' l → IsCorner m' f' l
-  kept_corner l (inl e) = inl (e ∙ sym k.i_is)
-  kept_corner l (inr (inl e)) = inr (inl (e ∙ sym k.j_is))
-  kept_corner l (inr (inr e)) = inr (inr (e ∙ sym k.k_is))
+  kept_corner = grind arith
 
   -- the converse
   pub corner_kept : (l : ℕ) → IsCorner m' f' l → IsCorner m f' l
-  corner_kept l (inl e) = inl (e ∙ k.i_is)
-  corner_kept l (inr (inl e)) = inr (inl (e ∙ k.j_is))
-  corner_kept l (inr (inr e)) = inr (inr (e ∙ k.k_is))
+  corner_kept = grind arith
 
   -- a kept facet sees the same points as before
   pub kept_rise : (at : ℕ → Weighted) (y : Weighted) → rise m at f' y ≡ rise m' at f' y
@@ -60,13 +55,7 @@ cone_rise n at y = rw (n.i_is, n.j_is, n.k_is) refl
 -- a corner of the new surface is an old corner or the point
 pub old_or_apex : {m m' : Surface} {home : ℕ → Weighted} {p : ℕ} (r : Replaced m m' home p)
     (f' l : ℕ) → In f' m'.live → IsCorner m' f' l → Old m l ⊎ (l ≡ p)
-old_or_apex {m} {m'} {home} {p} r f' l i c = from (r.origin f' i) c
-  where
-    from : KeptOf m m' home p f' ⊎ ConeOf m m' home p r.number f' → IsCorner m' f' l → Old m l ⊎ (l ≡ p)
-    from (inl k) c = inl (f', k.live, corner_kept k l c)
-    from (inr n) (inl e) = inl (n.f, n.live, subst (IsCorner m n.f) (sym (e ∙ n.i_is)) (corner_start m n.f n.s))
-    from (inr n) (inr (inl e)) = inl (n.f, n.live, subst (IsCorner m n.f) (sym (e ∙ n.j_is)) (corner_end m n.f n.s))
-    from (inr n) (inr (inr e)) = inr (e ∙ n.k_is)
+old_or_apex = grind (arith, corner_kept, corner_start, corner_end)
 
 -- ---- the shares
 -- the shares, including that of the new corner

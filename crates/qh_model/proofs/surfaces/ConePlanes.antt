@@ -1,12 +1,11 @@
 -- The plane of a facet of the cone, compared with those of the two facets at its edge of the horizon.
-use Rattle.qh_model.proofs.Common.{IsInner, IsStrict, IsCorner, Side, Surface, HasTwin, IsWhole, end, rise, rest, Weighted, above, In, far, ◌≡◌, ◌≢◌, ℕ, arith}
-use Rattle.qh_model.proofs.Common.{sym, ◌∙◌, subst, ◌⊎◌, inl, inr, ⊎_elim, ints, by_lt_z, ℤ, pos, ◌-ℤ◌, ◌*ℤ◌, ◌≤ℤ◌, ◌<ℤ◌}
+use Rattle.qh_model.proofs.Common.{HasTwin, In, IsCorner, IsInner, IsStrict, IsWhole, Side, Surface, Weighted, above, arith, by_lt_z, end, far, inl, inr, ints}
+use Rattle.qh_model.proofs.Common.{pos, rest, rise, rules, subst, sym, ℕ, ℤ, ⊎_elim, ◌*ℤ◌, ◌-ℤ◌, ◌<ℤ◌, ◌∙◌, ◌≡◌, ◌≢◌, ◌≤ℤ◌, ◌⊎◌}
+use Rattle.qh_model.proofs.algebra.Order.{mul-neg_pos, mul-nonneg, mul-nonneg_nonpos, mul-nonpos, mul-nonpos_nonneg, mul-pos, mul-pos_neg, negative_le}
+use Rattle.qh_model.proofs.{algebra.Order.positive_le, algebra.Signs.not_less, surfaces.CramersRule.line_product}
+use Rattle.qh_model.proofs.surfaces.Facets.{bends, corner_cases, corner_rest, corner_test, far_apart, far_below, far_blind, far_rise, far_seen, side_below}
+use Rattle.qh_model.proofs.surfaces.Facets.{side_blind, side_rise, side_seen, weak}
 use Rattle.qh_model.specs.contract.Surface.{start}
-use Rattle.qh_model.proofs.algebra.Order.{mul-pos, mul-nonneg, mul-nonneg_nonpos, mul-nonpos_nonneg, mul-nonpos, mul-neg_pos, mul-pos_neg, positive_le}
-use Rattle.qh_model.proofs.algebra.Order.{negative_le}
-use Rattle.qh_model.proofs.{algebra.Signs.not_less, surfaces.CramersRule.line_product}
-use Rattle.qh_model.proofs.surfaces.Facets.{corner_rest, corner_cases, corner_test, far_apart, weak, bends, side_rise, far_rise, side_seen, side_blind}
-use Rattle.qh_model.proofs.surfaces.Facets.{side_below, far_seen, far_blind, far_below}
 
 -- ---- signs, for two planes through one line, and a third through it and p
 -- a ≤ 0 with a positive product
@@ -42,9 +41,7 @@ module _ (ap bp ab ay by py : ℤ) (product : ap *ℤ by -ℤ ay *ℤ bp ≡ ab 
 
   -- y is below or on both
   not_above_planes : pos 0 <ℤ ap → pos 0 ≤ℤ bp → ab <ℤ pos 0 → ay ≤ℤ pos 0 → pos 0 ≤ℤ by → py ≤ℤ pos 0
-  not_above_planes h k l m n =
-      let x = mul-nonneg ap by (positive_le ap h) n in let y = mul-nonpos_nonneg ay bp m k in
-      by_lt_z (pos 0) py (λ q. absurd (omega (arith, ints, product, x, y, mul-neg_pos ab py l q))) (λ q. q)
+  not_above_planes = grind arith
 
   -- y is above both
   above_both_planes : pos 0 <ℤ ap → pos 0 ≤ℤ bp → ab ≤ℤ pos 0 → pos 0 <ℤ ay → by <ℤ pos 0 → pos 0 <ℤ py
@@ -79,15 +76,12 @@ module _ (m : Surface) (at : ℕ → Weighted) where
     -- neither sees y: then the cone's facet does not see y
     pub apex_blind : pos 0 <ℤ rise m at f p → rise m at (m.over f s) p ≤ℤ pos 0 → side_rise m at f s (at (far m f s)) <ℤ pos 0
         → rise m at f y ≤ℤ pos 0 → rise m at (m.over f s) y ≤ℤ pos 0 → apex_rise f s p y ≤ℤ pos 0
-    apex_blind a b c d e =
-        not_above_planes _ _ _ _ _ _ products (side_seen m at f s p a) (far_blind m at w f i s p b) c (side_blind m at f s y d) (far_blind m at w f i s y e)
+    apex_blind = search (rules, not_above_planes, products, side_seen, far_blind, side_blind)
 
     -- both see y: then the cone's facet sees y
     pub apex_seen : pos 0 <ℤ rise m at f p → rise m at (m.over f s) p ≤ℤ pos 0 → rise m at f (at (far m f s)) ≤ℤ pos 0
         → pos 0 <ℤ rise m at f y → pos 0 <ℤ rise m at (m.over f s) y → pos 0 <ℤ apex_rise f s p y
-    apex_seen a b c d e =
-        above_both_planes _ _ _ _ _ _ products (side_seen m at f s p a) (far_blind m at w f i s p b)
-        (side_blind m at f s (at (far m f s)) c) (side_seen m at f s y d) (far_seen m at w f i s y e)
+    apex_seen = search (rules, above_both_planes, products, side_seen, far_blind, side_blind, far_seen)
 
 module _ (m : Surface) (home : ℕ → Weighted) (o : Weighted) (w : IsWhole m) (q : IsInner m home o) (at : ℕ → Weighted) (st : IsStrict m at)
     (f : ℕ) (i : In f m.live) (s : Side) (l : ℕ) (old : Old m l) (ns : l ≢ start m f s) (ne : l ≢ end m f s) where

@@ -1,14 +1,13 @@
 -- Surfaces that become strict when their corners are perturbed inwards: the facets that a real point sees are connected.
-use Rattle.qh_model.proofs.Common.{HasDistinctFacets, IsInner, IsStrict, IsSound, perturbed, towards, IsCorner, Side, Surface, HasTwin, IsWhole, end, rest}
-use Rattle.qh_model.proofs.Common.{rise, first, second, third, Weighted, weighted_dot, plane_of, In, far, ◌≡◌, ◌≢◌, ℕ, suc, ◌+◌, arith, refl, ap, sym, ◌∙◌}
-use Rattle.qh_model.proofs.Common.{subst, inl, inr, Bool, true, false, and_parts, both_ways, not-true, ints, by_lt_z, ℤ, pos, ◌+ℤ◌, ◌*ℤ◌, neg_ℤ, ◌≤ℤ◌, ◌<ℤ◌}
-use Rattle.qh_model.proofs.Common.{◌&&◌, not}
+use Rattle.qh_model.proofs.Common.{Bool, HasDistinctFacets, HasTwin, In, IsCorner, IsInner, IsSound, IsStrict, IsWhole, Side, Surface, Weighted, and_parts, ap}
+use Rattle.qh_model.proofs.Common.{arith, both_ways, by_lt_z, end, false, far, first, inl, inr, ints, neg_ℤ, not, not-true, perturbed, plane_of, pos, refl}
+use Rattle.qh_model.proofs.Common.{rest, rise, second, subst, suc, sym, third, towards, true, weighted_dot, ℕ, ℤ, ◌&&◌, ◌*ℤ◌, ◌+ℤ◌, ◌+◌, ◌<ℤ◌, ◌∙◌, ◌≡◌, ◌≢◌}
+use Rattle.qh_model.proofs.{Common.◌≤ℤ◌, Decisions.holds, Decisions.less_or_not, Decisions.test, Decisions.told}
+use Rattle.qh_model.proofs.algebra.{Order.mul-pos, Signs.less_one_way, Signs.not_less}
+use Rattle.qh_model.proofs.surfaces.Facets.{bends, middle, middle_below, middle_on, middle_weak, plane-is, rise_over, rise_side, weak}
+use Rattle.qh_model.proofs.surfaces.PerturbedInwards.{Choice, above-perturbed_all, choose, cube, scale, size, size_le, tilt}
+use Rattle.qh_model.proofs.surfaces.VisibleFacets.{Corners, Cut, Over, none_cut_off}
 use Rattle.qh_model.specs.contract.{SoundSurface.IsStrictWhenPerturbed, Surface.start}
-use Rattle.qh_model.proofs.{Decisions.test, Decisions.told, Decisions.holds, Decisions.less_or_not, algebra.Signs.not_less, algebra.Signs.less_one_way}
-use Rattle.qh_model.proofs.algebra.Order.{mul-pos}
-use Rattle.qh_model.proofs.surfaces.Facets.{rise_side, rise_over, weak, middle, middle_on, middle_weak, middle_below, bends, plane-is}
-use Rattle.qh_model.proofs.surfaces.PerturbedInwards.{tilt, above-perturbed_all, Choice, choose, size, size_le, cube, scale}
-use Rattle.qh_model.proofs.surfaces.VisibleFacets.{Corners, Over, Cut, none_cut_off}
 
 -- the points of a facet's corners
 abbrev pub placed : Surface → (ℕ → Weighted) → ℕ → Corners

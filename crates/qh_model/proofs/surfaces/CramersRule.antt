@@ -1,8 +1,7 @@
 -- The value of a plane at a point, from the point's coordinates with respect to four others, and the product law for planes through one line.
-use Rattle.qh_model.proofs.Common.{Weighted, above, weighted_dot, plane_of, ◌≡◌, refl, [], ◌∷◌, arith, ints, pos, ◌+ℤ◌, ◌-ℤ◌, ◌*ℤ◌}
-use Rattle.qh_model.proofs.algebra.{Order.product_zero, Ring.Expr.var, Ring.Expr.add, Ring.Expr.mul, Ring.Expr.neg}
-use Rattle.qh_model.proofs.algebra.Ring.{ring}
-use Rattle.qh_model.proofs.surfaces.Determinants.{above_of, dot_of, put4, above-first, above-second, above-swap_last}
+use Rattle.qh_model.proofs.Common.{Weighted, [], above, arith, ints, plane_of, pos, refl, weighted_dot, ◌*ℤ◌, ◌+ℤ◌, ◌-ℤ◌, ◌∷◌, ◌≡◌}
+use Rattle.qh_model.proofs.algebra.{Order.product_zero, Ring.ring, Ring.Expr.add, Ring.Expr.mul, Ring.Expr.neg, Ring.Expr.var}
+use Rattle.qh_model.proofs.surfaces.Determinants.{above-first, above-second, above-swap_last, above_of, dot_of, put4}
 
 -- four points give coordinates of a fifth
 pub cramer : (n a b c y p : Weighted) → above a b c y *ℤ weighted_dot n p

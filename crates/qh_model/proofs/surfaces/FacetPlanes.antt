@@ -1,15 +1,14 @@
 -- The live facets in one plane are those that see a point slightly beyond one of them, so they are connected.
-use Rattle.qh_model.proofs.Common.{◌≡◌, ℕ, arith, ap, refl, sym, ◌∙◌, inl, inr, Bool, true, List, [], ◌∷◌, ints, by_lt_z, ℤ, pos, ◌+ℤ◌, ◌*ℤ◌, neg_ℤ, ◌≤ℤ◌, ◌<ℤ◌}
-use Rattle.qh_model.proofs.Common.{weighted_at, middle_at, IsFinished, Surface, IsCorner, towards, rise, Sees, Weighted, above, In, Vector, IsLevelWith}
-use Rattle.qh_model.proofs.Common.{IsLevelFacet}
+use Rattle.qh_model.proofs.Common.{Bool, In, IsCorner, IsFinished, IsLevelFacet, IsLevelWith, List, Sees, Surface, Vector, Weighted, [], above, ap, arith}
+use Rattle.qh_model.proofs.Common.{by_lt_z, inl, inr, ints, middle_at, neg_ℤ, pos, refl, rise, sym, towards, true, weighted_at, ℕ, ℤ, ◌*ℤ◌, ◌+ℤ◌, ◌<ℤ◌, ◌∙◌}
+use Rattle.qh_model.proofs.{Common.◌∷◌, Common.◌≡◌, Common.◌≤ℤ◌, algebra.Integers.neg_mul, algebra.Integers.one_mul}
+use Rattle.qh_model.proofs.algebra.{Order.le_antisym, Order.product_zero, Ring.ring, Ring.Expr.add, Ring.Expr.mul, Ring.Expr.var, Signs.equal_le}
+use Rattle.qh_model.proofs.algebra.VectorIdentities.{vol-first, vol-second, vol-third}
+use Rattle.qh_model.proofs.surfaces.Determinants.{aboveE, above_of, put4, quad}
+use Rattle.qh_model.proofs.surfaces.Facets.{level_parts, middle, of_corners, sum_blind, sum_level}
+use Rattle.qh_model.proofs.surfaces.{Finished.facets_support, Finished.one_plane, Finished.unseen_above, PerturbedInwards.bound, PerturbedInwards.share}
+use Rattle.qh_model.proofs.surfaces.{PerturbedInwards.towardsE, SurfaceLaws.rise_is_vol, SurfaceLaws.walk_finds_all}
 use Rattle.qh_model.specs.laws.FacetPlanes.{IsPlaneWalk, LevelFacetsSpan, PlaneWalkFindsAll}
-use Rattle.qh_model.proofs.algebra.{Integers.one_mul, Integers.neg_mul, Ring.Expr.var, Ring.Expr.add, Ring.Expr.mul}
-use Rattle.qh_model.proofs.{algebra.Order.product_zero, algebra.Order.le_antisym, surfaces.SurfaceLaws.rise_is_vol, surfaces.SurfaceLaws.walk_finds_all}
-use Rattle.qh_model.proofs.{algebra.Ring.ring, surfaces.PerturbedInwards.towardsE, surfaces.PerturbedInwards.bound, surfaces.PerturbedInwards.share}
-use Rattle.qh_model.proofs.algebra.{Signs.equal_le, VectorIdentities.vol-first, VectorIdentities.vol-second, VectorIdentities.vol-third}
-use Rattle.qh_model.proofs.surfaces.Determinants.{above_of, quad, aboveE, put4}
-use Rattle.qh_model.proofs.surfaces.Facets.{middle, of_corners, sum_blind, sum_level, level_parts}
-use Rattle.qh_model.proofs.surfaces.Finished.{one_plane, unseen_above, facets_support}
 
 -- ---- a point slightly beyond another, as seen from o
 -- a point perturbed, as the last argument
@@ -50,9 +49,7 @@ level_facets_span at ids m z f g live live' level =
 
 -- a facet is in its own plane
 pub level_itself : (at : ℕ → Vector) (m : Surface) (f : ℕ) → IsLevelFacet at m f f
-level_itself at m f =
-    let a = at (m.i f) in let b = at (m.j f) in let c = at (m.k f) in
-    of_corners m f (IsLevelWith at m f) (vol-first a b c) (vol-second a b c) (vol-third a b c)
+level_itself = grind (arith, of_corners, vol-first, vol-second, vol-third)
 
 -- a facet in the plane of another facet has that facet in its own plane
 pub level_back : (at : ℕ → Vector) (ids : List ℕ) (m : Surface) → IsFinished at ids m → (f g : ℕ) → In f m.live → In g m.live

@@ -1,5 +1,5 @@
 -- The sides of a facet in cyclic order, and the side that starts at a corner.
-use Rattle.qh_model.proofs.Common.{IsCorner, Side, Surface, end, rest, first, second, third, ◌≡◌, ℕ, refl, sym, inl, inr, ℕ_discrete}
+use Rattle.qh_model.proofs.Common.{IsCorner, Side, Surface, end, rest, first, second, third, ◌≡◌, ℕ, ℕ_discrete, arith}
 use Rattle.qh_model.specs.contract.Surface.{start}
 
 -- the next side
@@ -10,15 +10,11 @@ side_next third = first
 
 -- the next side starts where this one ends
 pub start_next : (m : Surface) (f : ℕ) (s : Side) → start m f (side_next s) ≡ end m f s
-start_next m f first = refl
-start_next m f second = refl
-start_next m f third = refl
+start_next = grind arith
 
 -- the next side ends at the third id of the facet
 pub end_next : (m : Surface) (f : ℕ) (s : Side) → end m f (side_next s) ≡ rest m f s
-end_next m f first = refl
-end_next m f second = refl
-end_next m f third = refl
+end_next = grind arith
 
 -- the side that starts at v
 pick_side : {P Q : Type 0} → Dec P → Dec Q → Side
@@ -33,11 +29,4 @@ from m f v = pick_side (ℕ_discrete v (m.i f)) (ℕ_discrete v (m.j f))
 -- this side starts at v
 pub from_is : (m : Surface) (f v : ℕ) → IsCorner m f v → start m f (from m f v) ≡ v
 unfolding from pick_side
-from_is m f v c = split (ℕ_discrete v (m.i f)) (ℕ_discrete v (m.j f)) c
-  where
-    split : (a : Dec (v ≡ m.i f)) (b : Dec (v ≡ m.j f)) → IsCorner m f v → start m f (pick_side a b) ≡ v
-    split (yes a) b k = sym a
-    split (no a) (yes b) k = sym b
-    split (no a) (no b) (inl e) = absurd (a e)
-    split (no a) (no b) (inr (inl e)) = absurd (b e)
-    split (no a) (no b) (inr (inr e)) = sym e
+from_is = grind arith

@@ -1,57 +1,36 @@
 -- Facets with neighbours across their sides, and the points of their corners: no corner is above a facet.
-use Rattle.qh_model.proofs.Common.{HasDistinctFacets, IsInner, IsStrict, IsCorner, Side, Surface, HasTwin, IsWhole, end, rise, rest, first, second, third}
-use Rattle.qh_model.proofs.Common.{Weighted, above, weighted_dot, plane_of, In, far, ◌≡◌, ◌≢◌, ℕ, refl, [], arith, sym, ◌∙◌, subst, ◌⊎◌, inl, inr, ⊎_elim, ints}
-use Rattle.qh_model.proofs.Common.{by_lt_z, ℕ_discrete, ℤ, pos, ◌+ℤ◌, neg_ℤ, ◌≤ℤ◌, ◌<ℤ◌}
+use Rattle.qh_model.proofs.Common.{HasDistinctFacets, HasTwin, In, IsCorner, IsInner, IsStrict, IsWhole, Side, Surface, Weighted, [], above, arith, by_lt_z}
+use Rattle.qh_model.proofs.Common.{end, far, first, inl, inr, ints, neg_ℤ, plane_of, pos, refl, rest, rise, second, subst, sym, third, weighted_dot, ℕ, ℤ}
+use Rattle.qh_model.proofs.{Common.⊎_elim, Common.◌+ℤ◌, Common.◌<ℤ◌, Common.◌∙◌, Common.◌≡◌, Common.◌≢◌, Common.◌≤ℤ◌, Common.◌⊎◌, algebra.Order.negative_le}
+use Rattle.qh_model.proofs.algebra.{Ring.Expr, Ring.ring, Ring.Expr.add, Signs.equal_le, Signs.equal_negative, Signs.equal_nonpos, Signs.equal_positive}
+use Rattle.qh_model.proofs.algebra.Signs.{less_differ, less_one_way, opposite_negative, opposite_nonneg, opposite_positive, sum_nonpos, sum_parts, sum_zero}
+use Rattle.qh_model.proofs.surfaces.Determinants.{QE, above-first, above-flip, above-second, above-third, above-turn, dot4E, put4, quad}
 use Rattle.qh_model.specs.contract.Surface.{start}
-use Rattle.qh_model.proofs.algebra.{Order.negative_le, Ring.Expr, Ring.ring, Ring.Expr.add}
-use Rattle.qh_model.proofs.algebra.Signs.{less_differ, less_one_way, equal_le, sum_nonpos, sum_parts, sum_zero, equal_nonpos, equal_negative, equal_positive}
-use Rattle.qh_model.proofs.algebra.Signs.{opposite_nonneg, opposite_positive, opposite_negative}
-use Rattle.qh_model.proofs.surfaces.Determinants.{QE, put4, quad, dot4E, above-turn, above-flip, above-first, above-second, above-third}
 
 -- a fact about the corners one by one holds for all
 pub of_corners : (m : Surface) (f : ℕ) (P : ℕ → Type 0) → P (m.i f) → P (m.j f) → P (m.k f) → (l : ℕ) → IsCorner m f l → P l
-of_corners m f P a b c l (inl e) = subst P (sym e) a
-of_corners m f P a b c l (inr (inl e)) = subst P (sym e) b
-of_corners m f P a b c l (inr (inr e)) = subst P (sym e) c
+of_corners = grind arith
 
 module _ (m : Surface) where
   -- the start of a side is a corner
   pub corner_start : (f : ℕ) (s : Side) → IsCorner m f (start m f s)
-  corner_start f first = inl refl
-  corner_start f second = inr (inl refl)
-  corner_start f third = inr (inr refl)
+  corner_start = grind arith
 
   -- the end of a side is a corner
   pub corner_end : (f : ℕ) (s : Side) → IsCorner m f (end m f s)
-  corner_end f first = inr (inl refl)
-  corner_end f second = inr (inr refl)
-  corner_end f third = inl refl
+  corner_end = grind arith
 
   -- the third id of a side is a corner
   pub corner_rest : (f : ℕ) (s : Side) → IsCorner m f (rest m f s)
-  corner_rest f first = inr (inr refl)
-  corner_rest f second = inl refl
-  corner_rest f third = inr (inl refl)
+  corner_rest = grind arith
 
   -- a corner is one of the three of a side
   pub corner_cases : (f : ℕ) (s : Side) (l : ℕ) → IsCorner m f l → (l ≡ start m f s) ⊎ (l ≡ end m f s) ⊎ (l ≡ rest m f s)
-  corner_cases f first l c = c
-  corner_cases f second l (inl e) = inr (inr e)
-  corner_cases f second l (inr (inl e)) = inl e
-  corner_cases f second l (inr (inr e)) = inr (inl e)
-  corner_cases f third l (inl e) = inr (inl e)
-  corner_cases f third l (inr (inl e)) = inr (inr e)
-  corner_cases f third l (inr (inr e)) = inl e
+  corner_cases = grind arith
 
   -- decides whether an id is a corner
   pub corner_test : (f l : ℕ) → IsCorner m f l ⊎ (¬ (IsCorner m f l))
-  corner_test f l = test (ℕ_discrete l (m.i f)) (ℕ_discrete l (m.j f)) (ℕ_discrete l (m.k f))
-    where
-      test : Dec (l ≡ m.i f) → Dec (l ≡ m.j f) → Dec (l ≡ m.k f) → IsCorner m f l ⊎ (¬ (IsCorner m f l))
-      test (yes e) q r = inl (inl e)
-      test (no a) (yes e) r = inl (inr (inl e))
-      test (no a) (no b) (yes e) = inl (inr (inr e))
-      test (no a) (no b) (no c) = inr (λ h. ⊎_elim a (λ k. ⊎_elim b c k) h)
+  corner_test = grind arith
 
 module _ (m : Surface) (at : ℕ → Weighted) where
   -- ---- a facet and its neighbour, in terms of the side between them
@@ -65,9 +44,7 @@ module _ (m : Surface) (at : ℕ → Weighted) where
 
   -- the facet is the same from any side
   pub rise_side : (f : ℕ) (s : Side) (y : Weighted) → rise m at f y ≡ side_rise f s y
-  rise_side f first y = refl
-  rise_side f second y = above-turn (at (m.i f)) (at (m.j f)) (at (m.k f)) y
-  rise_side f third y = above-turn (at (m.i f)) (at (m.j f)) (at (m.k f)) y ∙ above-turn (at (m.j f)) (at (m.k f)) (at (m.i f)) y
+  rise_side = grind (arith, above-turn)
 
   -- the facet sees a point
   pub side_seen : (f : ℕ) (s : Side) (y : Weighted) → pos 0 <ℤ rise m at f y → pos 0 <ℤ side_rise f s y
@@ -84,9 +61,7 @@ module _ (m : Surface) (at : ℕ → Weighted) where
   module _ (w : IsWhole m) (f : ℕ) (i : In f m.live) (s : Side) (y : Weighted) where
     -- the neighbour in terms of the side's own ends
     pub rise_over : rise m at (m.over f s) y ≡ above (at (end m f s)) (at (start m f s)) (at (far m f s)) y
-    rise_over =
-        let t = w f i s in
-        rise_side (m.over f s) (m.back f s) y ∙ λ k. above (at (t.start_is k)) (at (t.end_is k)) (at (far m f s)) y
+    rise_over = grind (arith, rise_side)
 
     -- the reversed neighbour
     pub over_flip : rise m at (m.over f s) y ≡ neg_ℤ (far_rise f s y)
@@ -140,9 +115,7 @@ far_apart m at c w h f i s k = apart (corner_cases m f s (far m f s) k)
 
 -- the corners of a facet lie on it
 pub rise_own : (m : Surface) (at : ℕ → Weighted) (f l : ℕ) → IsCorner m f l → rise m at f (at l) ≡ pos 0
-rise_own m at f =
-    let a = at (m.i f) in let b = at (m.j f) in let c = at (m.k f) in
-    of_corners m f (λ l. rise m at f (at l) ≡ pos 0) (above-first a b c) (above-second a b c) (above-third a b c)
+rise_own = grind (arith, of_corners, above-first, above-second, above-third)
 
 -- the value of the plane is the height of a point above it
 pub plane-is : (a b c y : Weighted) → weighted_dot (plane_of a b c) y ≡ above a b c y
@@ -185,9 +158,7 @@ middle m at f = sum4 (at (m.i f)) (at (m.j f)) (at (m.k f))
 
 -- a facet's middle lies on it
 pub middle_on : (m : Surface) (at : ℕ → Weighted) (f : ℕ) → rise m at f (middle m at f) ≡ pos 0
-middle_on m at f =
-    let a = at (m.i f) in let b = at (m.j f) in let c = at (m.k f) in
-    sum_level a b c a b c (above-first a b c) (above-second a b c) (above-third a b c)
+middle_on = grind (arith, sum_level, above-first, above-second, above-third)
 
 -- ---- the case that all is strict
 module _ (m : Surface) (at : ℕ → Weighted) (h : IsStrict m at) (f g : ℕ) (i : In f m.live) (j : In g m.live) where

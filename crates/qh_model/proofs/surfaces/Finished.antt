@@ -45,13 +45,7 @@ module _ (at : ℕ → Vector) (ids : List ℕ) (m : Surface) (z : IsFinished at
 
   -- the corners of a facet are members, and no member is above it
   facet_supports : (f : ℕ) → In f m.live → IsSupportingTriple at (Members ids) (m.i f) (m.j f) (m.k f)
-  facet_supports f i = record {
-    has_i = z.corners f i (m.i f) (inl refl);
-    has_j = z.corners f i (m.j f) (inr (inl refl));
-    has_k = z.corners f i (m.k f) (inr (inr refl));
-    area = facet_area f i;
-    supports = z.unseen f i;
-  }
+  facet_supports = grind (arith, facet_area)
 
   -- ---- planes that support the set
   -- not all members are in one plane

@@ -1,12 +1,11 @@
 -- The horizon: at the end of a side exactly one side begins, and at its start exactly one ends.
-use Rattle.qh_model.proofs.Common.{IsHorizonSide, IsSound, perturbed, towards, Side, Surface, IsWhole, end, rise, first, second, third, Weighted, above, In}
-use Rattle.qh_model.proofs.Common.{◌≡◌, ◌≢◌, ℕ, zero, suc, ◌+◌, refl, arith, sym, ◌∙◌, subst, inl, inr, List, [], ◌∷◌, by_lt_z, ℕ_discrete, dite, flat_map, pos}
-use Rattle.qh_model.proofs.Common.{◌≤ℤ◌, ◌<ℤ◌}
-use Rattle.qh_model.specs.{contract.Surface.start, laws.Horizons.HasHorizonSide}
-use Rattle.qh_model.proofs.{algebra.Signs.less_one_way, algebra.Signs.opposite_positive, surfaces.PerturbedInwards.Choice, surfaces.PerturbedInwards.choose}
-use Rattle.qh_model.proofs.lists.Joined.{in_flat_map}
+use Rattle.qh_model.proofs.Common.{In, IsHorizonSide, IsSound, IsWhole, List, Side, Surface, Weighted, [], above, arith, by_lt_z, dite, end, first, flat_map}
+use Rattle.qh_model.proofs.Common.{inl, inr, perturbed, pos, refl, rise, second, subst, suc, sym, third, towards, zero, ℕ, ℕ_discrete, ◌+◌, ◌<ℤ◌, ◌∙◌, ◌∷◌, ◌≡◌}
+use Rattle.qh_model.proofs.{Common.◌≢◌, Common.◌≤ℤ◌, algebra.Signs.less_one_way, algebra.Signs.opposite_positive, lists.Joined.in_flat_map}
 use Rattle.qh_model.proofs.{lists.Searches.comes_back, surfaces.Determinants.swap14, surfaces.Facets.corner_start, surfaces.Facets.ends_differ}
-use Rattle.qh_model.proofs.surfaces.PerturbedHorizon.{Scene, HorizonSide, Joined, horizon_below, horizon_once, horizon_next}
+use Rattle.qh_model.proofs.surfaces.PerturbedHorizon.{HorizonSide, Joined, Scene, horizon_below, horizon_next, horizon_once}
+use Rattle.qh_model.proofs.surfaces.PerturbedInwards.{Choice, choose}
+use Rattle.qh_model.specs.{contract.Surface.start, laws.Horizons.HasHorizonSide}
 
 -- ---- at the start of a horizon side another ends
 -- a horizon side that ends at u

@@ -1,15 +1,14 @@
 -- The invariant of a surface if a cone replaces the facets that see an id, and the points that see none of the new surface.
 use Rattle.qh_model.proofs.Common.{HasDistinctFacets, IsInner, IsSound, IsStrict, perturbed, IsCorner, Side, Surface, HasTwin, IsWhole, end, rise, rest, first}
-use Rattle.qh_model.proofs.Common.{second, third, Weighted, In, ◌≡◌, ◌≢◌, ℕ, refl, arith, ap, sym, ◌∙◌, subst, ◌⊎◌, inl, inr, ⊎_elim, ints, pos, neg_ℤ, ◌≤ℤ◌}
+use Rattle.qh_model.proofs.Common.{second, third, Weighted, In, ◌≡◌, ◌≢◌, ℕ, refl, arith, ap, sym, ◌∙◌, subst, ◌⊎◌, inl, inr, ints, pos, neg_ℤ, ◌≤ℤ◌}
 use Rattle.qh_model.specs.contract.Surface.{start}
 use Rattle.qh_model.proofs.{algebra.Signs.not_less, surfaces.ConePlanes.Old, surfaces.Determinants.above-swap_last}
 use Rattle.qh_model.proofs.surfaces.Cone.{KeptOf, ConeOf, Replaced, p_fresh, kept_corner, corner_kept, inner_kept, lifted_kept}
-use Rattle.qh_model.proofs.surfaces.Facets.{side_rise, side_below, corner_start, corner_end, corner_rest, corner_cases, corner_test, ends_differ}
+use Rattle.qh_model.proofs.surfaces.Facets.{side_rise, side_below, corner_start, corner_end, corner_rest, corner_test, ends_differ}
 
 -- all corners of a facet, from those of a side
 from_side : (m : Surface) (f : ℕ) (s : Side) (P : ℕ → Type 0) → P (start m f s) → P (end m f s) → P (rest m f s) → (l : ℕ) → IsCorner m f l → P l
-from_side m f s P a b c l k =
-    ⊎_elim (λ e. subst P (sym e) a) (λ j. ⊎_elim (λ e. subst P (sym e) b) (λ e. subst P (sym e) c) j) (corner_cases m f s l k)
+from_side = grind arith
 
 -- two facets with the same directed side are equal
 pub edge_once : (m : Surface) (home : ℕ → Weighted) (o : Weighted) → IsSound m home o
@@ -56,12 +55,7 @@ side_once m home o q f i = once
 
 -- three different numbers are not all among two
 two_places : (x y z u v : ℕ) → x ≢ y → y ≢ z → z ≢ x → (x ≡ u) ⊎ (x ≡ v) → (y ≡ u) ⊎ (y ≡ v) → (z ≡ u) ⊎ (z ≡ v) → ⊥
-two_places x y z u v a b c (inl p) (inl q) r = a (p ∙ sym q)
-two_places x y z u v a b c (inr p) (inr q) r = a (p ∙ sym q)
-two_places x y z u v a b c (inl p) (inr q) (inl r) = c (r ∙ sym p)
-two_places x y z u v a b c (inl p) (inr q) (inr r) = b (q ∙ sym r)
-two_places x y z u v a b c (inr p) (inl q) (inl r) = b (q ∙ sym r)
-two_places x y z u v a b c (inr p) (inl q) (inr r) = c (r ∙ sym p)
+two_places = grind arith
 
 module _ {m m' : Surface} {home : ℕ → Weighted} {o : Weighted} {p : ℕ} (w : IsWhole m) (q : IsSound m home o)
     (r : Replaced m m' home p) where

@@ -1,13 +1,12 @@
 -- A surface with other names of its corners: if different corners have different names, with the same points, it is sound if it was sound before, and finished
 -- if it was finished before. So a surface over positions in a list of points is a surface over their ids.
-use Rattle.qh_model.proofs.Common.{◌≡◌, ℕ, zero, suc, ◌+◌, ◌/◌, ◌%◌, ◌<◌, refl, sym, ap, subst, ◌∙◌, inl, inr, List, [], ◌∷◌, length, map, true, false, cond}
-use Rattle.qh_model.proofs.Common.{slice_index, both_ways, get_or-map, range_with_len, pos, ◌<ℤ◌, ◌≤ℤ◌, weighted_at, middle_at, IsFinished, one_of, by_side}
-use Rattle.qh_model.proofs.Common.{IsStrict, HasDistinctFacets, IsSound, towards, perturbed, StoredFacet, named_facet, facet_at, live_from, surface_of, Side}
-use Rattle.qh_model.proofs.Common.{Surface, end, IsCorner, HasTwin, IsWhole, rise, first, second, third, Weighted, weighted, middle_of, above, place, vol, In}
-use Rattle.qh_model.proofs.Common.{Once, vertex_number, Vector, origin}
+use Rattle.qh_model.proofs.Common.{HasDistinctFacets, In, IsCorner, IsFinished, IsSound, IsStrict, IsWhole, List, Once, Side, StoredFacet, Surface}
+use Rattle.qh_model.proofs.Common.{Vector, Weighted, [], ap, arith, both_ways, cond, end, facet_at, false, get_or-map, inl, inr, length}
+use Rattle.qh_model.proofs.Common.{live_from, map, middle_at, middle_of, named_facet, origin, perturbed, place, pos, range_with_len, refl, rise}
+use Rattle.qh_model.proofs.Common.{slice_index, subst, suc, surface_of, sym, towards, true, vertex_number, vol, weighted, weighted_at, zero, ℕ, ◌+◌}
+use Rattle.qh_model.proofs.{Common.◌<ℤ◌, Common.◌<◌, Common.◌∙◌, Common.◌∷◌, Common.◌≡◌, Common.◌≤ℤ◌, lists.Images.in_map, lists.Images.of_map}
+use Rattle.qh_model.proofs.{lists.Ranges.range_below, lists.Ranges.range_named, renamed.Positions.number_at, surfaces.Stored.live_is_marked}
 use Rattle.qh_model.specs.contract.Surface.{start}
-use Rattle.qh_model.proofs.{lists.Images.in_map, lists.Images.of_map, lists.Ranges.range_below, lists.Ranges.range_named, surfaces.Stored.live_is_marked}
-use Rattle.qh_model.proofs.renamed.Positions.{number_at}
 
 -- m' is m with renamed corners
 pub record IsNamed (m m' : Surface) (name : ℕ → ℕ) : Type 0 where
@@ -31,52 +30,23 @@ module _ {m m' : Surface} {name : ℕ → ℕ} (r : IsNamed m m' name) where
 
   -- the start of a side
   pub start_named : (f : ℕ) → In f m.live → (s : Side) → start m' f s ≡ name (start m f s)
-  start_named f i first = r.i_is f i
-  start_named f i second = r.j_is f i
-  start_named f i third = r.k_is f i
+  start_named = grind arith
 
   -- the end of a side
   pub end_named : (f : ℕ) → In f m.live → (s : Side) → end m' f s ≡ name (end m f s)
-  end_named f i first = r.j_is f i
-  end_named f i second = r.k_is f i
-  end_named f i third = r.i_is f i
+  end_named = grind arith
 
   -- the name of a corner
   corner_named : (f : ℕ) → In f m.live → (l : ℕ) → IsCorner m f l → IsCorner m' f (name l)
-  corner_named f i l (inl e) = inl (ap name e ∙ sym (r.i_is f i))
-  corner_named f i l (inr (inl e)) = inr (inl (ap name e ∙ sym (r.j_is f i)))
-  corner_named f i l (inr (inr e)) = inr (inr (ap name e ∙ sym (r.k_is f i)))
+  corner_named = grind arith
 
   -- a corner of m' is the name of one of m
   of_corner_named : (f : ℕ) → In f m.live → (l : ℕ) → IsCorner m' f l → (c : ℕ) × IsCorner m f c × (l ≡ name c)
-  of_corner_named f i l (inl e) = (m.i f, inl refl, e ∙ r.i_is f i)
-  of_corner_named f i l (inr (inl e)) = (m.j f, inr (inl refl), e ∙ r.j_is f i)
-  of_corner_named f i l (inr (inr e)) = (m.k f, inr (inr refl), e ∙ r.k_is f i)
+  of_corner_named = grind arith
 
   -- a whole surface stays whole
   pub whole_named : IsWhole m → IsWhole m'
-  whole_named w f i' s = record {
-    live = subst (λ g. In g m'.live) (sym over) (subst (In (m.over f s)) (sym r.live) t.live);
-    start_is =
-        (λ k. start m' (over k) (back k)) ∙ start_named (m.over f s) t.live (m.back f s)
-        ∙ ap name t.start_is ∙ sym (end_named f i s);
-    end_is =
-        (λ k. end m' (over k) (back k)) ∙ end_named (m.over f s) t.live (m.back f s)
-        ∙ ap name t.end_is ∙ sym (start_named f i s);
-    returns = (λ k. m'.over (over k) (back k)) ∙ r.over_is (m.over f s) (m.back f s) t.live ∙ t.returns;
-  }
-    where
-      i : In f m.live
-      i = live_named f i'
-
-      t : HasTwin m f s
-      t = w f i s
-
-      over : m'.over f s ≡ m.over f s
-      over = r.over_is f s i
-
-      back : m'.back f s ≡ m.back f s
-      back = r.back_is f s i
+  whole_named = grind arith
 
 -- ---- soundness
 -- the names have the corners' points
@@ -90,12 +60,7 @@ LeadsBack m name position = (f : ℕ) → In f m.live → (l : ℕ) → IsCorner
 module _ {m m' : Surface} {name : ℕ → ℕ} (r : IsNamed m m' name) where
   -- the height of a point above a facet stays the same
   rise_named : (home home' : ℕ → Weighted) → ArePlaced m home home' name → (f : ℕ) → In f m.live → (y : Weighted) → rise m home f y ≡ rise m' home' f y
-  rise_named home home' p f i y =
-      let a = at _ _ (r.i_is f i) (inl refl) in let b = at _ _ (r.j_is f i) (inr (inl refl)) in let c = at _ _ (r.k_is f i) (inr (inr refl)) in
-      λ k. above (a k) (b k) (c k) y
-    where
-      at : (l n : ℕ) → n ≡ name l → IsCorner m f l → home l ≡ home' n
-      at l n e c = sym (ap home' e ∙ p f i l c)
+  rise_named = grind arith
 
   -- a strict surface stays strict
   strict_named : (home home' : ℕ → Weighted) → ArePlaced m home home' name → IsStrict m home → IsStrict m' home'
@@ -216,17 +181,7 @@ module _ (name : ℕ → ℕ) where
 
   -- the corners of a stored surface are named place by place
   pub stored_named : (fs : List StoredFacet) → IsNamed (surface_of fs) (surface_of (map (named_facet name) fs)) name
-  stored_named fs = record {
-    live = stored_live 0 fs;
-    i_is = λ f i. ap (λ (x : StoredFacet). x.i) (at f i);
-    j_is = λ f i. ap (λ (x : StoredFacet). x.j) (at f i);
-    k_is = λ f i. ap (λ (x : StoredFacet). x.k) (at f i);
-    over_is = λ f s i. stored_part (λ x. by_side (x.ij / 3) (x.jk / 3) (x.ki / 3) s) fs f (λ x. refl);
-    back_is = λ f s i. stored_part (λ x. one_of first second third third (by_side (x.ij % 3) (x.jk % 3) (x.ki % 3) s)) fs f (λ x. refl);
-  }
-    where
-      at : (f : ℕ) → In f (surface_of fs).live → facet_at (map (named_facet name) fs) f ≡ named_facet name (facet_at fs f)
-      at f i = stored_facet fs f ((live_is_marked fs f).0 i)
+  stored_named = grind (arith, stored_live, stored_part, stored_facet, live_is_marked)
 
 -- ---- positions in a list of ids
 -- a surface finished over the positions of ids is finished over the ids

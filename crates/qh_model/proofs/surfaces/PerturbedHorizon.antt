@@ -1,15 +1,14 @@
 -- The horizon of perturbed corners: at the end of a side exactly one begins.
-use Rattle.qh_model.proofs.Common.{IsSound, IsStrict, IsCorner, Side, Surface, HasTwin, IsWhole, end, rise, rest, Weighted, above, In, far, ◌≡◌, ◌≢◌, ℕ, refl}
-use Rattle.qh_model.proofs.Common.{[], ◌∷◌, ap, sym, ◌∙◌, subst, ◌⊎◌, inl, inr, Bool, true, and_parts, ℕ_discrete, dite, ℤ, pos, ◌-ℤ◌, ◌*ℤ◌, neg_ℤ, ◌<ℤ◌, ◌&&◌}
+use Rattle.qh_model.proofs.Common.{Bool, HasTwin, In, IsCorner, IsSound, IsStrict, IsWhole, Side, Surface, Weighted, [], above, and_parts, ap, dite, end, far}
+use Rattle.qh_model.proofs.Common.{inl, inr, neg_ℤ, pos, refl, rest, rise, subst, sym, true, ℕ, ℕ_discrete, ℤ, ◌&&◌, ◌*ℤ◌, ◌-ℤ◌, ◌<ℤ◌, ◌∙◌, ◌∷◌, ◌≡◌, ◌≢◌, ◌⊎◌}
+use Rattle.qh_model.proofs.Decisions.{holds, less_or_not, test, told}
+use Rattle.qh_model.proofs.algebra.{Order.mul-neg_neg, Order.neg-positive, Ring.ring, Ring.Expr.mul, Ring.Expr.neg, Ring.Expr.sub as less, Ring.Expr.var}
+use Rattle.qh_model.proofs.algebra.Signs.{equal_negative, less_one_way, opposite_negative, opposite_positive}
+use Rattle.qh_model.proofs.surfaces.{ConePlanes.Old, ConePlanes.apex_rise, ConePlanes.corner_below_cone, CramersRule.line_product, Determinants.above-turn}
+use Rattle.qh_model.proofs.surfaces.{Determinants.swap24, Determinants.turned_first, FacetSides.end_next, FacetSides.from, FacetSides.from_is}
+use Rattle.qh_model.proofs.surfaces.{FacetSides.side_next, FacetSides.start_next, Facets.corner_end, Facets.corner_rest, Facets.corner_test, Facets.ends_differ}
+use Rattle.qh_model.proofs.surfaces.{Facets.rest_differs, Facets.rise_over, KeptSound.edge_once, KeptSound.side_once, VisibleFacets.Least, VisibleFacets.least}
 use Rattle.qh_model.specs.contract.Surface.{start}
-use Rattle.qh_model.proofs.{Decisions.test, Decisions.told, Decisions.holds, Decisions.less_or_not, surfaces.KeptSound.edge_once, surfaces.KeptSound.side_once}
-use Rattle.qh_model.proofs.algebra.Signs.{less_one_way, equal_negative, opposite_positive, opposite_negative}
-use Rattle.qh_model.proofs.surfaces.{ConePlanes.Old, ConePlanes.apex_rise, ConePlanes.corner_below_cone, CramersRule.line_product}
-use Rattle.qh_model.proofs.surfaces.Determinants.{above-turn, swap24, turned_first}
-use Rattle.qh_model.proofs.surfaces.FacetSides.{side_next, start_next, end_next, from, from_is}
-use Rattle.qh_model.proofs.surfaces.Facets.{rise_over, corner_end, corner_rest, corner_test, ends_differ, rest_differs}
-use Rattle.qh_model.proofs.surfaces.VisibleFacets.{Least, least}
-use Rattle.qh_model.proofs.algebra.{Order.mul-neg_neg, Order.neg-positive, Ring.ring, Ring.Expr.var, Ring.Expr.sub as less, Ring.Expr.mul, Ring.Expr.neg}
 
 -- ---- perturbed corners: top is strictly above or strictly below every facet
 pub record Scene (m : Surface) (home : ℕ → Weighted) (o : Weighted) : Type 0 where

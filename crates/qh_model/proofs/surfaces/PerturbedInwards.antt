@@ -1,9 +1,9 @@
 -- Corners perturbed slightly towards an inner point, each by its own share: level corners are then strictly below.
 use Rattle.qh_model.proofs.Common.{IsInner, perturbed, towards, Surface, rise, Weighted, above, In, ◌≡◌, ℕ, zero, suc, ◌+◌, ◌≤◌, refl, List, [], ◌∷◌, arith}
-use Rattle.qh_model.proofs.Common.{sym, subst, ints, ℤ, pos, negsuc, ◌+ℤ◌, ◌-ℤ◌, ◌*ℤ◌, neg_ℤ, ◌≤ℤ◌, ◌<ℤ◌}
-use Rattle.qh_model.proofs.{Members.each_more, algebra.Order.mul-nonneg, algebra.Order.mul-nonneg_nonpos, algebra.Order.mul-pos, algebra.Order.mul-pos_neg}
+use Rattle.qh_model.proofs.Common.{sym, subst, ints, ℤ, pos, negsuc, ◌+ℤ◌, ◌*ℤ◌, neg_ℤ, ◌≤ℤ◌, ◌<ℤ◌}
+use Rattle.qh_model.proofs.{Members.each_more, algebra.Order.mul-nonneg_nonpos, algebra.Order.mul-pos, algebra.Order.mul-pos_neg}
 use Rattle.qh_model.proofs.surfaces.Determinants.{above_of, quad, QE, aboveE, put4}
-use Rattle.qh_model.proofs.algebra.Ring.{Expr, ring, Expr.var, Expr.con, Expr.add, Expr.sub as less, Expr.mul}
+use Rattle.qh_model.proofs.algebra.Ring.{Expr, ring, Expr.var, Expr.add, Expr.mul}
 
 -- the contribution of the shares
 abbrev pub tilt : (o a b c p : Weighted) (h i j k : ℤ) → ℤ
@@ -32,8 +32,7 @@ size (negsuc n) = suc n
 -- this number is a bound
 pub size_le : (x : ℤ) → (x ≤ℤ pos (size x)) × (neg_ℤ x ≤ℤ pos (size x))
 unfolding size
-size_le (pos n) = (omega (arith, ints), omega (arith, ints))
-size_le (negsuc n) = (omega (arith, ints), omega (arith, ints))
+size_le = grind arith
 
 -- a bound for all members
 abbrev Bounded : {X : Type 0} → (X → ℤ) → List X → Type 0
@@ -51,19 +50,11 @@ bound r (x ∷ xs) =
 
 -- a large enough share
 pub share : (b x : ℤ) (k : ℕ) → b <ℤ pos k → x <ℤ pos 0 → (b +ℤ pos k *ℤ x) <ℤ pos 0
-share b x k h q =
-    let l = mul-nonneg_nonpos (pos k) (x +ℤ pos 1) (omega (arith, ints)) (omega (arith, ints, q)) in omega (arith, ints, spread, h, l)
-  where
-    spread : pos k *ℤ (x +ℤ pos 1) ≡ pos k *ℤ x +ℤ pos k
-    spread = ring (pos k ∷ x ∷ []) (mul (var 0) (add (var 1) (con (pos 1)))) (add (mul (var 0) (var 1)) (var 0)) refl
+share = grind arith
 
 -- a large enough scale
 pub scale : (e x : ℤ) (m n : ℕ) → neg_ℤ e <ℤ pos m → suc m ≤ n → pos 0 <ℤ x → pos 0 <ℤ (pos n *ℤ x +ℤ e)
-scale e x m n h k q =
-    let l = mul-nonneg (pos n) (x -ℤ pos 1) (omega (arith, ints)) (omega (arith, ints, q)) in omega (arith, ints, spread, h, k, l)
-  where
-    spread : pos n *ℤ (x -ℤ pos 1) ≡ pos n *ℤ x -ℤ pos n
-    spread = ring (pos n ∷ x ∷ []) (mul (var 0) (less (var 1) (con (pos 1)))) (less (mul (var 0) (var 1)) (var 0)) refl
+scale = grind arith
 
 -- a multiple of a number not above 0 plus a negative number is below 0
 scale_down : (e x : ℤ) (n : ℕ) → e <ℤ pos 0 → x ≤ℤ pos 0 → (pos n *ℤ x +ℤ e) <ℤ pos 0

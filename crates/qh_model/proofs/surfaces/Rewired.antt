@@ -1,31 +1,21 @@
 -- The twins of the cone, determined by the ends of the horizon's sides, make a whole surface again.
 use Rattle.qh_model.proofs.Common.{IsHorizonSide, IsRewired, IsSound, Side, Surface, HasTwin, IsWhole, end, rise, first, second, third, Weighted, In, ◌≡◌, ℕ}
-use Rattle.qh_model.proofs.Common.{ap, sym, ◌∙◌, subst, ◌⊎◌, inl, inr, by_lt_z, pos, ◌≤ℤ◌, ◌<ℤ◌}
+use Rattle.qh_model.proofs.Common.{ap, sym, ◌∙◌, subst, ◌⊎◌, inl, inr, by_lt_z, pos, ◌≤ℤ◌, ◌<ℤ◌, arith}
 use Rattle.qh_model.specs.contract.{Rewired.LinksTo, Rewired.KeepsCorners, Surface.start}
 use Rattle.qh_model.proofs.surfaces.{Cone.KeptOf, Cone.ConeOf, Cone.Replaced, Horizon.edge_next, Horizon.edge_prev, KeptSound.side_once, KeptSound.sound_kept}
 
 -- the sides of a kept facet start as before
 same_start : (m m' : Surface) (f : ℕ) → KeepsCorners m m' f → (s : Side) → start m' f s ≡ start m f s
-same_start m m' f c first = c.i_is
-same_start m m' f c second = c.j_is
-same_start m m' f c third = c.k_is
+same_start = grind arith
 
 -- the sides of a kept facet end as before
 same_end : (m m' : Surface) (f : ℕ) → KeepsCorners m m' f → (s : Side) → end m' f s ≡ end m f s
-same_end m m' f c first = c.j_is
-same_end m m' f c second = c.k_is
-same_end m m' f c third = c.i_is
+same_end = grind arith
 
 -- the twin of a side, from the side that it links to
 linked : (m' : Surface) (f : ℕ) (s : Side) (g : ℕ) (t : Side) → LinksTo m' f s g t → In g m'.live
     → start m' g t ≡ end m' f s → end m' g t ≡ start m' f s → m'.over g t ≡ f → HasTwin m' f s
-linked m' f s g t l i a b c =
-    record {
-      live = subst (λ x. In x m'.live) (sym l.over_is) i;
-      start_is = ap (λ x. start m' x (m'.back f s)) l.over_is ∙ ap (start m' g) l.back_is ∙ a;
-      end_is = ap (λ x. end m' x (m'.back f s)) l.over_is ∙ ap (end m' g) l.back_is ∙ b;
-      returns = ap (λ x. m'.over x (m'.back f s)) l.over_is ∙ ap (m'.over g) l.back_is ∙ c;
-    }
+linked = grind arith
 
 -- each new side has its twin
 pub whole_kept : (m m' : Surface) (home : ℕ → Weighted) (o : Weighted) (p : ℕ) → IsWhole m → IsSound m home o → IsRewired m m' home p → IsWhole m'

@@ -1,36 +1,15 @@
 -- The surface of a simplex.
-use Rattle.qh_model.proofs.Common.{one_of, IsInner, Side, Surface, IsWhole, HasTwin, IsCorner, end, rise, first, second, third, Weighted, above, middle_of}
+use Rattle.qh_model.proofs.Common.{one_of, IsInner, Surface, IsWhole, IsCorner, rise, Weighted, above, middle_of}
 use Rattle.qh_model.proofs.Common.{weighted_dot, plane_of, In, IsSimplexBoundary, simplex_surface, ◌∙◌, ◌≡◌, ℕ, refl, sym, subst, arith, ap, [], ◌∷◌, ◌⊎◌, inl}
 use Rattle.qh_model.proofs.Common.{inr, ⊎_elim, ints, by_lt_z, ℤ, pos, ◌+ℤ◌, ◌<ℤ◌, ◌≤ℤ◌}
-use Rattle.qh_model.specs.{contract.Surface.start, laws.SurfaceLaws.SimplexIsSound, laws.SurfaceLaws.MiddleIsBelow}
+use Rattle.qh_model.specs.{laws.SurfaceLaws.SimplexIsSound, laws.SurfaceLaws.MiddleIsBelow}
 use Rattle.qh_model.proofs.{algebra.Order.cancel-zero_neg, algebra.Order.product_zero, algebra.Ring.ring, surfaces.Facets.rise_own, surfaces.Facets.plane-is}
 use Rattle.qh_model.proofs.{algebra.Signs.less_differ, surfaces.CramersRule.cramer_level, surfaces.SimplexBoundary.simplex_boundary_sound}
 use Rattle.qh_model.proofs.surfaces.Determinants.{above_of, put4, above-together, above-first, above-second, above-third, above-turn_last}
 
 -- a fact about 0, 1, 2 and 3 holds for each number below 4
 pub four : (P : ℕ → Type 0) → P 0 → P 1 → P 2 → P 3 → (f : ℕ) → In f (0 ∷ 1 ∷ 2 ∷ 3 ∷ []) → P f
-four P p q r s f (inl e) = subst P (sym e) p
-four P p q r s f (inr (inl e)) = subst P (sym e) q
-four P p q r s f (inr (inr (inl e))) = subst P (sym e) r
-four P p q r s f (inr (inr (inr (inl e)))) = subst P (sym e) s
-four P p q r s f (inr (inr (inr (inr x)))) = absurd x
-
--- a fact about the three sides holds for each side
-sides : (P : Side → Type 0) → P first → P second → P third → (s : Side) → P s
-sides P p q r first = p
-sides P p q r second = q
-sides P p q r third = r
-
--- a proof by three cases
-three_cases : {A B C X : Type 0} → (A → X) → (B → X) → (C → X) → A ⊎ B ⊎ C → X
-three_cases p q r (inl a) = p a
-three_cases p q r (inr (inl b)) = q b
-three_cases p q r (inr (inr c)) = r c
-
--- a proof by four cases
-four_cases : {A B C D X : Type 0} → (A → X) → (B → X) → (C → X) → (D → X) → A ⊎ B ⊎ C ⊎ D → X
-four_cases p q r s (inl a) = p a
-four_cases p q r s (inr z) = three_cases q r s z
+four = grind arith
 
 -- ---- orders
 -- the facets' orders are even permutations; `above-turn_last` says it for a c d b and a d b c
@@ -49,21 +28,9 @@ module _ (a b c d : ℕ) where
   abbrev S : Surface
   S = simplex_surface a b c d
 
-  -- a side with its twin
-  twin : (f : ℕ) (s : Side) → In (S.over f s) S.live → start S (S.over f s) (S.back f s) ≡ end S f s → end S (S.over f s) (S.back f s) ≡ start S f s
-      → S.over (S.over f s) (S.back f s) ≡ f → HasTwin S f s
-  twin f s i p q r = record { live = i; start_is = p; end_is = q; returns = r }
-
   -- all sides have twins
   whole : IsWhole S
-  whole =
-      let in0 : In 0 S.live = inl refl in let in1 : In 1 S.live = inr (inl refl) in
-      let in2 : In 2 S.live = inr (inr (inl refl)) in let in3 : In 3 S.live = inr (inr (inr (inl refl))) in
-      four (λ f. (s : Side) → HasTwin S f s)
-      (sides (HasTwin S 0) (twin 0 first in1 refl refl refl) (twin 0 second in3 refl refl refl) (twin 0 third in2 refl refl refl))
-      (sides (HasTwin S 1) (twin 1 first in2 refl refl refl) (twin 1 second in3 refl refl refl) (twin 1 third in0 refl refl refl))
-      (sides (HasTwin S 2) (twin 2 first in0 refl refl refl) (twin 2 second in3 refl refl refl) (twin 2 third in1 refl refl refl))
-      (sides (HasTwin S 3) (twin 3 first in1 refl refl refl) (twin 3 second in2 refl refl refl) (twin 3 third in0 refl refl refl))
+  whole = grind arith
 
   -- the id that a facet lacks
   abbrev missing : ℕ → ℕ
@@ -75,18 +42,11 @@ module _ (a b c d : ℕ) where
 
   -- each corner is one of the four
   ids : (f : ℕ) → In f S.live → (l : ℕ) → IsCorner S f l → Ids l
-  ids =
-      four (λ f. (l : ℕ) → IsCorner S f l → Ids l) (λ l. three_cases inl (λ e. inr (inl e)) (λ e. inr (inr (inl e))))
-      (λ l. three_cases inl (λ e. inr (inr (inr e))) (λ e. inr (inl e))) (λ l. three_cases inl (λ e. inr (inr (inl e))) (λ e. inr (inr (inr e))))
-      (λ l. three_cases (λ e. inr (inl e)) (λ e. inr (inr (inr e))) (λ e. inr (inr (inl e))))
+  ids = grind arith
 
   -- each id is a corner of a facet or the id that it lacks
   place : (f : ℕ) → In f S.live → (l : ℕ) → Ids l → IsCorner S f l ⊎ (l ≡ missing f)
-  place =
-      four (λ f. (l : ℕ) → Ids l → IsCorner S f l ⊎ (l ≡ missing f)) (λ l. four_cases (λ e. inl (inl e)) (λ e. inl (inr (inl e))) (λ e. inl (inr (inr e))) inr)
-      (λ l. four_cases (λ e. inl (inl e)) (λ e. inl (inr (inr e))) inr (λ e. inl (inr (inl e))))
-      (λ l. four_cases (λ e. inl (inl e)) inr (λ e. inl (inr (inl e))) (λ e. inl (inr (inr e))))
-      (λ l. four_cases inr (λ e. inl (inl e)) (λ e. inl (inr (inr e))) (λ e. inl (inr (inl e))))
+  place = grind arith
 
   -- a facet has the id that another facet lacks
   abbrev HasOther : ℕ → ℕ → Type 0
@@ -94,26 +54,12 @@ module _ (a b c d : ℕ) where
 
   -- the same for all facets
   other : (f : ℕ) → In f S.live → (g : ℕ) → In g S.live → HasOther f g
-  other =
-      four (λ f. (g : ℕ) → In g S.live → HasOther f g) (four (HasOther 0) (inl refl) (inr (inr (inr refl))) (inr (inr (inl refl))) (inr (inl refl)))
-      (four (HasOther 1) (inr (inr (inl refl))) (inl refl) (inr (inr (inr refl))) (inr (inl refl)))
-      (four (HasOther 2) (inr (inr (inr refl))) (inr (inr (inl refl))) (inl refl) (inr (inl refl)))
-      (four (HasOther 3) (inr (inr (inl refl))) (inr (inr (inr refl))) (inr (inl refl)) (inl refl))
+  other = grind arith
 
 module _ (home : ℕ → Weighted) (a b c d : ℕ) (h : above (home a) (home b) (home c) (home d) <ℤ pos 0) where
   -- the middle is strictly below each facet
   inside : IsInner (simplex_surface a b c d) home (middle_of (home a) (home b) (home c) (home d))
-  inside =
-      let A = home a in let B = home b in let C = home c in let D = home d in
-      four (λ f. rise (simplex_surface a b c d) home f (middle_of A B C D) <ℤ pos 0)
-      (let s = above-together A B C A B C D in let p = above-first A B C in let q = above-second A B C in let r = above-third A B C in
-      omega (arith, ints, s, p, q, r, h))
-      (let s = above-together A D B A B C D in let p = above-first A D B in let q = above-second A D B in let r = above-third A D B in
-      let e = order_adb A B C D in omega (arith, ints, s, p, q, r, e, h))
-      (let s = above-together A C D A B C D in let p = above-first A C D in let q = above-second A C D in let r = above-third A C D in
-      let e = above-turn_last A B C D in omega (arith, ints, s, p, q, r, e, h))
-      (let s = above-together B D C A B C D in let p = above-first B D C in let q = above-second B D C in let r = above-third B D C in
-      let e = order_bdc A B C D in omega (arith, ints, s, p, q, r, e, h))
+  inside = grind (arith, four, above-together, above-first, above-second, above-third, order_adb, above-turn_last, order_bdc)
 
   -- the four facets are the boundary of a simplex
   boundary : IsSimplexBoundary (simplex_surface a b c d) home

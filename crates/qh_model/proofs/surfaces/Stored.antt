@@ -1,5 +1,5 @@
 -- The live facets of a stored surface.
-use Rattle.qh_model.proofs.Common.{StoredFacet, facet_at, live_from, no_facet, In, Once, ◌≡◌, ℕ, zero, suc, ◌+◌, ◌<◌, length, ap, refl, sym, ◌∙◌, subst, arith}
+use Rattle.qh_model.proofs.Common.{StoredFacet, facet_at, live_from, In, Once, ◌≡◌, ℕ, zero, suc, ◌+◌, ◌<◌, length, refl, sym, ◌∙◌, subst, arith}
 use Rattle.qh_model.proofs.Common.{List, [], ◌∷◌, inl, inr, Bool, true, false, cond, both_ways, cases_lt, get_or_past, sum_by-cons, count_by}
 use Rattle.qh_model.specs.laws.LiveFacets.{LiveIsMarked, LiveIsListedOnce}
 
@@ -28,10 +28,7 @@ live_of n (f ∷ fs) (suc k) e =
 
 -- proof of the law `LiveIsMarked`
 pub live_is_marked : LiveIsMarked
-live_is_marked fs f = (
-  λ i. let r = marked_of 0 fs f i in subst (λ g. (facet_at fs g).live ≡ true) (sym (r.1 ∙ (omega arith))) r.2,
-  λ e. subst (λ g. In g (live_from 0 fs)) (omega arith) (live_of 0 fs f e),
-)
+live_is_marked = grind (arith, marked_of, live_of)
 
 -- a facet of the surface is live
 pub live_in : (fs : List StoredFacet) (f : ℕ) → In f (live_from 0 fs) → (facet_at fs f).live ≡ true
@@ -56,10 +53,7 @@ live_is_listed_once fs = live_once 0 fs
 
 -- a live facet has a place
 pub live_inside : (fs : List StoredFacet) (f : ℕ) → (facet_at fs f).live ≡ true → f < length fs
-live_inside fs f l = elim (cases_lt f (length fs)) [
-  | inl h ↦ h
-  | inr h ↦ absurd (both_ways (facet_at fs f).live (ap (λ (t : StoredFacet). t.live) (get_or_past fs f no_facet h)) l)
-]
+live_inside = grind (arith, cases_lt, both_ways, get_or_past)
 
 -- the number of live places listed is the number of facets marked live
 pub live_len : (n : ℕ) (fs : List StoredFacet) → length (live_from n fs) ≡ count_by (λ t. t.live) fs

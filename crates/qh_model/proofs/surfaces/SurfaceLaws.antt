@@ -1,11 +1,10 @@
 -- The laws of surfaces, from their proofs.
-use Rattle.qh_model.proofs.Common.{rise, above, cross, vol, ℕ, refl, [], inl, inr, pos}
-use Rattle.qh_model.specs.laws.SurfaceLaws.{CornersAreSettled, AddedIsSettled, RiseIsVol, WalkFindsAll, SettledStayUnseen, HorizonGoesOn, HorizonIsKnown}
-use Rattle.qh_model.proofs.{Decisions.told, Decisions.holds, Decisions.less_or_not, surfaces.Unseen.settled_kept, surfaces.Unseen.apex_settled}
-use Rattle.qh_model.proofs.{algebra.Ring.ring, surfaces.Connected.connected, surfaces.Connected.cert, surfaces.Determinants.QE, surfaces.Determinants.aboveE}
-use Rattle.qh_model.proofs.{algebra.Ring.Expr.con, surfaces.Rewired.replaced}
-use Rattle.qh_model.proofs.algebra.VectorIdentities.{vec, volE, put, VE}
-use Rattle.qh_model.proofs.surfaces.Horizon.{edge_next, edge_prev, edge_known_by_start, edge_known_by_end}
+use Rattle.qh_model.proofs.Common.{[], above, cross, inl, inr, pos, refl, rise, vol, ℕ}
+use Rattle.qh_model.proofs.{Decisions.holds, Decisions.less_or_not, Decisions.told, algebra.Ring.ring, algebra.Ring.Expr.con, algebra.VectorIdentities.VE}
+use Rattle.qh_model.proofs.{algebra.VectorIdentities.put, algebra.VectorIdentities.vec, algebra.VectorIdentities.volE, surfaces.Connected.cert}
+use Rattle.qh_model.proofs.surfaces.{Connected.connected, Determinants.QE, Determinants.aboveE, Horizon.edge_known_by_end, Horizon.edge_known_by_start}
+use Rattle.qh_model.proofs.surfaces.{Horizon.edge_next, Horizon.edge_prev, Rewired.replaced, Unseen.apex_settled, Unseen.settled_kept}
+use Rattle.qh_model.specs.laws.SurfaceLaws.{AddedIsSettled, CornersAreSettled, HorizonGoesOn, HorizonIsKnown, RiseIsVol, SettledStayUnseen, WalkFindsAll}
 
 -- a point with weight 1, as expressions
 abbrev weightedE : VE → QE

@@ -1,11 +1,9 @@
 -- Points that see a removed facet and no facet of the cone see no facet; points that see no facet see no facet of the cone.
-use Rattle.qh_model.proofs.Common.{IsSound, Side, Surface, IsWhole, end, rise, Weighted, In, IsConeUnseen, far, ◌≡◌, ℕ, refl, sym, ◌∙◌, ◌⊎◌, inl, inr, Bool}
-use Rattle.qh_model.proofs.Common.{true, ⊎_elim, and_parts, by_lt_z, pos, ◌≤ℤ◌, ◌<ℤ◌, ◌&&◌}
-use Rattle.qh_model.specs.contract.Surface.{start}
-use Rattle.qh_model.proofs.{Decisions.told, Decisions.holds, Decisions.less_or_not, algebra.Signs.not_less, algebra.Signs.equal_le, algebra.Signs.equal_nonpos}
-use Rattle.qh_model.proofs.surfaces.Cone.{KeptOf, ConeOf, Replaced, cone_rise, kept_rise, cone_inside}
-use Rattle.qh_model.proofs.surfaces.{ConePlanes.apex_blind, ConePlanes.apex_seen, Determinants.above-third, Facets.corner_rest}
-use Rattle.qh_model.proofs.surfaces.Connected.{Grown, sees, connected, cert}
+use Rattle.qh_model.proofs.Common.{Bool, In, IsConeUnseen, IsSound, IsWhole, Side, Surface, Weighted, and_parts, arith, by_lt_z, far, inl, inr, pos, refl, rise}
+use Rattle.qh_model.proofs.{Common.true, Common.ℕ, Common.◌&&◌, Common.◌<ℤ◌, Common.◌≡◌, Common.◌≤ℤ◌, Common.◌⊎◌, Decisions.holds, Decisions.less_or_not}
+use Rattle.qh_model.proofs.{Decisions.told, algebra.Signs.equal_le, algebra.Signs.equal_nonpos, algebra.Signs.not_less, surfaces.Cone.ConeOf}
+use Rattle.qh_model.proofs.surfaces.{Cone.KeptOf, Cone.Replaced, Cone.cone_inside, Cone.cone_rise, Cone.kept_rise, ConePlanes.apex_blind, ConePlanes.apex_seen}
+use Rattle.qh_model.proofs.surfaces.{Connected.Grown, Connected.cert, Connected.connected, Connected.sees, Determinants.above-third, Facets.corner_rest}
 
 -- THEOREM: q sees no kept facet, if it saw a removed one and sees no facet of the cone
 pub dropped_stay_unseen : (m : Surface) (home : ℕ → Weighted) (o : Weighted) → IsWhole m → IsSound m home o
@@ -51,5 +49,4 @@ module _ {m m' : Surface} {home : ℕ → Weighted} {p : ℕ} (r : Replaced m m'
 
   -- the apex is on its cone and sees no kept facet
   pub apex_settled : (f' : ℕ) → In f' m'.live → rise m' home f' (home p) ≤ℤ pos 0
-  apex_settled f' i = ⊎_elim (λ k. equal_nonpos _ _ (kept_rise k home (home p)) k.blind)
-      (λ n. equal_le _ _ (sym (cone_rise n home (home p)) ∙ above-third (home (start m n.f n.s)) (home (end m n.f n.s)) (home p))) (r.origin f' i)
+  apex_settled = grind (arith, equal_nonpos, kept_rise, equal_le, cone_rise, above-third)

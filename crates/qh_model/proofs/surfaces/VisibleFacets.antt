@@ -2,7 +2,7 @@
 use Rattle.qh_model.proofs.Common.{Weighted, above, weighted_dot, In, ◌≡◌, refl, List, [], ◌∷◌, arith, ap, sym, ◌∙◌, Bool, true, false, ◌⊎◌, inl, inr, ⊎_elim}
 use Rattle.qh_model.proofs.Common.{subst, ints, by_lt_z, ℤ, pos, ◌+ℤ◌, ◌-ℤ◌, ◌*ℤ◌, neg_ℤ, ◌≤ℤ◌, ◌<ℤ◌}
 use Rattle.qh_model.proofs.Members.{each_more}
-use Rattle.qh_model.proofs.algebra.Order.{mul-nonneg_nonpos, mul-nonpos, mul-pos, cancel-pos, mul-neg_pos, neg-positive, product_zero, positive_le, negative_le}
+use Rattle.qh_model.proofs.algebra.Order.{mul-nonpos, mul-pos, cancel-pos, mul-neg_pos, neg-positive, product_zero}
 use Rattle.qh_model.proofs.surfaces.{CramersRule.cramer, CramersRule.line_product, Determinants.above-turn, Determinants.above-flip}
 use Rattle.qh_model.proofs.algebra.{Ring.ring, Ring.Expr.var, Ring.Expr.add, Ring.Expr.sub as less, Ring.Expr.mul, Ring.Expr.neg, Signs.not_less}
 
@@ -130,8 +130,7 @@ pub record Earlier {X : Type 0} (at : X → Corners) (live : List X) (W : X → 
 
 -- the neighbour that is met earlier sees p as well
 sees_too : (fp gy fy gp : ℤ) → pos 0 <ℤ (fp *ℤ gy -ℤ fy *ℤ gp) → pos 0 <ℤ fp → fy <ℤ pos 0 → gy ≤ℤ pos 0 → pos 0 <ℤ gp
-sees_too fp gy fy gp h hf hy hg =
-    by_lt_z (pos 0) gp (λ q. q) (λ q. absurd (omega (arith, ints, h, mul-nonneg_nonpos fp gy (positive_le fp hf) hg, mul-nonpos fy gp (negative_le fy hy) q)))
+sees_too = grind arith
 
 module _ {X : Type 0} (at : X → Corners) (live : List X) (W : X → Bool) (n y p : Weighted) (hp : pos 0 <ℤ weighted_dot n p)
     (hy : weighted_dot n y ≡ pos 0) where

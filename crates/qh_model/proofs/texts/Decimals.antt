@@ -1,12 +1,11 @@
 -- Decimals as they are written are numbers: their values and their bytes.
-use Rattle.std.proofs.Common.{◌≡◌, ℕ, zero, suc, ◌+◌, ◌-◌, ◌*◌, ◌/◌, ◌%◌, ◌^◌, ◌<◌, ◌≤◌, ◌==◌, Bool, true, false, cond, refl, List, [], ◌∷◌, length, arith, sym}
-use Rattle.std.proofs.Common.{ap, subst, ◌∙◌, decimal, ne_eqb}
-use Rattle.std.proofs.lemmas.{Bool.le-leb, Bool.lt-ltb, Fmt.decimal_is_IsNumeral_wide, Str.digit_value_digit}
-use Rattle.std.specs.{Char.digit_value, Fmt.digits_onto, Fmt.digits, Fmt.digit_glyph, Fmt.signed_decimal, Int.IsInRange, List.AllByRecursion as Every}
-use Rattle.std.specs.Prelude.{ℤ, pos, negsuc, neg_ℤ, Some, None, option_map, unsigned_abs}
-use Rattle.std.specs.Str.Parse.{digits_value_after}
-use Rattle.qh_model.specs.headline.Numbers.{read_digits, are_digits, magnitude_of, number_of}
 use Rattle.qh_model.proofs.Members.{every_map}
+use Rattle.qh_model.specs.headline.Numbers.{are_digits, magnitude_of, number_of, read_digits}
+use Rattle.std.proofs.Common.{Bool, List, [], ap, arith, cond, decimal, false, length, ne_eqb, refl, subst, suc, sym, true, zero, ℕ, ◌%◌, ◌*◌, ◌+◌, ◌-◌, ◌/◌}
+use Rattle.std.proofs.Common.{◌<◌, ◌==◌, ◌^◌, ◌∙◌, ◌∷◌, ◌≡◌}
+use Rattle.std.proofs.lemmas.{Bool.le-leb, Bool.lt-ltb, Fmt.decimal_is_IsNumeral_wide, Str.digit_value_digit}
+use Rattle.std.specs.{Char.digit_value, Fmt.digit_glyph, Fmt.digits, Fmt.digits_onto, Fmt.signed_decimal, Int.IsInRange, List.AllByRecursion as Every}
+use Rattle.std.specs.{Prelude.Some, Prelude.negsuc, Prelude.pos, Prelude.unsigned_abs, Prelude.ℤ, Str.Parse.digits_value_after}
 
 -- a digit
 abbrev pub IsDigit : ℕ → Type 0
@@ -23,8 +22,7 @@ glyph_digit n = subst (λ (b : Bool). IsDigit (cond b (48 + n % 10) (87 + n % 10
 
 -- digits in both cases
 either_digits : (b : Bool) (cs ds : List ℕ) → AreSomeDigits cs → AreSomeDigits ds → AreSomeDigits (cond b cs ds)
-either_digits true cs ds h k = h
-either_digits false cs ds h k = k
+either_digits = grind arith
 
 -- digits in front of digits
 onto_digits : (k n : ℕ) (acc : List ℕ) → AreSomeDigits acc → AreSomeDigits (digits_onto k 10 false n acc)
@@ -50,8 +48,7 @@ digits_told (c ∷ cs) h = cc (le-leb 48 c h.0.0, le-leb c 57 h.0.1, digits_told
 
 -- digits are a magnitude
 magnitude_of_digits : (cs : List ℕ) → AreSomeDigits cs → magnitude_of cs ≡ Some (read_digits 0 cs)
-magnitude_of_digits [] h = absurd (omega (arith, h.0))
-magnitude_of_digits (c ∷ cs) h = ap (λ (b : Bool). cond b (Some (read_digits 0 (c ∷ cs))) None) (digits_told (c ∷ cs) h.1)
+magnitude_of_digits = grind (arith, digits_told)
 
 -- neither of two tests passes
 neither : {X : Type 0} (p q : Bool) (x y z : X) → p ≡ false → q ≡ false → cond p x (cond q y z) ≡ z
@@ -59,13 +56,7 @@ neither p q x y z e f = ap (λ (b : Bool). cond b x (cond q y z)) e ∙ ap (λ (
 
 -- digits are a number
 pub number_of_digits : (cs : List ℕ) → AreSomeDigits cs → number_of cs ≡ Some (pos (read_digits 0 cs))
-number_of_digits [] h = absurd (omega (arith, h.0))
-number_of_digits (c ∷ cs) h =
-    let low : 48 ≤ c = h.1.0.0 in
-    let plus : (c == 43) ≡ false = ne_eqb c 43 (λ e. omega arith) in
-    let minus : (c == 45) ≡ false = ne_eqb c 45 (λ e. omega arith) in
-    neither (c == 43) (c == 45) (option_map pos (magnitude_of cs)) (option_map (λ n. neg_ℤ (pos n)) (magnitude_of cs)) _ plus minus
-    ∙ ap (option_map pos) (magnitude_of_digits (c ∷ cs) h)
+number_of_digits = grind (arith, ne_eqb, neither, magnitude_of_digits)
 
 -- the value of digits is that of std
 value_of_digits : (n : ℕ) (cs : List ℕ) → Every IsDigit cs → read_digits n cs ≡ digits_value_after 10 n cs
@@ -85,10 +76,7 @@ number_of_decimal n h = number_of_digits (decimal n) (decimal_digits n) ∙ ap (
 
 -- the decimal of a whole number is a number
 pub number_of_signed : (z : ℤ) → unsigned_abs z < 10 ^ 64 → number_of (signed_decimal z) ≡ Some z
-number_of_signed (pos n) h = number_of_decimal n h
-number_of_signed (negsuc n) h =
-    let magnitude = magnitude_of_digits (decimal (suc n)) (decimal_digits (suc n)) ∙ ap (λ m. Some m) (decimal_value (suc n) h) in
-    ap (option_map (λ m. neg_ℤ (pos m))) magnitude
+number_of_signed = grind (arith, number_of_decimal, magnitude_of_digits, decimal, decimal_digits, decimal_value)
 
 -- ---- decimals as words
 -- a byte of a number: from `-` to `9`

@@ -1,6 +1,6 @@
 -- Joined lines and spaced words, split again.
-use Rattle.qh_model.proofs.Common.{◌≡◌, ℕ, suc, ◌+◌, ◌<◌, ◌==◌, Bool, true, false, cond, refl, List, [], ◌∷◌, ◌++◌, length, map, filter, append_assoc, arith}
-use Rattle.qh_model.proofs.Common.{sym, ap, ◌∙◌, ne_eqb, before_hash, line, Word, is_blank, is_word, lines_of, words_of, on_line, words_from}
+use Rattle.qh_model.proofs.Common.{◌≡◌, ℕ, suc, ◌+◌, ◌<◌, ◌==◌, Bool, true, false, cond, refl, List, [], ◌∷◌, ◌++◌, length, map, append_assoc, arith}
+use Rattle.qh_model.proofs.Common.{sym, ap, ◌∙◌, ne_eqb, before_hash, line, Word, is_blank, lines_of, words_of, on_line, words_from}
 use Rattle.std.proofs.lemmas.List.Splits.{slice_split-cons_yes, slice_split-cons_no}
 use Rattle.std.specs.List.{AllByRecursion as Every, slice_split, onto_first, flat_map}
 use Rattle.qh_model.proofs.{Members.every_map, texts.Decimals.IsOfNumber, texts.Decimals.IsNumberWord}
@@ -73,19 +73,15 @@ other_byte : (b c : ℕ) → b < 45 → IsOfNumber c → (c == b) ≡ false
 other_byte b c l h = ne_eqb c b (λ e. omega (arith, h.0))
 
 not_blank : (c : ℕ) → IsOfNumber c → is_blank c ≡ false
-not_blank c h =
-    let blank : (b : ℕ) → b < 45 → (c == b) ≡ false = λ b l. other_byte b c l h in
-    cc (blank 9 (omega arith), blank 11 (omega arith), blank 12 (omega arith), blank 13 (omega arith), blank 32 (omega arith))
+not_blank = grind arith
 
 -- a word before a blank
 first_word : (w l : List ℕ) → IsNumberWord w → words_of (w ++ 32 ∷ l) ≡ w ∷ words_of l
-first_word [] l h = absurd (omega (arith, h.0))
-first_word (c ∷ w) l h = ap (filter is_word) (split_clear is_blank (c ∷ w) 32 l (number_clear is_blank not_blank (c ∷ w) h) refl)
+first_word = grind (arith, split_clear, number_clear, not_blank)
 
 -- a word alone
 last_word : (w : List ℕ) → IsNumberWord w → words_of w ≡ w ∷ []
-last_word [] h = absurd (omega (arith, h.0))
-last_word (c ∷ w) h = ap (filter is_word) (split_whole is_blank (c ∷ w) (number_clear is_blank not_blank (c ∷ w) h))
+last_word = grind (arith, split_whole, number_clear, not_blank)
 
 -- ---- lines of three numbers
 -- three words with a blank between
@@ -95,9 +91,7 @@ three u v w = u ++ 32 ∷ v ++ 32 ∷ w
 -- the bytes of these words are those of numbers, except the blanks
 three_clear : (p : ℕ → Bool) → ((c : ℕ) → IsOfNumber c → p c ≡ false) → p 32 ≡ false
     → (u v w : List ℕ) → IsNumberWord u → IsNumberWord v → IsNumberWord w → Clear p (three u v w)
-three_clear p f blank u v w a b c =
-    let first : Clear p (u ++ 32 ∷ v) = every_append (λ k. p k ≡ false) u (32 ∷ v) (number_clear p f u a) (blank, number_clear p f v b) in
-    every_append (λ k. p k ≡ false) (u ++ 32 ∷ v) (32 ∷ w) first (blank, number_clear p f w c)
+three_clear = grind (arith, every_append, number_clear)
 
 -- the words are in one line
 pub three_in_line : (u v w : List ℕ) → IsNumberWord u → IsNumberWord v → IsNumberWord w → Clear ends_line (three u v w)

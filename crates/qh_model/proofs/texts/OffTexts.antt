@@ -1,5 +1,5 @@
 -- The text of vertices and faces, read as an OFF file.
-use Rattle.qh_model.proofs.Common.{◌≡◌, ℕ, ◌+◌, ◌≤◌, refl, List, [], ◌∷◌, ◌++◌, length, map, append_assoc, arith, ap, ap₂, ◌∙◌, decimal, BYTE_LIMIT}
+use Rattle.qh_model.proofs.Common.{◌≡◌, ℕ, ◌+◌, ◌≤◌, refl, List, [], ◌∷◌, ◌++◌, length, map, append_assoc, arith, ap, ◌∙◌, decimal, BYTE_LIMIT}
 use Rattle.qh_model.proofs.Common.{IsCoordinate, read_digits, number_of, before_hash, off_words, ReadsOff, coordinates, line, spaced, vertex_text, Vector, Word}
 use Rattle.qh_model.proofs.Common.{lines_of, words_of, on_line, words_from, CanBeRead}
 use Rattle.std.specs.{Fmt.signed_decimal, List.AllByRecursion as Every, List.flat_map, Prelude.ℤ, Prelude.pos, Prelude.codes, Prelude.Some}
@@ -69,10 +69,7 @@ other_words ps rest = words_from parts (3 + length (map vertex_line ps)) (lines_
 -- the words of the text
 words_of_surface : (ps : List Vector) (faces edges : ℕ) (rest : List ℕ) → off_words (surface_text ps faces edges rest)
     ≡ record { text = codes "OFF"; line = 1 } ∷ numbered_words ps faces edges ++ other_words ps rest
-words_of_surface ps faces edges rest =
-    ap (words_from parts 1) (lines_of_surface ps faces edges rest)
-    ∙ ap (λ (t : List Word). record { text = codes "OFF"; line = 1 } ∷ t) (ap₂ (λ (a : List (List ℕ)) (b : List Word). on_line 2 a ++ b)
-    (counts_words (length ps) faces edges) (words_from-append parts 3 (map vertex_line ps) (lines_of rest)))
+words_of_surface = grind (arith, lines_of_surface, counts_words, words_from-append)
 
 -- ---- numbers
 -- a coordinate is within the limit of decimals

@@ -1,10 +1,9 @@
 -- The text of faces, computed from the points of the extreme ids, is that of the set.
-use Rattle.qh_model.proofs.Common.{◌≡◌, ℕ, suc, refl, List, [], ◌∷◌, ◌++◌, map, sym, ap, ap₂, ◌∙◌, inl, inr, eq-eqb, ne_eqb, get_or, decimal, length-map}
-use Rattle.qh_model.proofs.Common.{map-append, dite, ℕ_discrete, flat_map, triangles_along, fan, fans, BodyValue, place, In, Members, line, spaced}
-use Rattle.qh_model.proofs.Common.{vertex_number, vertex_text, face_text, off_text, Vector}
+use Rattle.qh_model.proofs.Common.{BodyValue, In, List, Members, Vector, [], ap, ap₂, arith, dite, eq-eqb, face_text, fan, fans, flat_map, inl, inr}
+use Rattle.qh_model.proofs.Common.{length-map, map, map-append, ne_eqb, off_text, refl, suc, sym, triangles_along, vertex_number}
+use Rattle.qh_model.proofs.{Common.ℕ, Common.ℕ_discrete, Common.◌++◌, Common.◌∙◌, Common.◌∷◌, Common.◌≡◌, renamed.Bodies.renamed_body}
+use Rattle.qh_model.proofs.renamed.{Lists.AreWithin, Positions.at_number, Positions.point_at, Positions.points_of, Positions.vertex_numbers}
 use Rattle.std.proofs.lemmas.List.Folds.{flat_map-map}
-use Rattle.qh_model.proofs.renamed.{Bodies.renamed_body, Positions.vertex_numbers, Positions.points_of, Positions.at_number, Positions.point_at}
-use Rattle.qh_model.proofs.renamed.Lists.{AreWithin}
 
 -- joined texts are the same if they are the same for each member
 pub flat_map_same : {X : Type 0} (s t : X → List ℕ) (xs : List X) → ((x : X) → In x xs → s x ≡ t x) → flat_map s xs ≡ flat_map t xs
@@ -19,39 +18,16 @@ vertex_number-map f (x ∷ xs) i apart = dite (ℕ_discrete x i) (λ e. rw (eq-e
 
 -- a position is its own position, since members have different positions
 number_again : (xs : List ℕ) (i : ℕ) → In i xs → vertex_number (vertex_numbers xs) (vertex_number xs i) ≡ vertex_number xs i
-number_again xs i m =
-    vertex_number-map (vertex_number xs) xs i (λ j n e. sym (at_number xs j n).1 ∙ ap (λ k. get_or xs k 0) e ∙ (at_number xs i m).1)
+number_again = grind (arith, vertex_number-map, at_number)
 
 -- a face of members has the same text
 face_text_renamed : (xs q : List ℕ) → ((i : ℕ) → In i q → In i xs) → face_text (vertex_numbers xs) (map (vertex_number xs) q) ≡ face_text xs q
-face_text_renamed xs q within = ap₂ (λ (n : ℕ) (t : List ℕ). line (decimal n ++ t)) (length-map q (vertex_number xs)) numbers
-  where
-    numbers : flat_map (λ i. spaced (vertex_number (vertex_numbers xs) i)) (map (vertex_number xs) q)
-        ≡ flat_map (λ i. spaced (vertex_number xs i)) q
-    numbers =
-        flat_map-map (λ i. spaced (vertex_number (vertex_numbers xs) i)) (vertex_number xs) q
-        ∙ flat_map_same _ _ q (λ i m. ap spaced (number_again xs i (within i m)))
+face_text_renamed = grind (arith, length-map, vertex_numbers, flat_map-map, flat_map_same, number_again)
 
 -- the text of the points of the extreme ids, by their positions
 pub off_text_renamed : (pts : List Vector) (b : BodyValue) → AreWithin (Members b.extremes) b.polygons
     → off_text (renamed_body (vertex_number b.extremes) b) (points_of pts b.extremes) ≡ off_text b pts
-off_text_renamed pts b within = cc (length-map xs number, length-map b.polygons (map number), vertices, faces)
-  where
-    xs : List ℕ
-    xs = b.extremes
-
-    number : ℕ → ℕ
-    number = vertex_number xs
-
-    vertices : flat_map (λ i. vertex_text (place (points_of pts xs) i)) (vertex_numbers xs) ≡ flat_map (λ i. vertex_text (place pts i)) xs
-    vertices =
-        flat_map-map (λ i. vertex_text (place (points_of pts xs) i)) number xs
-        ∙ flat_map_same _ _ xs (λ i m. ap vertex_text (point_at pts xs i m))
-
-    faces : flat_map (face_text (vertex_numbers xs)) (map (map number) b.polygons) ≡ flat_map (face_text xs) b.polygons
-    faces =
-        flat_map-map (face_text (vertex_numbers xs)) (map number) b.polygons
-        ∙ flat_map_same _ _ b.polygons (λ q m. face_text_renamed xs q (within q m))
+off_text_renamed = grind (arith, length-map, points_of, vertex_numbers, flat_map-map, flat_map_same, point_at, face_text_renamed)
 
 -- ---- the same in triangles
 -- renamed triangles
@@ -60,10 +36,7 @@ triangles_along-map f t u [] = refl
 triangles_along-map f t u (v ∷ r) = ap (λ (ts : List (List ℕ)). (f t ∷ f u ∷ f v ∷ []) ∷ ts) (triangles_along-map f t v r)
 
 fan-map : (f : ℕ → ℕ) (q : List ℕ) → fan (map f q) ≡ map (map f) (fan q)
-fan-map f [] = refl
-fan-map f (a ∷ []) = refl
-fan-map f (a ∷ b ∷ []) = refl
-fan-map f (a ∷ b ∷ c ∷ r) = triangles_along-map f a b (c ∷ r)
+fan-map = grind (arith, triangles_along-map)
 
 pub fans-map : (f : ℕ → ℕ) (qs : List (List ℕ)) → fans (map (map f) qs) ≡ map (map f) (fans qs)
 fans-map f [] = refl

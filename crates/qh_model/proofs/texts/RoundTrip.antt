@@ -1,16 +1,15 @@
 -- An OFF file that is written is read as the extreme points, which are written as the same bytes.
-use Rattle.qh_model.proofs.Common.{◌≡◌, ℕ, ◌≤◌, List, [], ◌∷◌, ◌++◌, length, map, sym, ap, subst, ◌∙◌, length-map, append-nil, flat_map, BYTE_LIMIT, Out, Rank}
-use Rattle.qh_model.proofs.Common.{Summary, Fx, OffTriangles, Extreme, fan, fans, edge_count, BodyValue, HullValue, IsHull, ReadsOff, place, Members}
-use Rattle.qh_model.proofs.Common.{vertex_text, vertex_number, face_text, off_text, output_text, hull_text, Vector, CanBeRead}
-use Rattle.std.proofs.lemmas.List.Folds.{flat_map-map}
+use Rattle.qh_model.proofs.Common.{BYTE_LIMIT, BodyValue, CanBeRead, Extreme, Fx, HullValue, IsHull, List, Members, OffTriangles, Out, Rank, ReadsOff, Summary}
+use Rattle.qh_model.proofs.Common.{Vector, [], ap, append-nil, arith, edge_count, face_text, fan, fans, flat_map, hull_text, length, length-map, map, off_text}
+use Rattle.qh_model.proofs.Common.{output_text, place, subst, sym, vertex_number, vertex_text, ℕ, ◌++◌, ◌∙◌, ◌∷◌, ◌≡◌, ◌≤◌}
+use Rattle.qh_model.proofs.{DistinctIds.distinct_apart, hulls.ExtremePoints.extreme_points_can_be_read, hulls.OfExtremes.body_of_extremes}
+use Rattle.qh_model.proofs.{hulls.Unique.edge_count_is_unique, hulls.Unique.hull_is_unique, lists.Joined.of_flat_map, polygons.EdgeCounts.edges_are_counted}
+use Rattle.qh_model.proofs.{polygons.Fans.fan_members, renamed.Bodies.polygon_members, renamed.Bodies.renamed_body, renamed.Edges.edge_count_renamed}
+use Rattle.qh_model.proofs.renamed.{Lists.AreWithin, Positions.by_position, Positions.extreme_points_have_hull, Positions.hull_of_extremes, Positions.points_of}
+use Rattle.qh_model.proofs.texts.{OffTexts.reads_surface, OffTexts.surface_text, RenamedTexts.fans-map, RenamedTexts.off_text_renamed}
 use Rattle.qh_model.specs.{declared.out.Out.TheVariants.Off, headline.Text.in_triangles}
-use Rattle.qh_model.specs.laws.RoundTrip.{IsOffOutput, extreme_points, IsReadAsExtremePoints, ExtremePointsHaveText, IsWrittenAgain}
-use Rattle.qh_model.proofs.{DistinctIds.distinct_apart, lists.Joined.of_flat_map, polygons.Fans.fan_members, renamed.Edges.edge_count_renamed}
-use Rattle.qh_model.proofs.{hulls.ExtremePoints.extreme_points_can_be_read, hulls.OfExtremes.body_of_extremes, polygons.EdgeCounts.edges_are_counted}
-use Rattle.qh_model.proofs.{hulls.Unique.edge_count_is_unique, hulls.Unique.hull_is_unique, texts.RenamedTexts.fans-map, texts.RenamedTexts.off_text_renamed}
-use Rattle.qh_model.proofs.{renamed.Bodies.polygon_members, renamed.Bodies.renamed_body, texts.OffTexts.surface_text, texts.OffTexts.reads_surface}
-use Rattle.qh_model.proofs.renamed.Lists.{AreWithin}
-use Rattle.qh_model.proofs.renamed.Positions.{points_of, by_position, hull_of_extremes, extreme_points_have_hull}
+use Rattle.qh_model.specs.laws.RoundTrip.{ExtremePointsHaveText, IsOffOutput, IsReadAsExtremePoints, IsWrittenAgain, extreme_points}
+use Rattle.std.proofs.lemmas.List.Folds.{flat_map-map}
 
 -- ---- reading
 -- the text of a body's faces, by its vertices
@@ -24,10 +23,7 @@ off_text_surface pts b =
 -- the text is read as the points of its vertices
 reads_body : (pts : List Vector) (b : BodyValue) → CanBeRead (points_of pts b.extremes)
     → length (off_text b pts) ≤ BYTE_LIMIT → ReadsOff (off_text b pts) (points_of pts b.extremes)
-reads_body pts b can small =
-    let same = off_text_surface pts b in
-    let read = reads_surface (points_of pts b.extremes) (length b.polygons) b.edges (flat_map (face_text b.extremes) b.polygons) can in
-    subst (λ t. ReadsOff t (points_of pts b.extremes)) (sym same) (read (subst (λ t. length t ≤ BYTE_LIMIT) same small))
+reads_body = grind (arith, off_text_surface, reads_surface, points_of)
 
 -- proof of the law `IsReadAsExtremePoints`
 pub is_read_as_extreme_points : IsReadAsExtremePoints

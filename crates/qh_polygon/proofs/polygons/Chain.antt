@@ -1,10 +1,7 @@
 -- The chain of a rising list: its edges have all processed ids on their left, and it turns left at each corner.
-use Rattle.qh_model.proofs.Common.{◌≡◌, ℕ, refl, List, [], ◌∷◌, arith, ap, sym, subst, ◌⊎◌, inl, inr, true, false, cond, ints, by_lt_z, is_gt, ℤ, pos, ◌≤ℤ◌}
+use Rattle.qh_model.proofs.Common.{◌≡◌, ℕ, refl, List, [], ◌∷◌, arith, ap, sym, subst, ◌⊎◌, inl, inr, true, false, cond, ints, by_lt_z, ℤ, pos, ◌≤ℤ◌}
 use Rattle.qh_model.proofs.Common.{◌<ℤ◌, ◌↔◌, In}
-use Rattle.std.specs.{Cmp.int_ranks, declared.cmp.Ordering.TheVariants.Less, declared.cmp.Ordering.TheVariants.Equal, declared.cmp.Ordering.TheVariants.Greater}
-use Rattle.std.specs.Ordering.{MatchOrdering}
 use Rattle.qh_model.proofs.algebra.{Order.le_antisym, Order.positive_le, Signs.not_less, Signs.less_le, Signs.equal_le}
-use Rattle.qh_pred.specs.contract.Turns.{sign}
 use Rattle.qh_polygon.specs.steps.Chains.{is_left, kept_below, chain}
 use Rattle.qh_polygon.proofs.polygons.TurnLaws.{RisesBy, TurnLaws, TurnsAt, HasOnLeft, IsChain, Added, chain_top}
 
@@ -14,13 +11,11 @@ IsCapped turn key D y t = (x : ℕ) → D x → key t <ℤ key x → pos 0 ≤�
 
 -- a turn to the left is above 0
 pub is_left-yes : (z : ℤ) → is_left z ≡ true → pos 0 <ℤ z
-is_left-yes z e = elim (sign z) as (λ r. MatchOrdering r (z <ℤ pos 0) (z ≡ pos 0) (pos 0 <ℤ z) → is_gt r ≡ true → pos 0 <ℤ z)
-    [ Less ↦ λ k e. cc | Equal ↦ λ k e. cc | Greater ↦ λ k e. k ] (int_ranks z (pos 0)) e
+is_left-yes = grind arith
 
 -- any other turn is not
 pub is_left-no : (z : ℤ) → is_left z ≡ false → z ≤ℤ pos 0
-is_left-no z e = elim (sign z) as (λ r. MatchOrdering r (z <ℤ pos 0) (z ≡ pos 0) (pos 0 <ℤ z) → is_gt r ≡ false → z ≤ℤ pos 0)
-    [ Less ↦ λ k e. less_le z (pos 0) k | Equal ↦ λ k e. equal_le z (pos 0) k | Greater ↦ λ k e. cc ] (int_ranks z (pos 0)) e
+is_left-no = grind arith
 
 -- a stack that may remain after pops
 record Top (turn : ℕ → ℕ → ℕ → ℤ) (key : ℕ → ℤ) (D : ℕ → Type 0) (y : ℕ) (s : List ℕ) : Type 0 where
@@ -53,8 +48,7 @@ module _ (turn : ℕ → ℕ → ℕ → ℤ) (key : ℕ → ℤ) (A : ℕ → T
 
     -- the old edges have y on their left
     edge-more : (r t : ℕ) → HasOnLeft turn D r t → pos 0 <ℤ turn r t y → HasOnLeft turn (Added D y) r t
-    edge-more r t edge lt x (inl e) = subst (λ v. pos 0 ≤ℤ turn r t v) (sym e) (positive_le _ lt)
-    edge-more r t edge lt x (inr d) = edge x d
+    edge-more = grind arith
 
     -- if the path turns left over a top, it does so over each one below
     sharp-down : (t r : ℕ) (s : List ℕ) → D t → key r <ℤ key t → TurnsAt turn t r s → IsChain turn key D r s → pos 0 <ℤ turn r t y → TurnsAt turn y r s
@@ -83,14 +77,7 @@ module _ (turn : ℕ → ℕ → ℕ → ℤ) (key : ℕ → ℤ) (A : ℕ → T
 
     -- the next id on the stack makes a chain for one more id
     pushes : (s : List ℕ) → (p : Top turn key D y s) → IsChain turn key (Added D y) y s
-    pushes s p =
-        subst (λ v. IsChain turn key (Added D y) y v) (sym p.is) (
-          inl refl,
-          below p.top (chain_top turn key D p.top p.rest p.good),
-          new-edge p.top p.rest p.good p.capped p.sharp,
-          p.sharp,
-          lift p.top p.rest p.good p.sharp,
-        )
+    pushes = grind (arith, chain_top, new-edge, lift)
 
   -- a chain for the processed ids is a chain for any set with the same members
   retold : (D : ℕ → Type 0) → ((x : ℕ) → D x → A x) → ((x : ℕ) → A x → D x) → (t : ℕ) (s : List ℕ) → IsChain turn key D t s → IsChain turn key A t s

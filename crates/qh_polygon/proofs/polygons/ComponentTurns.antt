@@ -1,10 +1,9 @@
 -- In one plane, a turn computed from one component of the normal is to the left exactly if the turn itself is; so both have the same chains.
-use Rattle.qh_model.proofs.Common.{◌≡◌, ◌≢◌, ℕ, List, [], ◌∷◌, ap, sym, ◌∙◌, refl, inl, inr, true, false, cond, reverse, subst, ⊎_elim, is_gt, ℤ, pos, place}
-use Rattle.qh_model.proofs.Common.{In, Vector, origin, dot}
+use Rattle.qh_model.proofs.Common.{In, List, Vector, [], ap, arith, cond, false, inl, inr, place, refl, reverse, subst, sym, true, ℕ, ℤ, ⊎_elim, ◌∙◌, ◌∷◌, ◌≡◌}
 use Rattle.qh_model.proofs.algebra.Signs.{less_differ}
-use Rattle.qh_pred.proofs.Turns.{turn_sign}
 use Rattle.qh_polygon.proofs.polygons.{Cycles.turned_onto-in, Stacks.reverse-turned_onto, Turns.IsFlat, Turns.turn_about}
-use Rattle.qh_polygon.specs.steps.Chains.{turn_of, is_left, kept_below, chain, joined}
+use Rattle.qh_polygon.specs.steps.Chains.{chain, is_left, joined, kept_below, turn_of}
+use Rattle.qh_pred.proofs.Turns.{turn_sign}
 
 -- turns of members of A that are to the left at the same time
 abbrev pub Agree : (ℕ → Type 0) → (ℕ → ℕ → ℕ → ℤ) → (ℕ → ℕ → ℕ → ℤ) → Type 0
@@ -30,9 +29,7 @@ module _ (A : ℕ → Type 0) (turn other : ℕ → ℕ → ℕ → ℤ) (agree 
 
 -- in one plane, the component of the normal determines the turn
 pub turns_agree : (pts : List Vector) (n : Vector) (A : ℕ → Type 0) → IsFlat n (place pts) A → Agree A (turn_of pts n) (turn_about n (place pts))
-turns_agree pts n A flat u v w au av aw =
-    let some : n ≢ origin = (λ e. less_differ (pos 0) (dot n n) flat.some (sym (ap (λ (m : Vector). dot m m) e))) in
-    ap is_gt (turn_sign n (place pts u) (place pts v) (place pts w) (record { some = some; to_v = flat.even u v au av; to_w = flat.even u w au aw }))
+turns_agree = grind (arith, less_differ, turn_sign)
 
 -- the cycle of two chains in one plane
 pub joined-same : (pts : List Vector) (n : Vector) (A : ℕ → Type 0) (xs : List ℕ) → IsFlat n (place pts) A → ((x : ℕ) → In x xs → A x)

@@ -26,9 +26,7 @@ corner_eq n q r t x =
 
 -- nonnegative terms, not both zero
 beats_sign : (wx wr f g : ℤ) → wr -ℤ wx ≡ f +ℤ g → pos 0 ≤ℤ f → pos 0 ≤ℤ g → ((f ≡ pos 0) → (g ≡ pos 0) → ⊥) → wx <ℤ wr
-beats_sign wx wr f g e p q h =
-    by_lt_z (pos 0) f (λ k. omega (arith, ints)) (λ k. by_lt_z (pos 0) g (λ l. omega (arith, ints))
-    (λ l. absurd (h (le_antisym f (pos 0) k p) (le_antisym g (pos 0) l q))))
+beats_sign = grind arith
 
 -- if both turns are zero, x is no other point
 apart : (ac hb ab hc bc ha : ℤ) → ac *ℤ hb ≡ ab *ℤ hc +ℤ bc *ℤ ha → ac ≡ pos 0 → bc ≡ pos 0 → pos 0 <ℤ ab → hc ≡ pos 0

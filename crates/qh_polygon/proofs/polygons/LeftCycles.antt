@@ -1,5 +1,5 @@
 -- A cycle that turns left at each member is the polygon of its members: each of them is a corner.
-use Rattle.qh_model.proofs.Common.{◌≡◌, ◌≢◌, ◌⊎◌, ℕ, List, [], ◌∷◌, inl, inr, arith, refl, sym, ap, subst, ◌∙◌, ⊎_elim, ints, pos, ◌<ℤ◌, ◌↔◌, dite, ℕ_discrete}
+use Rattle.qh_model.proofs.Common.{◌≡◌, ◌≢◌, ◌⊎◌, ℕ, List, [], ◌∷◌, inl, inr, arith, refl, sym, ap, subst, ◌∙◌, ints, pos, ◌<ℤ◌, ◌↔◌, dite, ℕ_discrete}
 use Rattle.qh_model.proofs.Common.{Extreme, IsPolygon, TurnsLeft, In, Once, BeginsWithLeast, Vector, minus, cross_product}
 use Rattle.qh_model.proofs.{algebra.VectorIdentities.left-turn, polygons.Cycles.AlongPath, polygons.Cycles.AroundCycle, polygons.Cycles.round_holds}
 use Rattle.qh_model.specs.headline.Predicates.{left}
@@ -62,6 +62,4 @@ cycle_polygon n at A u r l third once least h =
 -- a step from u to v, if all others are the one before u and the one after v
 pub side_of : (n : Vector) (at : ℕ → Vector) (q : List ℕ) (p u v s : ℕ) → ((x : ℕ) → In x q → x ≢ u → x ≢ v → (x ≡ p) ⊎ (x ≡ s))
     → pos 0 <ℤ left n (at p) (at u) (at v) → pos 0 <ℤ left n (at u) (at v) (at s) → TurnsLeft at n q u v
-side_of n at q p u v s only h k w i wu wv =
-    ⊎_elim (λ e. subst (λ t. pos 0 <ℤ left n (at u) (at v) (at t)) (sym e) (subst (λ t. pos 0 <ℤ t) (left-turn n (at p) (at u) (at v)) h))
-    (λ e. subst (λ t. pos 0 <ℤ left n (at u) (at v) (at t)) (sym e) k) (only w i wu wv)
+side_of = grind (arith, left-turn)

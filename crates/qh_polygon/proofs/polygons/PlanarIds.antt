@@ -1,8 +1,8 @@
 -- Ids in one plane: they are flat across their normal, and three of them, so at least two, are not in line.
-use Rattle.qh_model.proofs.Common.{◌≡◌, ◌≢◌, ℕ, ◌<◌, List, [], length, arith, ap, sym, ◌∙◌, refl, inl, inr, ⊎_elim, get_or, cases_lt, ints, pos, neg_ℤ}
+use Rattle.qh_model.proofs.Common.{◌≡◌, ◌≢◌, ℕ, ◌<◌, List, [], length, arith, ap, sym, ◌∙◌, refl, inl, inr, ⊎_elim, get_or, cases_lt, pos, neg_ℤ}
 use Rattle.qh_model.proofs.Common.{HasTriangle, place, cross, In, Members, Vector, origin, minus, dot}
 use Rattle.qh_model.proofs.{Members.in_at, extremes.Dimensions.segment_of_triangle, extremes.Directions.square-positive}
-use Rattle.qh_model.proofs.algebra.VectorIdentities.{vec, dotE, put, vector_path, vol-dot}
+use Rattle.qh_model.proofs.algebra.VectorIdentities.{vec, dotE, put, vol-dot}
 use Rattle.qh_model.proofs.algebra.{Ring.ring, Ring.Expr.con, Ring.Expr.sub as less, Ring.Expr.neg, Signs.opposite_zero}
 use Rattle.qh_polygon.proofs.{LinesAndPlanes.between_eq, LinesAndPlanes.none, polygons.Turns.IsFlat}
 use Rattle.qh_polygon.specs.contract.PlanarSets.{IsPlanarSet}
@@ -40,11 +40,7 @@ module _ (pts : List Vector) (ids : List ℕ) (n : Vector) (p : IsPlanarSet pts 
 
   -- the normal is not zero
   some : n ≢ origin
-  some h = elim p.normal [
-    | inl e ↦ p.area (sym e ∙ h)
-    | inr e ↦ (let o : minus origin c ≡ origin = sym e ∙ h in
-        p.area (vector_path c origin (omega (arith, ints, ap (λ v. v.x) o)) (omega (arith, ints, ap (λ v. v.y) o)) (omega (arith, ints, ap (λ v. v.z) o))))
-  ]
+  some = grind arith
 
   -- the ids are flat across the normal
   pub flat_of : IsFlat n (place pts) (λ x. In x ids)

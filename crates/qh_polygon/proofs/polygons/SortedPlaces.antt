@@ -1,17 +1,16 @@
 -- The cycle of the two chains of sorted ids goes round the extremes.
-use Rattle.std.proofs.Common.{◌≡◌, ℕ, ◌%◌, ◌<◌, List, [], ◌∷◌, length, map, reverse, arith, ap, sym, subst, ◌∙◌, refl, inl, inr, ⊎_elim}
+use Rattle.qh_model.proofs.Members.{All-In, All-of, rising_tail}
+use Rattle.qh_model.proofs.algebra.{Signs.lt_neg, VectorIdentities.dot-opposite, VectorIdentities.opposite}
+use Rattle.qh_model.specs.{contract.IdSets.HasDistinctPoints, headline.Predicates.place, headline.Sets.In, headline.Vector.Vector}
+use Rattle.qh_polygon.proofs.PlaceOrder.{IsKeyOf, key_parts, place_code-same, rising_keys, sorted-all, sorted-only, sorted_keys}
+use Rattle.qh_polygon.proofs.polygons.{ComponentTurns.joined-same, Cycles.in-turned_onto, Cycles.turned_onto-in, GoesRound.GoesRound, GoesRound.goes_round}
+use Rattle.qh_polygon.proofs.polygons.PlaceHeights.{keyed_of, order, place_code-less}
+use Rattle.qh_polygon.proofs.polygons.{Stacks.reverse-turned_onto, TurnLaws.RisesBy, Turns.IsFlat, Turns.IsKeyed, Turns.height_of, Turns.turn_about}
+use Rattle.qh_polygon.specs.{contract.PlaceKeys.HasKey, contract.PlaceKeys.key_at, contract.PlaceNumbers.place_code, declared.place_keys.TheConstants.ROOM}
+use Rattle.qh_polygon.specs.steps.{Chains.chain, Chains.joined, Chains.turn_of, Chains.turned_onto, PlaceKeys.AreByPlace, PlaceKeys.ids_in}
+use Rattle.std.proofs.Common.{List, [], ap, arith, inl, inr, length, map, refl, reverse, subst, sym, ℕ, ⊎_elim, ◌%◌, ◌<◌, ◌∙◌, ◌∷◌, ◌≡◌}
 use Rattle.std.proofs.{Math.Nat.ne_of_lt, lemmas.List.length-map, lemmas.List.Sorted.length_permutation}
 use Rattle.std.specs.{List.All, List.AllByRecursion as Every, List.Sorted.IsStrictlyIncreasing, Prelude.ℤ, Prelude.◌<ℤ◌, Prelude.◌↔◌}
-use Rattle.qh_model.proofs.Members.{All-In, All-of, rising_tail}
-use Rattle.qh_model.proofs.algebra.{Signs.lt_neg, VectorIdentities.opposite, VectorIdentities.dot-opposite}
-use Rattle.qh_model.specs.{contract.IdSets.HasDistinctPoints, headline.Predicates.place, headline.Sets.In, headline.Vector.Vector}
-use Rattle.qh_polygon.proofs.PlaceOrder.{IsKeyOf, sorted_keys, rising_keys, key_parts, place_code-same, sorted-only, sorted-all}
-use Rattle.qh_polygon.proofs.polygons.{ComponentTurns.joined-same, Cycles.in-turned_onto, Cycles.turned_onto-in, GoesRound.GoesRound, GoesRound.goes_round}
-use Rattle.qh_polygon.proofs.polygons.PlaceHeights.{order, place_code-less, keyed_of}
-use Rattle.qh_polygon.proofs.polygons.{Stacks.reverse-turned_onto, TurnLaws.RisesBy, Turns.IsFlat, Turns.IsKeyed, Turns.turn_about, Turns.height_of}
-use Rattle.qh_polygon.specs.{declared.place_keys.TheConstants.ROOM, steps.Chains.turn_of, steps.Chains.turned_onto, steps.Chains.joined, steps.Chains.chain}
-use Rattle.qh_polygon.specs.contract.PlaceNumbers.{place_code}
-use Rattle.qh_polygon.specs.{contract.PlaceKeys.key_at, steps.PlaceKeys.ids_in, contract.PlaceKeys.HasKey, steps.PlaceKeys.AreByPlace}
 
 -- ---- rising keys are rising places
 -- rising keys have rising heights

@@ -24,8 +24,7 @@ front xs acc = front-of (reverse xs) acc ∙ ap (λ t. take (length t - 1) t ++ 
 
 -- the cycle of two chains, in terms of std
 pub fronts : (xs ys : List ℕ) → joined (reverse xs) (reverse ys) ≡ take (length xs - 1) xs ++ take (length ys - 1) ys
-fronts xs ys = front xs (turned_onto (after_first (reverse ys)) [])
-    ∙ ap (λ t. take (length xs - 1) xs ++ t) (front ys [] ∙ append-nil (take (length ys - 1) ys))
+fronts = grind (arith, front, append-nil)
 
 -- reversing a list, in terms of std
 pub reverse-turned_onto : (s : List ℕ) → reverse s ≡ turned_onto s []

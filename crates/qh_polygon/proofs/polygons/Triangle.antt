@@ -1,15 +1,14 @@
 -- The polygon of three points that are not in line.
-use Rattle.qh_model.proofs.Common.{◌≡◌, ◌≢◌, ℕ, ◌<◌, List, [], ◌∷◌, arith, ap, sym, subst, ◌∙◌, inl, inr, true, false, cond, refl, length, get_or, ne_of_lt}
-use Rattle.qh_model.proofs.Common.{common_steps, ints, ℤ, pos, ◌*ℤ◌, ◌<ℤ◌, ◌↔◌, Extreme, IsPolygon, place, cross, AreInLine, In, Members, Vector, origin, minus}
-use Rattle.qh_model.proofs.Common.{dot}
-use Rattle.qh_model.proofs.algebra.{Integers.zero_mul, Order.cancel-zero, Order.le_less}
-use Rattle.qh_model.proofs.algebra.VectorIdentities.{vector_path, left-dot, left-turn, left-flip, in_line-twice, in_line-last, dot_comm}
-use Rattle.qh_model.proofs.extremes.Directions.{Parallel, parallel_normal, in_line-flip, square-positive}
+use Rattle.qh_model.proofs.Common.{AreInLine, Extreme, In, IsPolygon, List, Members, Vector, [], ap, arith, common_steps, cond, cross, dot, false, get_or, inl}
+use Rattle.qh_model.proofs.Common.{inr, ints, length, minus, ne_of_lt, origin, place, pos, refl, subst, sym, true, ℕ, ℤ, ◌*ℤ◌, ◌<ℤ◌, ◌<◌, ◌↔◌, ◌∙◌, ◌∷◌, ◌≡◌}
+use Rattle.qh_model.proofs.{Common.◌≢◌, algebra.Integers.zero_mul, algebra.Order.cancel-zero, algebra.Order.le_less}
+use Rattle.qh_model.proofs.algebra.VectorIdentities.{dot_comm, in_line-last, in_line-twice, left-dot, left-flip, left-turn, vector_path}
+use Rattle.qh_model.proofs.extremes.Directions.{Parallel, in_line-flip, parallel_normal, square-positive}
 use Rattle.qh_model.specs.headline.Predicates.{left}
-use Rattle.qh_polygon.proofs.{LinesAndPlanes.three_line, LinesAndPlanes.same_point, polygons.Chain.is_left-yes, polygons.Chain.is_left-no}
-use Rattle.qh_polygon.proofs.polygons.{ComponentTurns.turns_agree, LeftCycles.cycle_polygon, LeftCycles.side_of, LeftCycles.third_of}
-use Rattle.qh_polygon.proofs.polygons.{PlanarIds.flat_of, Turns.IsFlat}
-use Rattle.qh_polygon.specs.{contract.PlanarSets.IsPlanarSet, steps.Chains.is_left, steps.Chains.turn_of, steps.Chains.triangle}
+use Rattle.qh_polygon.proofs.LinesAndPlanes.{same_point, three_line}
+use Rattle.qh_polygon.proofs.polygons.{Chain.is_left-no, Chain.is_left-yes, ComponentTurns.turns_agree, LeftCycles.cycle_polygon, LeftCycles.side_of}
+use Rattle.qh_polygon.proofs.polygons.{LeftCycles.third_of, PlanarIds.flat_of, Turns.IsFlat}
+use Rattle.qh_polygon.specs.{contract.PlanarSets.IsPlanarSet, steps.Chains.is_left, steps.Chains.triangle, steps.Chains.turn_of}
 
 -- three members that turn left, beginning with the least, are their polygon
 pub left_triangle : (n : Vector) (at : ℕ → Vector) (A : ℕ → Type 0) (a b c : ℕ) → ((x : ℕ) → A x ↔ In x (a ∷ b ∷ c ∷ []))

@@ -1,6 +1,6 @@
 -- Two chains, there and back: their members are the extremes, each once, and the cycle turns left.
 use Rattle.qh_model.proofs.Common.{◌≡◌, ℕ, refl, List, [], ◌∷◌, arith, sym, subst, ◌∙◌, ◌⊎◌, inl, inr, ⊎_elim, ints, by_lt_z, pos, neg_ℤ, ◌≤ℤ◌, ◌<ℤ◌, ◌↔◌}
-use Rattle.qh_model.proofs.Common.{Extreme, Others, TurnsLeft, In, Once, Vector, cross_product, dot, Separator}
+use Rattle.qh_model.proofs.Common.{Extreme, Others, TurnsLeft, In, Once, Vector, cross_product, dot, Separator, rules}
 use Rattle.qh_model.proofs.{Decisions.in_or_not, extremes.ExtremeIds.combination_within, extremes.ExtremeIds.alternative_in, extremes.ExtremeIds.listed_itself}
 use Rattle.qh_model.proofs.algebra.{Order.le_antisym, Order.mul-nonneg_nonpos, Order.le_less, Ring.ring, Ring.Expr.neg}
 use Rattle.qh_model.proofs.algebra.Signs.{not_less, opposite_same, neg_le, le_neg, neg_lt, lt_neg}
@@ -35,9 +35,7 @@ module _ (n h k : Vector) (at : ℕ → Vector) (A : ℕ → Type 0) (flat : IsF
     (g : IsChain (turn_about n at) (height_of h at) A m (a ∷ s)) (last : (x : ℕ) → A x → height_of h at x ≤ℤ height_of h at m) where
   -- its edges are sides
   way_sides : IsKeyed k at A → ((u v : ℕ) → height_of h at u ≤ℤ height_of h at v → height_of k at v ≤ℤ height_of k at u) → Down (Side n at A) m (a ∷ s)
-  way_sides back turned =
-      sides n h at A flat keyed (λ v av le. greatest_corner k at A back v av (λ x ax. turned v x (le x ax)))
-      m (a ∷ s) (greatest_corner h at A keyed m g.0 last) g
+  way_sides = search (rules, sides, greatest_corner)
 
   -- it begins at the member that is highest along k
   way_ends : ((u v : ℕ) → height_of k at u ≤ℤ height_of k at v → height_of h at v ≤ℤ height_of h at u) → (z : ℕ) → A z
@@ -87,10 +85,7 @@ module _ (n h : Vector) (at : ℕ → Vector) (A : ℕ → Type 0) (m a : ℕ) (
 
   -- the cycle contains the path there, with its end
   in_lower : (x : ℕ) → In x (m ∷ a ∷ s) → In x ring_list
-  in_lower x i = in-turned_onto (a ∷ s) (turned_onto (b ∷ r) []) x (elim i [
-    | inl e ↦ inr (in-turned_onto (b ∷ r) [] x (inl (subst (λ v. In v (b ∷ r)) (upper_ends ∙ sym e) (bottom-in b r))))
-    | inr k ↦ inl k
-  ])
+  in_lower = grind (arith, in-turned_onto, upper_ends, bottom-in)
 
   -- and the path back
   in_upper : (x : ℕ) → In x (z ∷ b ∷ r) → In x ring_list
@@ -139,8 +134,7 @@ module _ (n h : Vector) (at : ℕ → Vector) (A : ℕ → Type 0) (m a : ℕ) (
 
   -- so all neighbours do
   pub ring_round : AroundCycle (TurnsLeft at n ring_list) ring_list
-  ring_round =
-      cycle_map (Side n at A) (TurnsLeft at n ring_list) turns ring_list (cycle-of (Side n at A) m a s z b r lower_sides upper_sides lower_ends upper_ends)
+  ring_round = grind (arith, cycle_map, turns, cycle-of, lower_sides, upper_sides, lower_ends, upper_ends)
 
   -- ---- the extremes are members
   -- an id that is not on the cycle is not beyond all of it

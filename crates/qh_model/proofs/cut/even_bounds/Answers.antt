@@ -1,5 +1,4 @@
-use Rattle.qh_model.proofs.Common.{◌++◌, [], ◌∷◌, subst, sym, arith, IsEvenCut}
-use Rattle.qh_model.proofs.Cuts.{even_cut}
+use Rattle.qh_model.proofs.{Common.IsEvenCut, Common.[], Common.arith, Common.subst, Common.sym, Common.◌++◌, Common.◌∷◌, Cuts.even_cut}
 use Rattle.qh_model.proofs.cut.even_bounds.Goals as goal
 
 -- src/cut.rt:44:1

@@ -1,8 +1,7 @@
 -- An id that is added to the cycle is one of the ids.
-use Rattle.qh_model.proofs.Common.{◌∷◌, [], ⊎_elim, subst, sym, In}
+use Rattle.qh_model.proofs.{Common.In, Common.[], Common.subst, Common.sym, Common.⊎_elim, Common.◌∷◌, hulls.ExtremeParts.part_indices, lists.Joined.of_append}
+use Rattle.qh_polygon.proofs.inner_places.far_cycle.Goals.{else-ne, then-ne+in_ok-push}
 use Rattle.qh_polygon.proofs.inner_places.far_cycle.Goals as goal
-use Rattle.qh_model.proofs.{hulls.ExtremeParts.part_indices, lists.Joined.of_append}
-use Rattle.qh_polygon.proofs.inner_places.far_cycle.Goals.{then-ne+in_ok-push, else-ne}
 
 pub loop-direction-preserved : goal.loop-direction-preserved
 loop-direction-preserved c i m = elim c.if-ne.branch [

@@ -1,10 +1,9 @@
 -- The kept ids are in the set, and pass a test that all extreme ids pass.
-use Rattle.qh_model.proofs.Common.{sym, subst, IsStrictlyIncreasing, In}
-use Rattle.qh_polygon.proofs.inner_places.outer_ids.Goals as goal
-use Rattle.std.proofs.lemmas.List.Kept.{IsStrictlyIncreasing-filter}
-use Rattle.qh_model.proofs.{hulls.ExtremeParts.part_indices, lists.Filters.of_filter}
+use Rattle.qh_model.proofs.{Common.In, Common.IsStrictlyIncreasing, Common.subst, Common.sym, hulls.ExtremeParts.part_indices, lists.Filters.of_filter}
 use Rattle.qh_polygon.proofs.InnerPlaces.{extreme_left}
 use Rattle.qh_polygon.specs.steps.{Chains.turn_of, InnerPlaces.is_outside}
+use Rattle.std.proofs.lemmas.List.Kept.{IsStrictlyIncreasing-filter}
+use Rattle.qh_polygon.proofs.inner_places.outer_ids.Goals as goal
 
 pub returns-clause-indices : goal.returns-clause-indices
 returns-clause-indices c =

@@ -1,7 +1,6 @@
-use Rattle.qh_model.proofs.Common.{ap, ◌∙◌, subst, arith, All-more, IsPlace}
+use Rattle.qh_model.proofs.{Common.All-more, Common.IsPlace, Common.ap, Common.arith, Common.subst, Common.◌∙◌, lists.Images.map-more}
+use Rattle.qh_polygon.specs.contract.{PlaceKeys.HasKey, PlaceKeys.key_at, PlaceNumbers.place_key}
 use Rattle.qh_polygon.proofs.place_keys.point_keys.Goals as goal
-use Rattle.qh_model.proofs.lists.Images.{map-more}
-use Rattle.qh_polygon.specs.contract.{PlaceNumbers.place_key, PlaceKeys.HasKey, PlaceKeys.key_at}
 
 pub loop-id-preserved : goal.loop-id-preserved
 loop-id-preserved c = record {

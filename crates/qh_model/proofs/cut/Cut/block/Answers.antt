@@ -1,6 +1,5 @@
-use Rattle.qh_model.proofs.Common.{◌≡◌, ◌+◌, ◌<◌, arith, common_steps, block_count, bound}
+use Rattle.qh_model.proofs.{Common.arith, Common.block_count, Common.bound, Common.common_steps, Common.◌+◌, Common.◌<◌, Common.◌≡◌, Cuts.block_ends}
 use Rattle.qh_model.proofs.cut.Cut.block.Goals as goal
-use Rattle.qh_model.proofs.Cuts.{block_ends}
 
 -- src/cut.rt:134:5
 pub returns-clause-within : goal.returns-clause-within
