@@ -1,7 +1,6 @@
 pub mod KeyOrder
 pub mod PlaceOrder
 pub mod MarkedIds
-pub mod MarkedLists
 pub mod KeptIds
 pub mod PlaneDirections
 pub mod LinesAndPlanes
