@@ -1,16 +1,7 @@
 -- The loop over the live facets of a mesh that gathers its faces.
-<<<<<<< HEAD
-use Rattle.qh_model.proofs.Common.{◌≡◌, ◌⊎◌, inl, inr, ⊎_elim, ℕ, ◌<◌, ◌≤◌, List, [], ◌∷◌, ◌++◌, length, sym, subst, refl, arith, Bool, true, false, Vector}
-use Rattle.qh_model.proofs.Common.{place, In, Members, IsIdSet, IsFinished, StoredFacet, surface_of, IsPermutation, IsPermutation-sym}
-use Rattle.qh_model.proofs.{Members.in_permutation, surfaces.Stored.live_is_marked}
-use Rattle.qh_bodies.proofs.FaceOrder.{apart_permuted}
-use Rattle.qh_mesh.specs.contract.Replacement.{IsLive}
-use Rattle.qh_surface.specs.contract.Walks.{mark_at}
-use Rattle.qh_block.specs.steps.Faces.{IsNewPlane, IsNewFace, AreMarkedFaces, AreFacetFaces}
-=======
 use Rattle.qh_surface.{specs.contract.Walks.mark_at, proofs.LiveFacets.live_below}
-use Rattle.{qh_mesh.specs.contract.Replacement.IsLive, qh_model.proofs.surfaces.Stored.live_is_marked}
->>>>>>> 7fd4bc0f68c66db76884cf5a8c206588c0d9e426
+use Rattle.{qh_mesh.specs.contract.Replacement.IsLive, qh_model.proofs.surfaces.Stored.live_is_marked, qh_bodies.proofs.FaceOrder.apart_permuted}
+use Rattle.qh_model.proofs.{Common.IsPermutation, Common.IsPermutation-sym, Members.in_permutation}
 use Rattle.qh_block.proofs.finished.FaceLists.{no_faces, new_plane, next_face}
 use Rattle.qh_block.specs.steps.Faces.{IsNewPlane, IsNewFace, AreMarkedFaces, AreFacetFaces}
 use Rattle.qh_model.proofs.Common.{◌≡◌, ◌⊎◌, inl, inr, ⊎_elim, ℕ, ◌<◌, ◌≤◌, List, [], ◌∷◌, ◌++◌}

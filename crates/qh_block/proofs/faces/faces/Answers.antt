@@ -1,16 +1,8 @@
 -- The faces are gathered facet by facet.
-<<<<<<< HEAD
-use Rattle.qh_model.proofs.Common.{◌≡◌, ◌∙◌, ℕ, List, Bool, false, arith, ap, length, sym, subst, length-map, named_facet}
-use Rattle.qh_mesh.specs.contract.Names.{name_in}
-use Rattle.qh_surface.specs.contract.{NamedMeshes.named, Walks.mark_at}
-use Rattle.qh_block.proofs.finished.Gathering.{gathering_starts, next_within, gathering_permuted, gathering_goes, gathering_ends}
-use Rattle.qh_surface.proofs.NamedFacets.{names}
-=======
 use Rattle.{qh_surface.proofs.NamedFacets.names, qh_mesh.specs.contract.Names.name_in}
 use Rattle.qh_surface.specs.contract.{Walks.mark_at, NamedMeshes.named}
-use Rattle.qh_block.proofs.finished.Gathering.{gathering_starts, next_within, gathering_goes, gathering_ends}
+use Rattle.qh_block.proofs.finished.Gathering.{gathering_starts, next_within, gathering_permuted, gathering_goes, gathering_ends}
 use Rattle.qh_model.proofs.Common.{◌≡◌, ◌∙◌, ℕ, List, Bool, false, arith, ap, length, sym, subst, length-map, named_facet}
->>>>>>> 7fd4bc0f68c66db76884cf5a8c206588c0d9e426
 use Rattle.qh_block.proofs.faces.faces.Goals as goal
 
 pub loop-f-init : goal.loop-f-init

@@ -1,13 +1,6 @@
 -- The faces of a finished mesh close up, so they determine the hull.
-<<<<<<< HEAD
-use Rattle.qh_model.proofs.Common.{IsPermutation-sym}
-use Rattle.qh_model.specs.headline.Predicates.{place}
-use Rattle.qh_model.proofs.{Members.in_permutation, surfaces.Complete.finished_is_solid}
-use Rattle.qh_bodies.proofs.TallyOrder.{tally_permuted}
-use Rattle.qh_block.proofs.finished.SolidBodies.{closed}
-=======
 use Rattle.{qh_model.specs.headline.Predicates.place, qh_model.proofs.surfaces.Complete.finished_is_solid, qh_block.proofs.finished.SolidBodies.closed}
->>>>>>> 7fd4bc0f68c66db76884cf5a8c206588c0d9e426
+use Rattle.{qh_model.proofs.Common.IsPermutation-sym, qh_model.proofs.Members.in_permutation, qh_bodies.proofs.TallyOrder.tally_permuted}
 use Rattle.qh_block.proofs.solids.solid_body.Goals as goal
 
 pub body_of_faces-requires : goal.body_of_faces-requires
@@ -15,13 +8,7 @@ body_of_faces-requires c = tally_permuted _ _ _ c.in_ok-polygons.ensures.same c.
 
 pub returns : goal.returns
 returns c = λ ids s z.
-<<<<<<< HEAD
     let faces = c.in_ok-faces.ensures ids s z in let same = c.in_ok-polygons.ensures.same in
     let order = c.in_ok-polygons.ensures.rising faces.apart in
     c.body_of_faces.ensures (place c.args.pts.now) ids s.distinct (finished_is_solid _ ids _ z)
     (closed _ ids _ s z _ faces _ order (λ q. (in_permutation _ _ (IsPermutation-sym _ _ same) q, in_permutation _ _ same q))) order
-=======
-    let faces = c.in_ok-polygons.ensures ids s z in let sorted = c.in_ok-polygons-2.ensures in
-    let order = sorted.rising faces.apart in
-    c.body_of_faces.ensures (place c.args.pts.now) ids s.distinct (finished_is_solid _ ids _ z) (closed _ ids _ s z _ faces _ order sorted.members) order
->>>>>>> 7fd4bc0f68c66db76884cf5a8c206588c0d9e426
