@@ -126,7 +126,7 @@ const ROWS: [Row; 3] = table![
     (6, &[(2, 3, 4), (2, 4, 5), (3, 5, 4)], &[(2, 3, 6), (2, 6, 5), (3, 5, 6)], 8, 8);
 ];
 
-/// Asserts the numbers of live facets and of places after the step to an apex, and that each side of a facet has its twin.
+/// Asserts the numbers of live facets and of places after the step to an apex, and that each side has its twin.
 fn assert_counts(rt: &impl Host, mesh: &Mesh, want: [usize; 2], apex: u32) -> Result<(), Fail> {
     let all = mesh.live().collect::<Vec<FacetNo>>(rt.alloc())?;
     let have_twins = all.iter().all(|f| has_twins(mesh, *f));

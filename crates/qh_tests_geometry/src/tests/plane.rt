@@ -47,7 +47,7 @@ type Seen<'a> = (&'a [Point], &'a [u32], Normal);
 
 /// Returns the polygon of some of the points, seen from the side of a normal.
 fn polygon_of(alloc: Global, seen: &Seen) -> Result<Polygon, Memory> {
-    let (pts, numbers, normal) = seen;
+    let (pts, numbers, normal) = (seen.0, seen.1, &seen.2);
     polygon(alloc, pts, &ids_of(alloc, pts, numbers)?, normal)
 }
 

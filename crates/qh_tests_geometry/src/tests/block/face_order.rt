@@ -10,8 +10,8 @@ use qh_model::{Memory, Point};
 use std::alloc::{AllocError, Global};
 use std::test::Fail;
 
-/// Returns the corners of a cuboctahedron, around each of which triangles and squares alternate. Some of its triangles have
-/// only ids below 2^21, others do not.
+/// Returns the corners of a cuboctahedron, around each of which triangles and squares alternate. Some of its triangles
+/// have only ids below 2^21, others do not.
 fn corners() -> [Point; 12] {
     points_at![
         0 -1 1, 1 0 -1, 0 -1 -1, -1 1 0, 0 1 -1, 1 0 1, 1 1 0, -1 0 -1, 1 -1 0, -1 0 1, 0 1 1,

@@ -126,7 +126,8 @@ fn points_of_a_paraboloid(rt: HostRuntime) -> Result<(), Fail> {
     Ok(())
 }
 
-/// Returns the corners of a prism over a polygon with many sides: the corners (t, t^2) of the polygon, with t from -24000 to 24000, below and then above.
+/// Returns the corners of a prism over a polygon with many sides: the corners (t, t^2) of the polygon, with t from
+/// -24000 to 24000, below and then above.
 fn prism(alloc: Global) -> Result<Vec<Point>, AllocError> {
     let mut corners = Vec::new(alloc);
     for z in [-1_000_000_000, 1_000_000_000] {
@@ -137,9 +138,9 @@ fn prism(alloc: Global) -> Result<Vec<Point>, AllocError> {
     Ok(corners)
 }
 
-/// In the beginning, each end of the prism has a facet for each side. A run that gave all points to the first facet that
-/// sees them would repeatedly make a cone over all sides, two thousand million facets in total, which takes longer than
-/// a test may. A search distributes the points over the facets.
+/// In the beginning, each end of the prism has a facet for each side. A run that gave all points to the first facet
+/// that sees them would repeatedly make a cone over all sides, two thousand million facets in total, which takes longer
+/// than a test may. A search distributes the points over the facets.
 #[test]
 fn prism_of_many_sides(rt: HostRuntime) -> Result<(), Fail> {
     let mesh = solid_surface(rt.alloc(), &prism(rt.alloc())?)?.ok_or("a flat set")?;

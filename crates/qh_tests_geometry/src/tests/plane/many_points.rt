@@ -32,8 +32,8 @@ fn assert_first(rt: &impl Host, ids: &[Id], places: usize) {
     }
 }
 
-/// Asserts that the distinct ids, with each number of threads of `all`, with all processors and with none but the calling thread,
-/// are those of the first points, one for each of `places` places.
+/// Asserts that the distinct ids, with each number of threads of `all`, with all processors and with none but the
+/// calling thread, are those of the first points, one for each of `places` places.
 fn assert_distinct(rt: &impl Host, pts: &[Point], all: &[u32], places: usize) -> Result<(), Fail> {
     if pts.len() > POINT_LIMIT as usize {
         return Err("too many points".into());
