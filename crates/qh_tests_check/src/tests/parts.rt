@@ -16,12 +16,8 @@ type Told = (u8, usize, usize, u64);
 
 /// Returns the properties of a hull.
 fn told(body: &Body) -> Told {
-    (
-        body.dim,
-        body.extremes.len(),
-        body.polygons.len(),
-        body.edges,
-    )
+    let (extremes, faces) = (body.extremes.len(), body.polygons.len());
+    (body.dim, extremes, faces, body.edges)
 }
 
 /// A cube: eight corners, six squares.
@@ -30,16 +26,11 @@ const CUBE: Told = (3, 8, 6, 12);
 /// An octahedron: six corners, eight triangles.
 const OCTAHEDRON: Told = (3, 6, 8, 12);
 
-/// Returns the hull of points by `parts` parts; `None` if the attempt fails.
-fn by_parts(
-    rt: &impl Host,
-    pts: &[Point],
-    threads: u32,
-    parts: usize,
-    seams: Seams,
-) -> Result<Option<Body>, Memory> {
+/// Returns the hull of points by a number of threads and in these parts; `None` if the attempt fails.
+fn by_parts(rt: &impl Host, pts: &[Point], by: (u32, Parting)) -> Result<Option<Body>, Memory> {
+    let (threads, parting) = by;
     let ids = ids_of(rt.alloc(), pts, &NUMBERS)?;
-    hull_by_parts(rt, rt.alloc(), pts, &ids, threads, Parting { parts, seams })
+    hull_by_parts(rt, rt.alloc(), pts, &ids, threads, parting)
 }
 
 #[test]
@@ -52,7 +43,8 @@ fn parts_are_joined_where_they_are_solid(rt: HostRuntime) -> Result<(), Fail> {
         (octahedron.as_slice(), 3, Seams::WhereTheyPay, Some(OCTAHEDRON));
         (square.as_slice(), 2, Seams::Always, None);
     ] {
-        let found = by_parts(&rt, pts, 2, parts, seams)?.map(|body| told(&body));
+        let parting = Parting { parts, seams };
+        let found = by_parts(&rt, pts, (2, parting))?.map(|body| told(&body));
         assert_eq!(rt; found, wanted, "{parts} parts");
     }
     Ok(())
@@ -71,7 +63,8 @@ fn whole(alloc: Global, pts: &[Point]) -> Result<Option<Body>, Memory> {
 fn joined_faces_stand_in_order(rt: HostRuntime) -> Result<(), Fail> {
     let pts = octahedron();
     let whole = whole(rt.alloc(), &pts)?.ok_or("no points")?;
-    let joined = by_parts(&rt, &pts, 3, 4, Seams::Always)?.ok_or("no parts")?;
+    let (parts, seams) = (4, Seams::Always);
+    let joined = by_parts(&rt, &pts, (3, Parting { parts, seams }))?.ok_or("no parts")?;
     assert_eq!(rt; joined.polygons.len(), whole.polygons.len());
     for (polygon, other) in joined.polygons.iter().zip(&whole.polygons) {
         assert!(rt; polygon.ids() == other.ids());
@@ -84,7 +77,6 @@ fn few_ids_are_not_parted(rt: HostRuntime) -> Result<(), Fail> {
     let pts = cube(0, 1);
     let ids = ids_of(rt.alloc(), &pts, &NUMBERS)?;
     assert!(rt; ids.len() == 8);
-    let body = hull_in_parts(&rt, rt.alloc(), &pts, &ids, 4)?;
-    assert!(rt; told(&body) == CUBE);
+    assert!(rt; told(&hull_in_parts(&rt, rt.alloc(), &pts, &ids, 4)?) == CUBE);
     Ok(())
 }

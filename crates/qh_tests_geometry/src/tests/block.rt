@@ -10,14 +10,6 @@ use qh_model::{Body, Id, Memory, Point};
 use std::alloc::Global;
 use std::test::Fail;
 
-mod face_order;
-mod looks;
-mod prisms;
-mod refusals;
-mod runs;
-mod solid_rows;
-mod surfaces;
-
 /// The expected hull of points: the dimension, the extreme ids, the faces and the number of edges.
 #[derive(Clone, Copy, Drop)]
 struct Row<'a> {
@@ -27,18 +19,23 @@ struct Row<'a> {
     edges: u64,
 }
 
-const SQUARE: Row<'static> = Row {
-    dim: 2,
-    extremes: &[0, 1, 2, 3],
-    faces: &[&[0, 1, 2, 3]],
-    edges: 4,
-};
+/// A row, as `row![2; 0 1 2 3; 0 3 2 1; 4]`.
+macro_rules! row {
+    ($dim:literal; $($id:literal)+; $($($corner:literal)+),+; $edges:literal) => {
+        Row { dim: $dim, extremes: &[$($id),+], faces: &[$(&[$($corner),+]),+], edges: $edges }
+    };
+}
+
+mod face_order;
+mod looks;
+mod refusals;
+mod solid_rows;
+mod surfaces;
+
+const SQUARE: Row<'static> = row![2; 0 1 2 3; 0 1 2 3; 4];
 
 /// The square seen from its other side.
-const TURNED_SQUARE: Row<'static> = Row {
-    faces: &[&[0, 3, 2, 1]],
-    ..SQUARE
-};
+const TURNED_SQUARE: Row<'static> = row![2; 0 1 2 3; 0 3 2 1; 4];
 
 /// Returns true if a body is that of a row.
 fn is(body: &Body, row: &Row) -> bool {
@@ -54,8 +51,7 @@ fn hull_of(alloc: Global, pts: &[Point]) -> Result<Option<(Body, Vec<Id>)>, Memo
     if ids.is_empty() {
         return Ok(None);
     }
-    let body = hull(alloc, pts, &ids)?;
-    Ok(Some((body, extremes(alloc, pts, &ids)?)))
+    Ok(Some((hull(alloc, pts, &ids)?, extremes(alloc, pts, &ids)?)))
 }
 
 /// Asserts that the hull of the distinct points of a list, and their extreme ids, are those of a row.
@@ -70,26 +66,14 @@ fn assert_hull(rt: &impl Host, pts: &[Point], row: &Row) -> Result<(), Fail> {
 fn one_point(rt: HostRuntime) -> Result<(), Fail> {
     let pts = [Point::new(3, 1, 0), Point::new(5, 5, 5)];
     let body = hull(rt.alloc(), &pts, &[Id::new(1)])?;
-    let row = Row {
-        dim: 0,
-        extremes: &[1],
-        faces: &[&[1]],
-        edges: 0,
-    };
-    assert!(rt; is(&body, &row), "{body:?}");
+    assert!(rt; is(&body, &row![0; 1; 1; 0]), "{body:?}");
     Ok(())
 }
 
 #[test]
 fn five_in_line(rt: HostRuntime) -> Result<(), Fail> {
     let pts = points_at![1 1 1, 0 0 0, 4 4 4, 2 2 2, 3 3 3];
-    let row = Row {
-        dim: 1,
-        extremes: &[1, 2],
-        faces: &[&[1, 2]],
-        edges: 1,
-    };
-    assert_hull(&rt, &pts, &row)
+    assert_hull(&rt, &pts, &row![1; 1 2; 1 2; 1])
 }
 
 #[test]

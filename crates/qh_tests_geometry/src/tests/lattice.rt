@@ -37,10 +37,8 @@ fn images_of(alloc: Global, points: &[Point]) -> Result<Option<Vec<Point>>, Memo
 /// Returns the volume of four points of a list, each about `step` positions after the one before.
 fn volume(points: &[Point], step: u16) -> Option<i128> {
     let step = usize::from(step);
-    let a = points.get(1)?;
-    let b = points.get(1 + step)?;
-    let c = points.get(2 + 2 * step)?;
-    let d = points.get(4 + 3 * step)?;
+    let (a, b) = (points.get(1)?, points.get(1 + step)?);
+    let (c, d) = (points.get(2 + 2 * step)?, points.get(4 + 3 * step)?);
     Some(vol(*a, *b, *c, *d))
 }
 

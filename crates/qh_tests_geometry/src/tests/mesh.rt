@@ -35,8 +35,7 @@ fn sees(mesh: &Mesh, pts: &[Point], f: FacetNo, apex: u32) -> bool {
     let Some((a, b, c)) = triangle(mesh, f) else {
         return false;
     };
-    let points = [a, b, c, apex].map(|number| pts.get(number as usize).copied());
-    match points {
+    match [a, b, c, apex].map(|number| pts.get(number as usize).copied()) {
         [Some(a), Some(b), Some(c), Some(p)] => vol(a, b, c, p) > 0,
         _ => false,
     }
@@ -104,13 +103,9 @@ fn first_simplex(alloc: Global, pts: &[Point]) -> Result<Mesh, Memory> {
     if pts.len() < 4 {
         return Err(Memory);
     }
-    let volume = vol(
-        point_at(pts, a),
-        point_at(pts, b),
-        point_at(pts, c),
-        point_at(pts, d),
-    );
-    if volume == 0 {
+    let (p, q) = (point_at(pts, a), point_at(pts, b));
+    let (r, s) = (point_at(pts, c), point_at(pts, d));
+    if vol(p, q, r, s) == 0 {
         return Err(Memory);
     }
     Mesh::simplex(alloc, pts, a, b, c, d)
@@ -131,31 +126,12 @@ const ROWS: [Row; 3] = table![
     (6, &[(2, 3, 4), (2, 4, 5), (3, 5, 4)], &[(2, 3, 6), (2, 6, 5), (3, 5, 6)], 8, 8);
 ];
 
-/// Asserts the triangles of a list at the step to an apex, in any order.
-fn assert_triangles(
-    rt: &impl Host,
-    mesh: &Mesh,
-    list: &[FacetNo],
-    want: &[Triangle],
-    apex: u32,
-) -> Result<(), Fail> {
-    let found = triangles(rt.alloc(), mesh, list)?;
-    assert_eq!(rt; found.as_slice(), want, "{apex}");
-    Ok(())
-}
-
-/// Asserts the numbers of live facets and of places after a step, and that each side of a facet has its twin.
-fn assert_counts(
-    rt: &impl Host,
-    mesh: &Mesh,
-    facets: usize,
-    places: usize,
-    apex: u32,
-) -> Result<(), Fail> {
+/// Asserts the numbers of live facets and of places after the step to an apex, and that each side has its twin.
+fn assert_counts(rt: &impl Host, mesh: &Mesh, want: [usize; 2], apex: u32) -> Result<(), Fail> {
     let all = mesh.live().collect::<Vec<FacetNo>>(rt.alloc())?;
     let have_twins = all.iter().all(|f| has_twins(mesh, *f));
-    let found = (all.len(), mesh.places(), have_twins);
-    assert_eq!(rt; found, (facets, places, true), "{apex}");
+    let found = ([all.len(), mesh.places()], have_twins);
+    assert_eq!(rt; found, (want, true), "{apex}");
     Ok(())
 }
 
@@ -163,17 +139,21 @@ fn assert_counts(
 fn step(rt: &impl Host, mesh: &mut Mesh, pts: &[Point], row: Row) -> Result<Vec<FacetNo>, Fail> {
     let (apex, seen, cone, facets, places) = row;
     let visible = seen_by(rt.alloc(), mesh, pts, apex)?;
-    assert_triangles(rt, mesh, &visible, seen, apex)?;
+    let found = triangles(rt.alloc(), mesh, &visible)?;
+    assert_eq!(rt; found.as_slice(), seen, "{apex}");
     let made = mesh.replace(rt.alloc(), pts, &visible, Id::new(apex))?;
-    assert_triangles(rt, mesh, &made, cone, apex)?;
-    assert_counts(rt, mesh, facets, places, apex)?;
+    let found = triangles(rt.alloc(), mesh, &made)?;
+    assert_eq!(rt; found.as_slice(), cone, "{apex}");
+    assert_counts(rt, mesh, [facets, places], apex)?;
     Ok(made)
 }
 
 /// Asserts the triangles of all live facets after the step to an apex, in any order.
 fn assert_live(rt: &impl Host, mesh: &Mesh, want: &[Triangle], apex: u32) -> Result<(), Fail> {
     let all = mesh.live().collect::<Vec<FacetNo>>(rt.alloc())?;
-    assert_triangles(rt, mesh, &all, want, apex)
+    let found = triangles(rt.alloc(), mesh, &all)?;
+    assert_eq!(rt; found.as_slice(), want, "{apex}");
+    Ok(())
 }
 
 /// The triangles of the simplex.
@@ -185,18 +165,13 @@ fn replaces(rt: HostRuntime) -> Result<(), Fail> {
     let mut mesh = first_simplex(rt.alloc(), &pts)?;
     mesh.ask_for_room(16);
     assert_live(&rt, &mesh, &SIMPLEX, 3)?;
-    assert_counts(&rt, &mesh, 4, 4, 3)?;
+    assert_counts(&rt, &mesh, [4, 4], 3)?;
     for row in ROWS {
         let made = step(&rt, &mut mesh, &pts, row)?;
         // The next step's list reuses the memory of this one's.
         mesh.take_room(made);
     }
     Ok(())
-}
-
-/// Returns the corner of the unit cube, and a point in one plane with three of its points.
-fn five() -> [Point; 5] {
-    points_at![0 0 0, 1 0 0, 0 1 0, 0 0 1, 1 1 0]
 }
 
 /// The step to the fifth of the five points.
@@ -209,7 +184,8 @@ const LEVEL_TRIANGLES: [Triangle; 6] = table![
 
 #[test]
 fn keeps_a_facet_in_one_plane_with_the_apex(rt: HostRuntime) -> Result<(), Fail> {
-    let pts = five();
+    // The corner of the unit cube, and a point in one plane with three of its points.
+    let pts = points_at![0 0 0, 1 0 0, 0 1 0, 0 0 1, 1 1 0];
     assert_eq!(rt; vol(pts[0], pts[2], pts[1], pts[4]), 0i128);
     let mut mesh = first_simplex(rt.alloc(), &pts)?;
     step(&rt, &mut mesh, &pts, LEVEL_ROW)?;

@@ -55,14 +55,12 @@ const GIVEN: [(&[u32], Answer); 5] = [
 #[test]
 fn given_bounds(rt: HostRuntime) {
     for (bounds, want) in GIVEN {
-        let cut = from(Vec::from_slice(rt.alloc(), bounds));
-        assert_cut(&rt, cut, want, bounds);
+        assert_cut(&rt, from(Vec::from_slice(rt.alloc(), bounds)), want, bounds);
     }
 }
 
 #[test]
 fn too_many_bounds(rt: HostRuntime) {
     let cut = from((0..BLOCK_LIMIT + 2).collect(rt.alloc()));
-    let want = Err(CutError::TooManyBlocks);
-    assert_cut(&rt, cut, want, &[BLOCK_LIMIT + 2]);
+    assert_cut(&rt, cut, Err(CutError::TooManyBlocks), &[BLOCK_LIMIT + 2]);
 }

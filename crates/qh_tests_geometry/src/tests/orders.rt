@@ -7,25 +7,22 @@ use qh_surface::starts::{ends_of, morton_order};
 use std::alloc::Global;
 use std::test::Fail;
 
-/// Returns the ends of some of the points along the axes, and their order along the curve; `None` if there are no points.
-fn ends_and_order(
-    alloc: Global,
-    pts: &[Point],
-    numbers: &[u32],
-) -> Result<Option<([Id; 6], Vec<Id>)>, Memory> {
+/// The ends of points along the axes, and their order along the curve; `None` if there are no points.
+type Found = Option<([Id; 6], Vec<Id>)>;
+
+/// Returns the ends and the order of some of the points.
+fn ends_and_order(alloc: Global, pts: &[Point], numbers: &[u32]) -> Result<Found, Memory> {
     let ids = ids_of(alloc, pts, numbers)?;
     if ids.is_empty() {
         return Ok(None);
     }
     let ends = ends_of(pts, &ids);
-    let order = morton_order(alloc, pts, &ids, &ends)?;
-    Ok(Some((ends, order)))
+    Ok(Some((ends, morton_order(alloc, pts, &ids, &ends)?)))
 }
 
 /// Places on axes. Along the curve, the opposite point comes first, the middle of both second, and the place last.
 const ON_AXES: [(i32, i32, i32); 7] = table![
-    (3, 0, 0); (1048576, 0, 0); (0, 1048576, 0); (0, 0, 1048577); (LIMIT, 0, 0); (0, LIMIT, 0);
-    (0, 0, LIMIT);
+    (3, 0, 0); (1048576, 0, 0); (0, 1048576, 0); (0, 0, 1048577); (LIMIT, 0, 0); (0, LIMIT, 0); (0, 0, LIMIT);
 ];
 
 #[test]
@@ -41,17 +38,14 @@ fn ends_are_least_and_greatest(rt: HostRuntime) -> Result<(), Fail> {
 
 /// Points of which several have the least or the greatest coordinate along an axis.
 const WITH_EQUAL_ENDS: [(i32, i32, i32); 6] = table![
-    (0, 0, 0); (-LIMIT, 5, 1); (LIMIT, -5, 1); (-LIMIT, LIMIT, -7); (1, -LIMIT, LIMIT);
-    (LIMIT, LIMIT, -LIMIT);
+    (0, 0, 0); (-LIMIT, 5, 1); (LIMIT, -5, 1); (-LIMIT, LIMIT, -7); (1, -LIMIT, LIMIT); (LIMIT, LIMIT, -LIMIT);
 ];
 
 #[test]
 fn ends_are_first_ids_of_least_and_greatest(rt: HostRuntime) -> Result<(), Fail> {
     let pts = WITH_EQUAL_ENDS.map(|(x, y, z)| point(x, y, z));
-    for (numbers, wanted) in [
-        ([0, 1, 2, 3, 4, 5].as_slice(), [1, 2, 4, 3, 5, 4]),
-        (&[3], [3; 6]),
-    ] {
+    let rows = table![([0, 1, 2, 3, 4, 5].as_slice(), [1, 2, 4, 3, 5, 4]); (&[3], [3; 6]);];
+    for (numbers, wanted) in rows {
         let (ends, _) = ends_and_order(rt.alloc(), &pts, numbers)?.ok_or("no points")?;
         assert!(rt; are(&ends, &wanted), "{ends:?}");
     }

@@ -28,8 +28,7 @@ fn distinct_ids(rt: &impl Host, alloc: Global, pts: &[Point]) -> Result<Option<V
     if pts.len() > POINT_LIMIT as usize {
         return Ok(None);
     }
-    let ids = distinct(rt, alloc, pts)?;
-    let alone = distinct_alone(alloc, pts)?;
+    let (ids, alone) = (distinct(rt, alloc, pts)?, distinct_alone(alloc, pts)?);
     Ok((ids.as_slice() == alone.as_slice()).then_some(ids))
 }
 
@@ -43,29 +42,21 @@ fn repeated_points(rt: HostRuntime) -> Result<(), Fail> {
     Ok(())
 }
 
-/// Returns the polygon of some of the points.
-fn polygon_of(
-    alloc: Global,
-    pts: &[Point],
-    numbers: &[u32],
-    normal: &Normal,
-) -> Result<Polygon, Memory> {
-    let ids = ids_of(alloc, pts, numbers)?;
-    polygon(alloc, pts, &ids, normal)
+/// Some of a list of points, and a normal of their plane.
+type Seen<'a> = (&'a [Point], &'a [u32], Normal);
+
+/// Returns the polygon of some of the points, seen from the side of a normal.
+fn polygon_of(alloc: Global, seen: &Seen) -> Result<Polygon, Memory> {
+    let (pts, numbers, normal) = (seen.0, seen.1, &seen.2);
+    polygon(alloc, pts, &ids_of(alloc, pts, numbers)?, normal)
 }
 
 /// Asserts the polygons of some of the points, seen from the side of a normal and from the other side.
-fn assert_polygons(
-    rt: &impl Host,
-    pts: &[Point],
-    numbers: &[u32],
-    normal: &Normal,
-    wanted: [&[u32]; 2],
-) -> Result<(), Fail> {
-    let above = polygon_of(rt.alloc(), pts, numbers, normal)?;
-    let below = polygon_of(rt.alloc(), pts, numbers, &normal.opposite())?;
-    assert_ids(rt, above.ids(), wanted[0]);
-    assert_ids(rt, below.ids(), wanted[1]);
+fn assert_polygons(rt: &impl Host, seen: Seen, above: &[u32], below: &[u32]) -> Result<(), Fail> {
+    let (pts, numbers, normal) = seen;
+    assert_ids(rt, polygon_of(rt.alloc(), &seen)?.ids(), above);
+    let opposite = (pts, numbers, normal.opposite());
+    assert_ids(rt, polygon_of(rt.alloc(), &opposite)?.ids(), below);
     Ok(())
 }
 
@@ -73,14 +64,14 @@ fn assert_polygons(
 fn polygons(rt: HostRuntime) -> Result<(), Fail> {
     let pts = square();
     let up = cross(pts[0], pts[1], pts[7]);
-    assert_polygons(&rt, &pts, &EIGHT, &up, [&[0, 2, 4, 6], &[0, 6, 4, 2]])
+    assert_polygons(&rt, (&pts, &EIGHT, up), &[0, 2, 4, 6], &[0, 6, 4, 2])
 }
 
 #[test]
 fn triangles(rt: HostRuntime) -> Result<(), Fail> {
     let pts = square();
     let up = cross(pts[0], pts[2], pts[4]);
-    assert_polygons(&rt, &pts, &[0, 2, 4], &up, [&[0, 2, 4], &[0, 4, 2]])
+    assert_polygons(&rt, (&pts, &[0, 2, 4], up), &[0, 2, 4], &[0, 4, 2])
 }
 
 /// Asserts the shape of some of the points.

@@ -6,16 +6,10 @@ use std::alloc::Global;
 use std::test::Fail;
 
 /// Returns the counts of a hull: its points, its distinct points, the dimension, its edges, extreme ids and faces.
-fn counts_of(hull: &Hull) -> (u32, u32, u8, u64, usize, usize) {
-    let body = &hull.body;
-    (
-        hull.given,
-        hull.distinct,
-        body.dim,
-        body.edges,
-        body.extremes.len(),
-        body.polygons.len(),
-    )
+fn counts_of(hull: &Hull) -> ((u32, u32), u8, u64, usize, usize) {
+    let (body, counts) = (&hull.body, (hull.given, hull.distinct));
+    let (extremes, faces) = (body.extremes.len(), body.polygons.len());
+    (counts, body.dim, body.edges, extremes, faces)
 }
 
 /// Returns the hull of these points, whose number is above 0 and within the limit.
@@ -28,18 +22,16 @@ fn hull_of(alloc: Global, points: &[Point]) -> Result<Hull, Memory> {
 
 #[test]
 fn cube_with_each_corner_twice(rt: HostRuntime) -> Result<(), Fail> {
-    let points = doubled_cube(rt.alloc())?;
-    let hull = hull_of(rt.alloc(), &points)?;
-    assert_eq!(rt; counts_of(&hull), (16, 8, 3, 12, 8, 6));
+    let hull = hull_of(rt.alloc(), &doubled_cube(rt.alloc())?)?;
+    assert_eq!(rt; counts_of(&hull), ((16, 8), 3, 12, 8, 6));
     Ok(())
 }
 
 /// A set of more than two blocks, each of which has ids that are extreme there but not in the whole set.
 #[test]
 fn lattice_of_a_cube(rt: HostRuntime) -> Result<(), Fail> {
-    let points = grid(rt.alloc(), [51; 3])?;
-    let hull = hull_of(rt.alloc(), &points)?;
-    assert_eq!(rt; counts_of(&hull), (132651, 132651, 3, 12, 8, 6));
+    let hull = hull_of(rt.alloc(), &grid(rt.alloc(), [51; 3])?)?;
+    assert_eq!(rt; counts_of(&hull), ((132651, 132651), 3, 12, 8, 6));
     let last = hull.body.extremes.last().map(|id| id.number());
     assert_eq!(rt; last, Some(132650));
     Ok(())

@@ -4,15 +4,14 @@ ghost use Rattle.qh_board.specs.contract.Closings.{closed_setup};
 ghost use Rattle.qh_model.specs.headline.DistinctIds.{AreDistinctIds};
 
 use qh_board::{Board, BoardError, Closed, Mark};
-use qh_fixtures::Host;
 use qh_fixtures::points::{doubled_cube, grid, octahedron, paraboloid};
+use qh_fixtures::{Host, table};
 use qh_model::{Cut, Hull, Id, POINT_LIMIT, Point};
 use qh_plane::distinct;
 use qh_run::{Job, NoGate, RunError, run_hull, work};
 use std::alloc::{AllocError, Global};
 use std::test::Fail;
 
-mod finishes;
 mod refusals;
 
 /// The hull of the octahedron, as `numbers_of` returns it.
@@ -36,19 +35,15 @@ fn cuts_of(alloc: Global, count: u32) -> Result<Vec<Cut>, Fail> {
     for size in [1, 3, 4, 18] {
         cuts.push(Cut::even(alloc, count, size)?)?;
     }
-    let bounds = Vec::from_slice(alloc, &[0, 1, 6, count])?;
-    cuts.push(Cut::from_bounds(bounds)?)?;
+    cuts.push(Cut::from_bounds(Vec::from_slice(alloc, &[0, 1, 6, count])?)?)?;
     Ok(cuts)
 }
 
-/// Returns the hull of a list of points by a cut of its distinct ids; `None` if the cut has a different number of
-/// positions.
-fn hull_by(
-    rt: &impl Host,
-    points: &[Point],
-    cut: &Cut,
-    workers: u32,
-) -> Result<Option<Hull>, RunError> {
+/// A hull; `None` if the cut has a different number of positions.
+type Found = Option<Hull>;
+
+/// Returns the hull of a list of points by a cut of its distinct ids.
+fn hull_by(rt: &impl Host, points: &[Point], cut: &Cut, workers: u32) -> Result<Found, RunError> {
     if points.len() > POINT_LIMIT as usize {
         return Ok(None);
     }
@@ -156,19 +151,13 @@ fn assert_ends(rt: &impl Host, points: &[Point], rows: &[(u32, u64, Mark)]) -> R
 
 /// Blocks whose first ids show that the tree does not pay, a block whose ids all have to be tested, then blocks for
 /// which the first two joined ones show it, and the first four.
-const PARABOLOID_ENDS: [(u32, u64, Mark); 4] = [
-    (2048, 1, Mark::GaveUp),
-    (1024, 1, Mark::GaveUp),
-    (512, 2, Mark::GaveUp),
-    (256, 4, Mark::GaveUp),
+const PARABOLOID_ENDS: [(u32, u64, Mark); 4] = table![
+    (2048, 1, Mark::GaveUp); (1024, 1, Mark::GaveUp); (512, 2, Mark::GaveUp); (256, 4, Mark::GaveUp);
 ];
 
 /// A single block is processed like any other.
-const LATTICE_ENDS: [(u32, u64, Mark); 3] = [
-    (2048, 2, Mark::Left),
-    (1024, 3, Mark::Left),
-    (512, 5, Mark::Left),
-];
+const LATTICE_ENDS: [(u32, u64, Mark); 3] =
+    table![(2048, 2, Mark::Left); (1024, 3, Mark::Left); (512, 5, Mark::Left);];
 
 #[test]
 fn gives_up_where_the_tree_does_not_pay(rt: HostRuntime) -> Result<(), Fail> {
@@ -204,8 +193,7 @@ fn refuses_no_workers_and_too_many(rt: HostRuntime) -> Result<(), Fail> {
     for cut in &cuts_of(rt.alloc(), 18)? {
         for workers in [0, 65, 4294967295] {
             let refused = hull_by(&rt, &points, cut, workers).err();
-            let want = Some(RunError::BadWorkers);
-            assert_eq!(rt; refused, want, "{workers} workers, {cut:?}");
+            assert_eq!(rt; refused, Some(RunError::BadWorkers), "{workers}, {cut:?}");
         }
     }
     Ok(())

@@ -31,7 +31,7 @@ pub const SUMMARY: Asked<'static> = Asked {
     form: Form::Qhull,
 };
 
-/// The parts of [`SUMMARY`], with another output.
+/// The parts of [`SUMMARY`], with other outputs.
 macro_rules! asked_for {
     ($($out:ident),*) => { Asked { outs: &[$(Out::$out),*], ..SUMMARY } };
 }
@@ -60,12 +60,7 @@ impl Asked<'_> {
     }
 
     /// Returns the outcome of `answer` for an input. The gate observes the workers.
-    pub fn answered<G: Gate>(
-        &self,
-        rt: &impl Host,
-        input: &[u8],
-        gate: &G,
-    ) -> Result<Outcome, Fail> {
+    pub fn answered<G: Gate>(&self, rt: &impl Host, input: &[u8], gate: &G) -> Answered {
         let settings = self.settings(rt.alloc())?;
         let text = answer(rt, rt.alloc(), input, &settings, gate);
         let text = text.as_ref().map(|text| text.as_slice());
@@ -73,7 +68,7 @@ impl Asked<'_> {
     }
 
     /// Returns the outcome of `serve` for an input, with devices in memory. The gate observes the workers.
-    pub fn served<G: Gate>(&self, rt: &impl Host, input: &[u8], gate: &G) -> Result<Outcome, Fail> {
+    pub fn served<G: Gate>(&self, rt: &impl Host, input: &[u8], gate: &G) -> Answered {
         let settings = self.settings(rt.alloc())?;
         let (mut source, mut sink) = (MemSource::new(input), MemSink::new(rt.alloc()));
         let sent = serve(rt, rt.alloc(), &mut source, &mut sink, &settings, gate);
@@ -92,6 +87,9 @@ pub struct Outcome {
     /// The exit status.
     pub status: u8,
 }
+
+/// The outcome of a call, unless the settings are refused.
+pub type Answered = Result<Outcome, Fail>;
 
 /// The expected values of an outcome: its output, its error and its status.
 pub type Told<'a> = (&'a str, &'a str, u8);
@@ -120,12 +118,8 @@ impl Outcome {
 }
 
 /// Appends a point to the text of a point file, as a line.
-pub fn push_point(
-    text: &mut String,
-    alloc: Global,
-    coordinates: [i64; 3],
-) -> Result<(), AllocError> {
-    for coordinate in coordinates {
+pub fn push_point(text: &mut String, alloc: Global, point: [i64; 3]) -> Result<(), AllocError> {
+    for coordinate in point {
         text.push_str(coordinate.to_string(alloc)?.as_str())?;
         text.push_str(" ")?;
     }

@@ -2,7 +2,6 @@
 
 mod devices;
 mod faults;
-mod hostile;
 mod limits;
 mod near_flat_sets;
 mod off_files;

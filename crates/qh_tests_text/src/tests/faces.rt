@@ -5,12 +5,11 @@ use qh_model::ReadFault;
 use qh_read::faces::{Layout, Orientation, Reading, read_faces};
 use std::alloc::Global;
 
-/// Returns the reading of a file with this layout and this direction of its faces.
-fn reading(layout: Layout, orientation: Orientation) -> Reading {
-    Reading {
-        layout,
-        orientation,
-    }
+/// The reading of a file with this layout and this direction of its faces.
+macro_rules! reading {
+    ($layout:ident, $orientation:ident) => {
+        Reading { layout: Layout::$layout, orientation: Orientation::$orientation }
+    };
 }
 
 /// Returns true if a text has these faces, in this order.
@@ -27,21 +26,19 @@ const OFF: &str =
 
 #[test]
 fn colours_are_passed_over(rt: HostRuntime) {
-    let reading = reading(Layout::Off, Orientation::Counterclockwise);
-    let holds = has(rt.alloc(), OFF, reading, &faces_of![0 1 2, 2 1 0]);
-    assert!(rt; holds);
+    let reading = reading!(Off, Counterclockwise);
+    assert!(rt; has(rt.alloc(), OFF, reading, &faces_of![0 1 2, 2 1 0]));
 }
 
 #[test]
 fn clockwise_lines_are_turned(rt: HostRuntime) {
-    let reading = reading(Layout::Lines, Orientation::Clockwise);
-    let holds = has(rt.alloc(), "1\n7 8 9 \n", reading, &[&[9, 8, 7]]);
-    assert!(rt; holds);
+    let reading = reading!(Lines, Clockwise);
+    assert!(rt; has(rt.alloc(), "1\n7 8 9 \n", reading, &[&[9, 8, 7]]));
 }
 
 #[test]
 fn a_word_that_is_no_number_has_its_line_told(rt: HostRuntime) {
-    let reading = reading(Layout::Counted, Orientation::Counterclockwise);
+    let reading = reading!(Counted, Counterclockwise);
     let fault = read_faces(rt.alloc(), b"2\n3 0 1 2\n3 0 1 -2\n", reading).err();
     assert_eq!(rt; fault, Some(ReadFault::BadNumber(3)));
 }

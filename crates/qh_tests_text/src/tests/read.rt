@@ -1,14 +1,6 @@
 //! Rows: the result for each text, for each way to read it.
 ghost use Rattle.std.specs.Prelude.{◌-◌, ◌^◌, ◌<◌};
 
-mod numbers;
-mod pieces;
-mod readers;
-mod refusals;
-mod rows;
-mod sources;
-mod threads;
-
 use qh_fixtures::{Host, table};
 use qh_model::{Form, Point};
 use qh_read::fakes::FailSource;
@@ -23,6 +15,9 @@ type Place = (i32, i32, i32);
 
 /// The points of the tetrahedron file.
 const TETRAHEDRON: [Place; 4] = [(0, 0, 0), (1, 0, 0), (0, 1, 0), (0, 0, 1)];
+
+/// The result of a reading.
+type Outcome = Result<Vec<Point>, ReadFault>;
 
 /// The expected result of a reading: exactly these points, in this order, or this fault.
 type Wanted<'a> = Result<&'a [Place], ReadFault>;
@@ -44,33 +39,32 @@ enum Way {
     Threads(Sizes),
 }
 
-/// Sizes of a few bytes.
-const SMALL: [Sizes; 6] = table![
-    Sizes { start: 0, batch: 1, segments: 2, threads: 2 };
-    Sizes { start: 0, batch: 16, segments: 1, threads: 3 };
-    Sizes { start: 16, batch: 64, segments: 1, threads: 2 };
-    Sizes { start: 0, batch: 151, segments: 2, threads: 4 };
-    Sizes { start: 7, batch: 230, segments: 3, threads: 1 };
-    Sizes { start: 0, batch: 4096, segments: 4, threads: 3 };
-];
-
-/// Returns these sizes.
-fn sizes(start: u32, batch: usize, segments: usize, threads: usize) -> Sizes {
-    Sizes {
-        start,
-        batch,
-        segments,
-        threads,
-    }
+/// The sizes with this start, batch and number of segments, and this number of threads.
+macro_rules! sizes {
+    ($start:expr, $batch:expr, $segments:expr, $threads:expr) => {
+        Sizes { start: $start, batch: $batch, segments: $segments, threads: $threads }
+    };
 }
 
+mod numbers;
+mod pieces;
+mod refusals;
+mod rows;
+mod sources;
+mod threads;
+
+/// Sizes of a few bytes.
+const SMALL: [Sizes; 6] = table![
+    sizes!(0, 1, 2, 2); sizes!(0, 16, 1, 3); sizes!(16, 64, 1, 2); sizes!(0, 151, 2, 4); sizes!(7, 230, 3, 1);
+    sizes!(0, 4096, 4, 3);
+];
+
 /// Returns true if a reading gave what is expected.
-fn gave(outcome: &Result<Vec<Point>, ReadFault>, want: Wanted) -> bool {
+fn gave(outcome: &Outcome, want: Wanted) -> bool {
     match (outcome, want) {
         (Ok(points), Ok(places)) => {
-            points.len() == places.len()
-                && points.iter().zip(places).all(|(point, place)| (point.x(), point.y(), point.z())
-                    == *place)
+            let mut both = points.iter().zip(places);
+            points.len() == places.len() && both.all(|(p, place)| (p.x(), p.y(), p.z()) == *place)
         }
         (Err(found), Err(fault)) => *found == fault,
         _ => false,
@@ -78,26 +72,13 @@ fn gave(outcome: &Result<Vec<Point>, ReadFault>, want: Wanted) -> bool {
 }
 
 /// Asserts the result of a reading. A failure names the text and the way.
-fn assert_gave(
-    rt: &impl Host,
-    outcome: Result<Vec<Point>, ReadFault>,
-    want: Wanted,
-    text: &str,
-    way: Way,
-) {
-    assert!(rt;
-        gave(&outcome, want),
-        "{text:?}, {way:?}: {:?}",
-        outcome.err()
-    );
+fn assert_gave(rt: &impl Host, outcome: Outcome, want: Wanted, text: &str, way: Way) {
+    let gave = gave(&outcome, want);
+    assert!(rt; gave, "{text:?}, {way:?}: {:?}", outcome.err());
 }
 
 /// Returns the result of reading a source of this form.
-fn read_source<S: Source>(
-    alloc: Global,
-    form: Form,
-    source: &mut S,
-) -> Result<Vec<Point>, ReadFault>
+fn read_source<S: Source>(alloc: Global, form: Form, source: &mut S) -> Outcome
     requires { S.failure_count source.old < 2 ^ 64 - 1 }
 {
     match form {
@@ -107,7 +88,7 @@ fn read_source<S: Source>(
 }
 
 /// Returns the result of reading these bytes in this way.
-fn read(rt: &impl Host, form: Form, bytes: &[u8], way: Way) -> Result<Vec<Point>, ReadFault> {
+fn read(rt: &impl Host, form: Form, bytes: &[u8], way: Way) -> Outcome {
     let alloc = rt.alloc();
     match way {
         Way::Whole if form == Form::Off => read_off(alloc, bytes),
@@ -177,7 +158,7 @@ fn assert_full(rt: &impl Host, reader: &mut Reader) {
 }
 
 /// Returns the result of reading these bytes, cut in two.
-fn read_cut(alloc: Global, form: Form, bytes: &[u8], at: usize) -> Result<Vec<Point>, ReadFault> {
+fn read_cut(alloc: Global, form: Form, bytes: &[u8], at: usize) -> Outcome {
     let (front, back) = bytes.split_at(at.min(bytes.len()));
     let mut reader = reader_of(alloc, form);
     reader.feed(front)?;
@@ -186,12 +167,7 @@ fn read_cut(alloc: Global, form: Form, bytes: &[u8], at: usize) -> Result<Vec<Po
 }
 
 /// Returns the result of reading these bytes in pieces of this length, at least 1.
-fn read_in_pieces(
-    alloc: Global,
-    form: Form,
-    bytes: &[u8],
-    length: usize,
-) -> Result<Vec<Point>, ReadFault> {
+fn read_in_pieces(alloc: Global, form: Form, bytes: &[u8], length: usize) -> Outcome {
     let mut reader = reader_of(alloc, form);
     for piece in bytes.chunks(length.max(1)) {
         reader.feed(piece)?;

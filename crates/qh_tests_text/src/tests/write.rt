@@ -9,6 +9,17 @@ use qh_write::{MemSink, Out, SendFault, Sink, StdSink, send, text};
 use std::alloc::Global;
 use std::test::Fail;
 
+/// The hull of so many given and distinct points; its dimension, extreme ids, faces and number of edges.
+macro_rules! hull {
+    ($given:expr, $distinct:expr; $dim:expr, $extremes:expr, $polygons:expr, $edges:expr) => {
+        Hull {
+            given: $given,
+            distinct: $distinct,
+            body: Body { dim: $dim, extremes: $extremes, polygons: $polygons, edges: $edges },
+        }
+    };
+}
+
 mod many_points;
 mod refusals;
 mod writers;
@@ -21,26 +32,14 @@ fn one_point(alloc: Global) -> Result<Hull, Memory>
     let face = Vec::from_array(alloc, [Id::new(0)])?;
     let mut polygons = Vec::new(alloc);
     polygons.push(Polygon::of(face))?;
-    let body = Body {
-        dim: 0,
-        extremes,
-        polygons,
-        edges: 0,
-    };
-    Ok(Hull {
-        given: 1,
-        distinct: 1,
-        body,
-    })
+    Ok(hull!(1, 1; 0, extremes, polygons, 0))
 }
 
 /// The texts of the hull of the point (5, 5, 5).
 const TEXTS: [(&[Out], &str); 2] = table![
     (&[Out::Rank, Out::Fx, Out::Off, Out::OffTriangles, Out::Rank], "1 1 0\n1\n0\nOFF\n1 1 0\n5 5 5\n1 0\nOFF\n1 1 0\n5 5 5\n1 0\n1 1 0\n");
-    (
-        &[Out::Summary],
-        "Convex hull of 1 points in 3-d:\n  dimension: 0\n  distinct points: 1\n  extreme points: 1\n  facets: 1\n  edges: 0\n",
-    );
+    (&[Out::Summary],
+        "Convex hull of 1 points in 3-d:\n  dimension: 0\n  distinct points: 1\n  extreme points: 1\n  facets: 1\n  edges: 0\n");
 ];
 
 #[test]
@@ -53,13 +52,11 @@ fn texts_of_one_point(rt: HostRuntime) -> Result<(), Fail> {
     Ok(())
 }
 
-fn plan(greatest_piece: usize, room: usize) -> SinkPlan {
-    SinkPlan {
-        greatest_piece,
-        room,
-        failing_write: None,
-        flush_fails: false,
-    }
+/// The plan of a sink with this greatest piece and this room, whose write with a number fails, or whose flush.
+macro_rules! plan {
+    ($piece:expr, $room:expr, $failing_write:expr, $flush_fails:expr) => {
+        SinkPlan { greatest_piece: $piece, room: $room, failing_write: $failing_write, flush_fails: $flush_fails }
+    };
 }
 
 /// Asserts the result of sending the tetrahedron to a device that fails according to a plan: `send` returns `want`, the
@@ -69,36 +66,26 @@ fn assert_sent(rt: &impl Host, plan: SinkPlan, want: Result<(), SendFault>, leng
     let mut sink = FailSink::new(rt.alloc(), plan);
     let answer = send(&mut sink, bytes);
     let kept = (sink.bytes().len(), bytes.starts_with(sink.bytes()));
-    let failures = u64::from(want.is_err());
-    assert_eq!(rt;
-        (answer, kept, sink.failures()),
-        (want, (length, true), failures),
-        "{plan:?}"
-    );
+    let found = (answer, kept, sink.failures());
+    let want = (want, (length, true), u64::from(want.is_err()));
+    assert_eq!(rt; found, want, "{plan:?}");
 }
 
 #[test]
 fn sends_all(rt: HostRuntime) {
     for piece in [1usize, 7, 65, 66, 100] {
-        assert_sent(&rt, plan(piece, 66), Ok(()), 66);
+        assert_sent(&rt, plan!(piece, 66, None, false), Ok(()), 66);
     }
 }
 
 #[test]
 fn sends_a_beginning(rt: HostRuntime) {
     for k in 1..67usize {
-        let failing = SinkPlan {
-            failing_write: Some(k as u64),
-            ..plan(1, 66)
-        };
-        assert_sent(&rt, failing, Err(SendFault), k - 1);
+        let plan = plan!(1, 66, Some(k as u64), false);
+        assert_sent(&rt, plan, Err(SendFault), k - 1);
     }
-    assert_sent(&rt, plan(100, 7), Err(SendFault), 7);
-    let stuck = SinkPlan {
-        flush_fails: true,
-        ..plan(100, 66)
-    };
-    assert_sent(&rt, stuck, Err(SendFault), 66);
+    assert_sent(&rt, plan!(100, 7, None, false), Err(SendFault), 7);
+    assert_sent(&rt, plan!(100, 66, None, true), Err(SendFault), 66);
 }
 
 #[test]

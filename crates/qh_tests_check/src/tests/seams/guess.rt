@@ -29,16 +29,11 @@ fn first_part(alloc: Global) -> Result<Option<Found>, Memory> {
     let Some(halves) = halves_of(alloc, &pts)? else {
         return Ok(None);
     };
-    let set = Divided {
-        pts: &pts,
-        parts: &halves.parts,
-        shared: &halves.shared,
-    };
-    let (marks, is_worth) = first_marks(alloc, set)?;
+    let (pts, parts, shared) = (&pts, &halves.parts, &halves.shared);
+    let (marks, is_worth) = first_marks(alloc, Divided { pts, parts, shared })?;
     let staying = marks.stay.iter().filter(|stays| **stays).count();
-    let witnessed = count(&marks.runs);
     let beside = rising_ids(alloc, &marks.seam)?.len();
-    Ok(Some((staying, witnessed, beside, is_worth)))
+    Ok(Some((staying, count(&marks.runs), beside, is_worth)))
 }
 
 #[test]
@@ -81,8 +76,7 @@ fn four_squares_are_between_two(rt: HostRuntime) -> Result<(), Fail> {
 
 #[test]
 fn no_face_has_a_diagonal(rt: HostRuntime) -> Result<(), Fail> {
-    let found = bridged(rt.alloc(), &[&[0, 7, 1]])?;
-    assert!(rt; found.is_none());
+    assert!(rt; bridged(rt.alloc(), &[&[0, 7, 1]])?.is_none());
     Ok(())
 }
 
@@ -96,8 +90,7 @@ fn first_four_shared_corners_are_solid(rt: HostRuntime) -> Result<(), Fail> {
     };
     let four = [i.number(), j.number(), k.number(), l.number()];
     let corners = ids_of(rt.alloc(), &pts, &four)?;
-    let again = shared_ids(rt.alloc(), &pts, &corners)?;
-    assert!(rt; again.is_some());
+    assert!(rt; shared_ids(rt.alloc(), &pts, &corners)?.is_some());
     Ok(())
 }
 

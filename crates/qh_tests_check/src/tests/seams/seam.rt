@@ -32,36 +32,28 @@ fn first_faces(alloc: Global, marking: Marking) -> Result<Option<PartedFaces>, M
     if parts.len() < 2 {
         return Ok(None);
     }
-    let set = Divided {
-        pts: &pts,
-        parts,
-        shared: &halves.shared,
-    };
+    let (pts, shared) = (&pts, &halves.shared);
+    let set = Divided { pts, parts, shared };
     let (Marks { stay, runs, .. }, _) = first_marks(alloc, set)?;
     let stay = match marking {
         Marking::Guessed => stay,
         Marking::All => vec![in alloc; true; stay.len()]?,
     };
-    let guess = Guess {
-        stay: &stay,
-        runs: &runs,
-    };
-    staying_faces(alloc, set, 0, guess)
+    let (stay, runs) = (&stay, &runs);
+    staying_faces(alloc, set, 0, Guess { stay, runs })
 }
 
 #[test]
 fn the_first_part_gives_out_its_square(rt: HostRuntime) -> Result<(), Fail> {
     let faces = first_faces(rt.alloc(), Marking::Guessed)?.ok_or("a part that is refused")?;
     let stay = faces.chosen.sorted(rt.alloc())?;
-    let told = are_round(&stay, &CUBE_FACES[..1]) && !faces.others.is_empty();
-    assert!(rt; told);
+    assert!(rt; are_round(&stay, &CUBE_FACES[..1]) && !faces.others.is_empty());
     Ok(())
 }
 
 #[test]
 fn facets_that_others_see_do_not_stay(rt: HostRuntime) -> Result<(), Fail> {
-    let faces = first_faces(rt.alloc(), Marking::All)?;
-    assert!(rt; faces.is_none());
+    assert!(rt; first_faces(rt.alloc(), Marking::All)?.is_none());
     Ok(())
 }
 
@@ -122,8 +114,7 @@ fn a_gap_is_not_joined(rt: HostRuntime) -> Result<(), Fail> {
     let (first, others) = (&CUBE_FACES[..1], &CUBE_FACES[1..]);
     let open = cube_with(&rt, rt.alloc(), first, others, &CUBE_FACES[2..])?;
     assert!(rt; open.is_none());
-    let none = cube_with(&rt, rt.alloc(), &[], &[], &[])?;
-    assert!(rt; none.is_none());
+    assert!(rt; cube_with(&rt, rt.alloc(), &[], &[], &[])?.is_none());
     Ok(())
 }
 

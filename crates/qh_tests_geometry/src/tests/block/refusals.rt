@@ -12,8 +12,7 @@ use std::test::Fail;
 
 /// Returns true if the result is a surface; `None` if the points are flat. Repeats the call if an allocation failed.
 fn has_surface(alloc: Global, pts: &[Point]) -> Result<Option<bool>, Memory> {
-    let mesh = again!(solid_surface(alloc, pts), Memory);
-    let Some(mesh) = mesh? else {
+    let Some(mesh) = again!(solid_surface(alloc, pts), Memory)? else {
         return Ok(None);
     };
     let list = again!(triangles(alloc, &mesh), AllocError)?;
@@ -23,21 +22,14 @@ fn has_surface(alloc: Global, pts: &[Point]) -> Result<Option<bool>, Memory> {
 /// Returns true if the hull, the extreme ids and the surface are those of a row. Repeats each call that fails.
 fn comes_out_right(alloc: Global, pts: &[Point], row: &Row) -> Result<bool, Fail> {
     let (body, corners) = again!(hull_of(alloc, pts), Memory)?.ok_or("no points")?;
-    let surface = has_surface(alloc, pts)?;
-    let wanted = (row.dim == 3).then_some(true);
-    Ok(is(&body, row) && are(&corners, row.extremes) && surface == wanted)
+    let is_right = has_surface(alloc, pts)? == (row.dim == 3).then_some(true);
+    Ok(is_right && is(&body, row) && are(&corners, row.extremes))
 }
 
 #[test]
 fn tries_again(rt: HostRuntime) -> Result<(), Fail> {
-    let (square, cube, octahedron) = (square(), cube(0, 1), octahedron());
-    for (pts, row) in [
-        (square.as_slice(), &SQUARE),
-        (cube.as_slice(), &CUBE),
-        (octahedron.as_slice(), &OCTAHEDRON),
-    ] {
-        let right = comes_out_right(rt.alloc(), pts, row)?;
-        assert!(rt; right, "{} points", pts.len());
-    }
+    assert!(rt; comes_out_right(rt.alloc(), &square(), &SQUARE)?);
+    assert!(rt; comes_out_right(rt.alloc(), &cube(0, 1), &CUBE)?);
+    assert!(rt; comes_out_right(rt.alloc(), &octahedron(), &OCTAHEDRON)?);
     Ok(())
 }

@@ -3,8 +3,8 @@
 
 use crate::tests::distinct_ids;
 use qh_block::surface;
-use qh_fixtures::Host;
-use qh_fixtures::points::{LIMIT, cube, grid, octahedron, paraboloid, tetrahedron};
+use qh_fixtures::points::{LIMIT, cube, grid, octahedron, paraboloid, point, tetrahedron};
+use qh_fixtures::{Host, table};
 use qh_mesh::Mesh;
 use qh_model::{Memory, Point};
 use qh_polygon::{Shape, rank};
@@ -78,17 +78,9 @@ fn corner_count(alloc: Global, triangles: &[Triangle]) -> Result<usize, AllocErr
 }
 
 /// Returns true if the triangles close up, support all points, and their number is 2 V - 4, as on a sphere.
-pub fn is_surface(
-    alloc: Global,
-    pts: &[Point],
-    triangles: &[Triangle],
-) -> Result<bool, AllocError> {
-    let corners = corner_count(alloc, triangles)?;
-    Ok(
-        closes(alloc, triangles)?
-            && triangles.iter().all(|t| supports(pts, *t))
-            && triangles.len().checked_add(4) == corners.checked_mul(2),
-    )
+pub fn is_surface(alloc: Global, pts: &[Point], list: &[Triangle]) -> Result<bool, AllocError> {
+    let is_sphere = list.len().checked_add(4) == corner_count(alloc, list)?.checked_mul(2);
+    Ok(is_sphere && closes(alloc, list)? && list.iter().all(|t| supports(pts, *t)))
 }
 
 /// Returns the numbers of triangles and of corners of the surface of a solid set, and asserts that it is a surface.
@@ -109,38 +101,50 @@ fn corner_tetrahedron(rt: HostRuntime) -> Result<(), Fail> {
 
 #[test]
 fn cubes(rt: HostRuntime) -> Result<(), Fail> {
-    for (low, high, times) in [
-        (0, 1, 1),
-        (0, 1, 2),
-        (-1048576, 1048576, 1),
-        (-LIMIT, LIMIT, 1),
-    ] {
+    let rows = table![(0, 1, 1); (0, 1, 2); (-1048576, 1048576, 1); (-LIMIT, LIMIT, 1);];
+    for (low, high, times) in rows {
         let mut pts = Vec::new(rt.alloc());
         for _ in 0..times {
             pts.extend_from_slice(&cube(low, high))?;
         }
         let counts = counts_of(&rt, &pts)?;
-        assert_eq!(rt;
-            counts,
-            (12, 8),
-            "{times} times a cube from {low} to {high}"
-        );
+        assert_eq!(rt; counts, (12, 8), "{times} times {low} to {high}");
     }
     Ok(())
 }
 
 #[test]
 fn points_within_faces(rt: HostRuntime) -> Result<(), Fail> {
-    let (_, of_lattice) = counts_of(&rt, &grid(rt.alloc(), [3; 3])?)?;
-    assert!(rt; of_lattice >= 8);
-    let (_, of_octahedron) = counts_of(&rt, &octahedron())?;
-    assert!(rt; of_octahedron >= 6);
+    assert!(rt; counts_of(&rt, &grid(rt.alloc(), [3; 3])?)?.1 >= 8);
+    assert!(rt; counts_of(&rt, &octahedron())?.1 >= 6);
     Ok(())
 }
 
 #[test]
 fn points_of_a_paraboloid(rt: HostRuntime) -> Result<(), Fail> {
-    let (_, corners) = counts_of(&rt, &paraboloid(rt.alloc(), 50, 40)?)?;
-    assert_eq!(rt; corners, 2000);
+    assert_eq!(rt; counts_of(&rt, &paraboloid(rt.alloc(), 50, 40)?)?.1, 2000);
+    Ok(())
+}
+
+/// Returns the corners of a prism over a polygon with many sides: the corners (t, t^2) of the polygon, with t from
+/// -24000 to 24000, below and then above.
+fn prism(alloc: Global) -> Result<Vec<Point>, AllocError> {
+    let mut corners = Vec::new(alloc);
+    for z in [-1_000_000_000, 1_000_000_000] {
+        for t in -24000..=24000i32 {
+            corners.push(point(t, t.wrapping_mul(t), z))?;
+        }
+    }
+    Ok(corners)
+}
+
+/// In the beginning, each end of the prism has a facet for each side. A run that gave all points to the first facet
+/// that sees them would repeatedly make a cone over all sides, two thousand million facets in total, which takes longer
+/// than a test may. A search distributes the points over the facets.
+#[test]
+fn prism_of_many_sides(rt: HostRuntime) -> Result<(), Fail> {
+    let mesh = solid_surface(rt.alloc(), &prism(rt.alloc())?)?.ok_or("a flat set")?;
+    // By Euler's formula, of 96,002 corners.
+    assert_eq!(rt; triangles(rt.alloc(), &mesh)?.len(), 192000usize);
     Ok(())
 }

@@ -16,10 +16,8 @@ fn place(mesh: &Mesh, f: FacetNo) -> Place {
     }
     let [a, b, c] = mesh.facet(f);
     let (ab, bc, ca) = (mesh.edge(f, 0), mesh.edge(f, 1), mesh.edge(f, 2));
-    Some((
-        [a.number(), b.number(), c.number()],
-        [mesh.twin(ab), mesh.twin(bc), mesh.twin(ca)],
-    ))
+    let twins = [mesh.twin(ab), mesh.twin(bc), mesh.twin(ca)];
+    Some(([a.number(), b.number(), c.number()], twins))
 }
 
 /// Returns the number of places, and the contents of the first eight.
@@ -55,7 +53,6 @@ fn steps(alloc: Global) -> Result<bool, Fail> {
 
 #[test]
 fn tries_again(rt: HostRuntime) -> Result<(), Fail> {
-    let right = steps(rt.alloc())?;
-    assert!(rt; right);
+    assert!(rt; steps(rt.alloc())?);
     Ok(())
 }

@@ -31,8 +31,7 @@ fn rising_ids_of_a_list(rt: HostRuntime) -> Result<(), Fail> {
     assert_ids(&rt, &near, &[0, 2, 7, 9]);
     let far = rising_ids(rt.alloc(), &FAR.map(Id::new))?;
     assert_ids(&rt, &far, &[9, 70_000, 1_000_000]);
-    let none = rising_ids(rt.alloc(), &[])?;
-    assert_ids(&rt, &none, &[]);
+    assert_ids(&rt, &rising_ids(rt.alloc(), &[])?, &[]);
     Ok(())
 }
 

@@ -44,9 +44,8 @@ fn left_of(alloc: Global, grid: &Grid, normal: &Normal) -> Result<usize, Memory>
 }
 
 /// Returns the polygon of a grid.
-pub fn polygon_of(alloc: Global, grid: &Grid, normal: &Normal) -> Result<Polygon, Memory> {
-    let ids = distinct_ids(alloc, grid)?;
-    polygon(alloc, grid, &ids, normal)
+pub fn grid_polygon(alloc: Global, grid: &Grid, normal: &Normal) -> Result<Polygon, Memory> {
+    polygon(alloc, grid, &distinct_ids(alloc, grid)?, normal)
 }
 
 #[test]

@@ -32,23 +32,18 @@ fn assert_first(rt: &impl Host, ids: &[Id], places: usize) {
     }
 }
 
-/// Asserts that the distinct ids, with each number of threads, with all processors and with none but the calling thread,
-/// are those of the first points, one for each of `places` places.
-fn assert_distinct(
-    rt: &impl Host,
-    pts: &[Point],
-    numbers: &[u32],
-    places: usize,
-) -> Result<(), Fail> {
+/// Asserts that the distinct ids, with each number of threads of `all`, with all processors and with none but the
+/// calling thread, are those of the first points, one for each of `places` places.
+fn assert_distinct(rt: &impl Host, pts: &[Point], all: &[u32], places: usize) -> Result<(), Fail> {
     if pts.len() > POINT_LIMIT as usize {
         return Err("too many points".into());
     }
-    let alloc = rt.alloc();
-    for threads in numbers {
-        assert_first(rt, &distinct_in_threads(rt, alloc, pts, *threads)?, places);
+    for threads in all {
+        let ids = distinct_in_threads(rt, rt.alloc(), pts, *threads)?;
+        assert_first(rt, &ids, places);
     }
-    assert_first(rt, &distinct(rt, alloc, pts)?, places);
-    assert_first(rt, &distinct_alone(alloc, pts)?, places);
+    assert_first(rt, &distinct(rt, rt.alloc(), pts)?, places);
+    assert_first(rt, &distinct_alone(rt.alloc(), pts)?, places);
     Ok(())
 }
 
@@ -64,8 +59,7 @@ fn first_of_each_place(rt: HostRuntime) -> Result<(), Fail> {
 
 #[test]
 fn first_of_each_place_of_a_grid(rt: HostRuntime) -> Result<(), Fail> {
-    let pts = (0..140_000)
-        .map(grid_place)
-        .collect::<Vec<Point>>(rt.alloc())?;
+    let places = (0..140_000).map(grid_place);
+    let pts = places.collect::<Vec<Point>>(rt.alloc())?;
     assert_distinct(&rt, &pts, &[1, 2, 4], GRID_PLACES)
 }

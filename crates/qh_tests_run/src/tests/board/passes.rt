@@ -37,10 +37,8 @@ pub struct Log {
 impl Log {
     /// Creates an empty log.
     pub fn new(alloc: Global) -> Log {
-        Log {
-            met: Vec::new(alloc),
-            joins: Vec::new(alloc),
-        }
+        let (met, joins) = (Vec::new(alloc), Vec::new(alloc));
+        Log { met, joins }
     }
 
     /// Records the lists of both children of a node.

@@ -129,28 +129,17 @@ fn assert_root(
     requires { (closed_setup closed).passes ≡ passes }
 {
     let is_whole = passes_left(&closed, passes) == passes && closed.claims() >= blocks as u64;
-    let all = blocks as usize;
-    let (want_roots, want) = if is_whole {
-        (1, Some(Some(all)))
-    } else {
-        (0, None)
-    };
-    let got = counted(got);
-    let is_once = got.is_some() && (!is_whole || got == Some(all));
+    let (all, got) = (Some(blocks as usize), counted(got));
+    let want = (true, usize::from(is_whole), is_whole.then_some(all));
+    let is_once = got.is_some() && (!is_whole || got == all);
     let found = (is_once, roots, counted_root(closed));
-    assert_eq!(rt; found, (true, want_roots, want), "{blocks} blocks");
+    assert_eq!(rt; found, want, "{blocks} blocks");
 }
 
-/// Makes the assertions of [`assert_root`] for a board whose passes run in parallel.
-fn assert_run(
-    rt: &impl Host,
-    alloc: Global,
-    blocks: u32,
-    passes: u32,
-    gives_up_at: Option<u32>,
-) -> Result<(), BoardError> {
-    let (closed, met) = run_side_by_side(rt, alloc, blocks, passes, gives_up_at)?;
-    let got = blocks_got(alloc, &met)?;
+/// Makes the assertions of [`assert_root`] for a board whose passes run in parallel; one gives up at the block `end`.
+fn assert_run(rt: &impl Host, blocks: u32, passes: u32, end: Option<u32>) -> Result<(), Fail> {
+    let (closed, met) = run_side_by_side(rt, rt.alloc(), blocks, passes, end)?;
+    let got = blocks_got(rt.alloc(), &met)?;
     let roots = met.iter().filter(|met| **met == Met::Root).count();
     assert_root(rt, closed, &got, roots, blocks, passes);
     Ok(())
@@ -160,7 +149,7 @@ fn assert_run(
 fn each_block_is_got_once_and_the_root_is_as_close_says(rt: HostRuntime) -> Result<(), Fail> {
     for run in 0..RUNS {
         let gives_up_at = if run % 3 == 0 { Some(run % 97) } else { None };
-        assert_run(&rt, rt.alloc(), 7 + run % 58, 2 + run % 7, gives_up_at)?;
+        assert_run(&rt, 7 + run % 58, 2 + run % 7, gives_up_at)?;
     }
     Ok(())
 }

@@ -4,16 +4,16 @@
 ghost use Rattle.std.specs.Prelude.{◌<◌, ◌≤◌, IfOk, length};
 ghost use Rattle.qh_model.specs.headline.DistinctIds.{AreDistinctIds};
 
-use super::finishes::Finishes;
 use super::{OCTAHEDRON_HULL, hull_by, job, numbers_of, worked_by_one};
 use qh_board::{BoardError, Mark};
 use qh_fixtures::ids::are;
 use qh_fixtures::points::{cube, octahedron, paraboloid, square};
 use qh_fixtures::{Host, again};
-use qh_model::{Cut, CutError, Id, Memory, POINT_LIMIT, Point};
+use qh_model::{Body, Cut, CutError, Id, Memory, POINT_LIMIT, Point};
 use qh_plane::distinct;
-use qh_run::{RunError, run_hull};
+use qh_run::{Gate, NoGate, RunError, run_hull};
 use std::alloc::{AllocError, Global};
+use std::sync::atomic::{AtomicU64, Ordering};
 use std::test::Fail;
 
 /// The hulls of the square and of the cube, as `numbers_of` returns them.
@@ -112,14 +112,40 @@ fn ids_again(rt: &impl Host, points: &[Point]) -> Result<Vec<Id>, Memory>
     again!(distinct(rt, rt.alloc(), points), Memory)
 }
 
+/// The number of calls of `finish`, and the number of ids that the last call was given.
+type Counts = (u64, u64);
+
+/// A gate that counts the calls of its `finish`, and the ids of the last one.
+#[derive(Drop)]
+struct Finishes {
+    calls: AtomicU64,
+    ids: AtomicU64,
+}
+
+impl Finishes {
+    /// Creates a gate that has not been called yet.
+    fn new() -> Finishes {
+        let (calls, ids) = (AtomicU64::new(0), AtomicU64::new(0));
+        Finishes { calls, ids }
+    }
+
+    fn counts(&self) -> Counts {
+        let calls = self.calls.load(Ordering::SeqCst);
+        (calls, self.ids.load(Ordering::SeqCst))
+    }
+}
+
+impl Gate for Finishes {
+    fn finish(&self, alloc: Global, pts: &[Point], ids: &[Id]) -> Result<Body, Memory> {
+        self.calls.fetch_add(1, Ordering::SeqCst);
+        self.ids.store(ids.len() as u64, Ordering::SeqCst);
+        NoGate.finish(alloc, pts, ids)
+    }
+}
+
 /// Returns how often a run over a cut of some points calls the gate's `finish`, and with how many ids at last, whether
 /// the run succeeds or not.
-fn finishes_of(
-    rt: &impl Host,
-    points: &[Point],
-    cut: &Cut,
-    workers: u32,
-) -> Result<(u64, u64), Fail> {
+fn finishes_of(rt: &impl Host, points: &[Point], cut: &Cut, workers: u32) -> Result<Counts, Fail> {
     if points.len() > POINT_LIMIT as usize {
         return Err("too many points".into());
     }
@@ -135,10 +161,9 @@ fn finishes_of(
 
 #[test]
 fn finishes_once(rt: HostRuntime) -> Result<(), Fail> {
-    let octahedron = octahedron();
     let cut = cut_again(rt.alloc(), 18, 3)?;
     for workers in [1, 2, 7] {
-        let (calls, _) = finishes_of(&rt, &octahedron, &cut, workers)?;
+        let (calls, _) = finishes_of(&rt, &octahedron(), &cut, workers)?;
         assert_eq!(rt; calls, 1, "{workers} workers");
     }
     Ok(())

@@ -18,30 +18,21 @@ const FREE: SinkPlan = SinkPlan {
     flush_fails: false,
 };
 
-/// The greatest number of bytes of a read, and the number of the read that fails.
-type Reads = (usize, Option<u64>);
-
-/// Reads that never fail.
-const FREE_READS: Reads = (999, None);
+/// The plans of the devices: the greatest number of bytes of a read, the number of the read that fails, and the sink's.
+type Plans = (usize, Option<u64>, SinkPlan);
 
 /// The result of `serve`: its outcome, the bytes sent, and the numbers of failures of the source and of the sink.
 type Served<'a> = (Result<(), Fault>, &'a [u8], u64, u64);
 
-/// Asserts the result of `off` of an input with a plan of the source, and one of the sink.
-fn assert_served(
-    rt: &impl Host,
-    input: &str,
-    reads: Reads,
-    plan: SinkPlan,
-    want: Served,
-) -> Result<(), Fail> {
-    let (greatest_piece, failing_read) = reads;
+/// Asserts the result of `off` of an input with plans of the source and of the sink.
+fn assert_served(rt: &impl Host, input: &str, plans: Plans, want: Served) -> Result<(), Fail> {
+    let (greatest_piece, failing_read, plan) = plans;
     let settings = OFF.settings(rt.alloc())?;
     let mut source = FailSource::new(input.as_bytes(), greatest_piece.max(1), failing_read);
     let mut sink = FailSink::new(rt.alloc(), plan);
     let outcome = serve(rt, rt.alloc(), &mut source, &mut sink, &settings, &NoGate);
     let served = (outcome, sink.bytes(), source.failures(), sink.failures());
-    assert_eq!(rt; served, want, "{reads:?}, {plan:?}");
+    assert_eq!(rt; served, want, "{plans:?}");
     Ok(())
 }
 
@@ -52,12 +43,12 @@ const UNREAD: Served<'static> = (Err(Fault::Read(ReadFault::Device)), &[], 1, 0)
 fn a_failing_source_sends_nothing(rt: HostRuntime) -> Result<(), Fail> {
     // One byte for each read: each of the 52 bytes and the end.
     for k in 1..54u64 {
-        assert_served(&rt, CUBE, (1, Some(k)), FREE, UNREAD)?;
+        assert_served(&rt, CUBE, (1, Some(k), FREE), UNREAD)?;
     }
     let all = (Ok(()), CUBE_OFF.as_bytes(), 0, 0);
-    assert_served(&rt, CUBE, (1, Some(54)), FREE, all)?;
+    assert_served(&rt, CUBE, (1, Some(54), FREE), all)?;
     // The first read returns 4 bytes, the second fails.
-    assert_served(&rt, TETRAHEDRON, (4, Some(2)), FREE, UNREAD)
+    assert_served(&rt, TETRAHEDRON, (4, Some(2), FREE), UNREAD)
 }
 
 #[test]
@@ -71,7 +62,7 @@ fn a_failing_sink_has_a_beginning(rt: HostRuntime) -> Result<(), Fail> {
             ..FREE
         };
         let want = (Err(Fault::Send), &text[..k - 1], 0, 1);
-        assert_served(&rt, TETRAHEDRON, FREE_READS, plan, want)?;
+        assert_served(&rt, TETRAHEDRON, (999, None, plan), want)?;
     }
     Ok(())
 }
@@ -86,7 +77,7 @@ fn the_worked_failures(rt: HostRuntime) -> Result<(), Fail> {
     ];
     for (input, plan, sent) in rows {
         let want = (Err(Fault::Send), sent.as_bytes(), 0, 1);
-        assert_served(&rt, input, FREE_READS, plan, want)?;
+        assert_served(&rt, input, (999, None, plan), want)?;
     }
     Ok(())
 }

@@ -2,25 +2,21 @@
 //! when it is repeated. `scripts/trials/refusals.py` makes each allocation fail in turn.
 use crate::tests::outcomes::OFF;
 use qh_fixtures::files::{CUBE, CUBE_OFF, OCTAHEDRON, OCTAHEDRON_OFF, SQUARE, SQUARE_OFF};
-use qh_fixtures::{Host, again};
+use qh_fixtures::{Host, again, table};
 use qh_read::{MemSource, ReadFault};
 use qh_run::NoGate;
 use qh_serve::{Fault, Settings, SettingsError, answer, serve};
 use qh_write::{MemSink, Sink};
-use std::alloc::Global;
 use std::test::Fail;
 
 /// An input, the size of its blocks, and the text of `off`.
-const ROWS: [(&str, u32, &str); 3] = [
-    (SQUARE, 2, SQUARE_OFF),
-    (CUBE, 2, CUBE_OFF),
-    (OCTAHEDRON, 3, OCTAHEDRON_OFF),
-];
+const ROWS: [(&str, u32, &str); 3] =
+    table![(SQUARE, 2, SQUARE_OFF); (CUBE, 2, CUBE_OFF); (OCTAHEDRON, 3, OCTAHEDRON_OFF);];
 
 /// Returns true if `answer` returns this text. Repeats the call if an allocation failed.
-fn answers(rt: &impl Host, alloc: Global, input: &[u8], settings: &Settings, want: &[u8]) -> bool {
+fn answers(rt: &impl Host, input: &[u8], settings: &Settings, want: &[u8]) -> bool {
     let text = again!(
-        answer(rt, alloc, input, settings, &NoGate),
+        answer(rt, rt.alloc(), input, settings, &NoGate),
         Fault::Read(ReadFault::Memory)
     );
     text.is_ok_and(|text| text.as_slice() == want)
@@ -37,16 +33,9 @@ enum Served {
     Wrong,
 }
 
-fn served_once(
-    rt: &impl Host,
-    alloc: Global,
-    input: &[u8],
-    settings: &Settings,
-    want: &[u8],
-) -> Served {
-    let mut source = MemSource::new(input);
-    let mut sink = MemSink::new(alloc);
-    let outcome = serve(rt, alloc, &mut source, &mut sink, settings, &NoGate);
+fn served_once(rt: &impl Host, input: &[u8], settings: &Settings, want: &[u8]) -> Served {
+    let (mut source, mut sink) = (MemSource::new(input), MemSink::new(rt.alloc()));
+    let outcome = serve(rt, rt.alloc(), &mut source, &mut sink, settings, &NoGate);
     let (failures, sent) = (sink.failures(), sink.bytes());
     match outcome {
         Ok(()) if failures == 0 && sent == want => Served::Right,
@@ -58,18 +47,15 @@ fn served_once(
 
 /// Returns true if each row comes out right, by `answer` and by `serve`.
 fn rows_come_out_right(rt: &impl Host, workers: u32) -> Result<bool, Fail> {
-    let alloc = rt.alloc();
     for (input, block, want) in ROWS {
         let (input, want) = (input.as_bytes(), want.as_bytes());
-        let settings = again!(
-            OFF.by(workers, block).settings(alloc),
-            SettingsError::Memory
-        )?;
-        if !answers(rt, alloc, input, &settings, want) {
+        let asked = OFF.by(workers, block);
+        let settings = again!(asked.settings(rt.alloc()), SettingsError::Memory)?;
+        if !answers(rt, input, &settings, want) {
             return Ok(false);
         }
-        let served = match served_once(rt, alloc, input, &settings, want) {
-            Served::Refused => served_once(rt, alloc, input, &settings, want),
+        let served = match served_once(rt, input, &settings, want) {
+            Served::Refused => served_once(rt, input, &settings, want),
             served => served,
         };
         if served != Served::Right {

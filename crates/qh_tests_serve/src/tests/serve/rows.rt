@@ -15,18 +15,12 @@ const FIVE_IN_LINE: &str = "3\n5\n1 1 1\n0 0 0\n4 4 4\n2 2 2\n3 3 3\n";
 /// Settings, an input and its text, for points in one plane.
 const ROWS: [(Asked, &str, &str); 13] = table![
     (Asked { outs: &[Out::Rank, Out::Fx, Out::Off, Out::Rank], ..SUMMARY }, ONE_POINT, "1 1 0\n1\n0\nOFF\n1 1 0\n5 5 5\n1 0\n1 1 0\n");
-    (
-        SUMMARY,
-        ONE_POINT,
-        "Convex hull of 1 points in 3-d:\n  dimension: 0\n  distinct points: 1\n  extreme points: 1\n  facets: 1\n  edges: 0\n",
-    );
+    (SUMMARY, ONE_POINT,
+        "Convex hull of 1 points in 3-d:\n  dimension: 0\n  distinct points: 1\n  extreme points: 1\n  facets: 1\n  edges: 0\n");
     (OFF, "3 2\n0 0 0\n2 2 2\n", "OFF\n2 1 1\n0 0 0\n2 2 2\n2 0 1\n");
     (Asked { outs: &[Out::Fx, Out::Off], ..SUMMARY }, FIVE_IN_LINE, "2\n1\n2\nOFF\n2 1 1\n0 0 0\n4 4 4\n2 0 1\n");
-    (
-        SUMMARY,
-        FIVE_IN_LINE,
-        "Convex hull of 5 points in 3-d:\n  dimension: 1\n  distinct points: 5\n  extreme points: 2\n  facets: 1\n  edges: 1\n",
-    );
+    (SUMMARY, FIVE_IN_LINE,
+        "Convex hull of 5 points in 3-d:\n  dimension: 1\n  distinct points: 5\n  extreme points: 2\n  facets: 1\n  edges: 1\n");
     (OFF, "+3 01\n-0 +0 0005\n", "OFF\n1 1 0\n0 0 5\n1 0\n");
     (Asked { outs: &[Out::Rank, Out::Fx], ..SUMMARY }, "3\n3\n7 7 7\n7 7 7\n7 7 7\n", "3 1 0\n1\n0\n");
     (OFF, SQUARE, SQUARE_OFF);

@@ -5,7 +5,7 @@
 ghost use Rattle.std.specs.Prelude.{◌≤◌, length};
 ghost use Rattle.qh_model.specs.declared.limits.TheConstants.{POINT_LIMIT};
 
-use crate::tests::outcomes::{Asked, OFF, Outcome};
+use crate::tests::outcomes::{Answered, Asked, OFF, Outcome};
 use qh_fixtures::Host;
 use qh_fixtures::files::{OCTAHEDRON, OCTAHEDRON_OFF};
 use qh_fixtures::ids::are;
@@ -47,11 +47,8 @@ struct Hold {
 
 impl Hold {
     fn new(holds: Holds) -> Hold {
-        Hold {
-            holds,
-            came: AtomicU64::new(0),
-            late: AtomicU64::new(0),
-        }
+        let (came, late) = (AtomicU64::new(0), AtomicU64::new(0));
+        Hold { holds, came, late }
     }
 
     /// Counts an event.
@@ -143,7 +140,7 @@ fn text_by<G: Gate>(
 }
 
 /// Returns the outcome of `run_hull`, observed by a gate.
-fn hulled_by<G: Gate>(rt: &impl Host, asked: Asked, gate: &G) -> Result<Outcome, Fail> {
+fn hulled_by<G: Gate>(rt: &impl Host, asked: Asked, gate: &G) -> Answered {
     let alloc = rt.alloc();
     let settings = asked.settings(alloc)?;
     match text_by(rt, alloc, &octahedron(), &settings, gate) {
@@ -154,13 +151,8 @@ fn hulled_by<G: Gate>(rt: &impl Host, asked: Asked, gate: &G) -> Result<Outcome,
 }
 
 /// Returns the outcome of a call on the points with settings, observed by a gate.
-pub(super) fn outcome_by<G: Gate>(
-    rt: &impl Host,
-    watched: Watched,
-    asked: Asked,
-    gate: &G,
-) -> Result<Outcome, Fail> {
-    match watched {
+pub(super) fn outcome_by<G: Gate>(rt: &impl Host, by: Watched, asked: Asked, gate: &G) -> Answered {
+    match by {
         Watched::RunHull => hulled_by(rt, asked, gate),
         Watched::Answer => asked.answered(rt, OCTAHEDRON.as_bytes(), gate),
         Watched::Serve => asked.served(rt, OCTAHEDRON.as_bytes(), gate),

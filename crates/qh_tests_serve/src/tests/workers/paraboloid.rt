@@ -32,15 +32,13 @@ pub fn points(alloc: Global, count: u32) -> Result<String, AllocError> {
 #[test]
 fn has_one_text_in_all_settings(rt: HostRuntime) -> Result<(), Fail> {
     let input = points(rt.alloc(), 20000)?;
-    let first = OUTPUTS
-        .by(1, 20000)
-        .answered(&rt, input.as_bytes(), &NoGate)?;
-    assert!(rt; first.output.starts_with(BEGINNING));
+    let asked = OUTPUTS.by(1, 20000);
+    let whole = asked.answered(&rt, input.as_bytes(), &NoGate)?;
+    assert!(rt; whole.output.starts_with(BEGINNING));
     for (workers, block) in [(2, 4096), (7, 4), (64, 4096)] {
-        let outcome = OUTPUTS
-            .by(workers, block)
-            .answered(&rt, input.as_bytes(), &NoGate)?;
-        assert!(rt; outcome.output == first.output, "{workers} workers");
+        let asked = OUTPUTS.by(workers, block);
+        let outcome = asked.answered(&rt, input.as_bytes(), &NoGate)?;
+        assert!(rt; outcome.output == whole.output, "{workers} workers");
     }
     Ok(())
 }
@@ -68,12 +66,9 @@ fn has_the_same_text_by_parts(rt: HostRuntime) -> Result<(), Fail> {
     let input = points(rt.alloc(), 70000)?;
     let asked = OUTPUTS.by(4, 4096);
     let whole = asked.answered(&rt, input.as_bytes(), &NoGate)?;
-    let gate = Threaded {
-        rt: &rt,
-        threads: 4,
-    };
-    let by_parts = asked.answered(&rt, input.as_bytes(), &gate)?;
-    let holds = whole.output.starts_with(LARGE_BEGINNING) && by_parts.output == whole.output;
-    assert!(rt; holds);
+    assert!(rt; whole.output.starts_with(LARGE_BEGINNING));
+    let (rt, threads) = (&rt, 4);
+    let by_parts = asked.answered(rt, input.as_bytes(), &Threaded { rt, threads })?;
+    assert!(rt; by_parts.output == whole.output);
     Ok(())
 }

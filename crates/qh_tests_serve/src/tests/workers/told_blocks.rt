@@ -55,11 +55,9 @@ impl Keeper {
 
     /// Returns true if each block was claimed once and then delivered once, by the same pass.
     fn was_told_right(&self) -> bool {
+        let mut blocks = self.blocks.iter();
         self.wrong.load(Ordering::SeqCst) == 0
-            && self
-                .blocks
-                .iter()
-                .all(|kept| kept.load(Ordering::SeqCst) == DELIVERED)
+            && blocks.all(|kept| kept.load(Ordering::SeqCst) == DELIVERED)
     }
 }
 

@@ -10,16 +10,14 @@ use std::test::Fail;
 fn cuts_change_nothing(rt: HostRuntime) {
     let bytes = COMMENTED_TETRAHEDRON.as_bytes();
     for cut in 0..bytes.len() {
-        let want = Ok(TETRAHEDRON.as_slice());
-        assert_read(&rt, Form::Qhull, bytes, Way::Cut(cut), want);
+        assert_read(&rt, Form::Qhull, bytes, Way::Cut(cut), Ok(&TETRAHEDRON));
     }
 }
 
 /// Returns a text with this digit a million times between a beginning and an end.
 fn long_word(alloc: Global, front: &[u8], digit: u8, back: &[u8]) -> Result<Vec<u8>, AllocError> {
     let mut bytes = Vec::from_slice(alloc, front)?;
-    let digits = Vec::from_elem(alloc, digit, 1000000)?;
-    bytes.extend_from_slice(&digits)?;
+    bytes.extend_from_slice(&Vec::from_elem(alloc, digit, 1000000)?)?;
     bytes.extend_from_slice(back)?;
     Ok(bytes)
 }

@@ -2,41 +2,29 @@
 //!
 //! A segment contains points only after the end of its first line, and only from numbers that are followed by eleven
 //! bytes, so these texts are longer than those of the other rows.
-use super::{
-    Place, SMALL, Wanted, Way, assert_gave, assert_read, assert_read_in_sizes, joined, sizes,
-};
+use super::{Place, SMALL, Wanted, Way, assert_gave, assert_read, assert_read_in_sizes, joined};
 use qh_fixtures::{Host, table};
 use qh_model::Form;
 use qh_read::fakes::FailSource;
-use qh_read::{MemSource, ReadFault, Source, read_form_sizes, read_form_threads};
+use qh_read::{MemSource, ReadFault, Sizes, Source, read_form_sizes, read_form_threads};
 use std::alloc::{AllocError, Global};
 use std::test::Fail;
 
 /// Lines in every layout, each with its point.
 const LINES: [(&str, Place); 24] = table![
-    ("0 -1 0\n", (0, -1, 0));
-    ("-8\t-7  8\n", (-8, -7, 8));
-    ("  -75 -6 50 \n", (-75, -6, 50));
+    ("0 -1 0\n", (0, -1, 0)); ("-8\t-7  8\n", (-8, -7, 8)); ("  -75 -6 50 \n", (-75, -6, 50));
     ("-878368 907787 64169\n", (-878368, 907787, 64169));
     ("-151620148 -912699176 -704601254\r\n", (-151620148, -912699176, -704601254));
-    ("0\x0b0\x0c-1\n", (0, 0, -1));
-    ("-2 -7 8 # 1 2 3\n", (-2, -7, 8));
-    ("00000000009 -84 45\n", (9, -84, 45));
+    ("0\x0b0\x0c-1\n", (0, 0, -1)); ("-2 -7 8 # 1 2 3\n", (-2, -7, 8)); ("00000000009 -84 45\n", (9, -84, 45));
     ("-740369 986946 -531834\n", (-740369, 986946, -531834));
     ("-808046351\t629987860  -860757348\n", (-808046351, 629987860, -860757348));
-    ("  -1 -1 1 \n", (-1, -1, 1));
-    ("-5 0 4\n", (-5, 0, 4));
-    ("-63 39 -69\r\n", (-63, 39, -69));
+    ("  -1 -1 1 \n", (-1, -1, 1)); ("-5 0 4\n", (-5, 0, 4)); ("-63 39 -69\r\n", (-63, 39, -69));
     ("197292\x0b-353067\x0c174944\n", (197292, -353067, 174944));
     ("-297527925 -631120926 -266841915 # 1 2 3\n", (-297527925, -631120926, -266841915));
-    ("00000000000 -1 1\n", (0, -1, 1));
-    ("-7 9 -8\n", (-7, 9, -8));
-    ("59\t-47  28\n", (59, -47, 28));
+    ("00000000000 -1 1\n", (0, -1, 1)); ("-7 9 -8\n", (-7, 9, -8)); ("59\t-47  28\n", (59, -47, 28));
     ("  426902 115098 -103274 \n", (426902, 115098, -103274));
     ("+275509999 926002960 872670256\n", (275509999, 926002960, 872670256));
-    ("0 0 -1\r\n", (0, 0, -1));
-    ("-4\x0b-2\x0c-7\n", (-4, -2, -7));
-    ("48 -23 35 # 1 2 3\n", (48, -23, 35));
+    ("0 0 -1\r\n", (0, 0, -1)); ("-4\x0b-2\x0c-7\n", (-4, -2, -7)); ("48 -23 35 # 1 2 3\n", (48, -23, 35));
     ("00000038334 835296 -279680\n", (38334, 835296, -279680));
 ];
 
@@ -46,10 +34,8 @@ fn places() -> [Place; 24] {
 }
 
 /// Headers for these lines, with their number. Each header has two lines.
-const HEADERS: [(Form, &str); 2] = [
-    (Form::Qhull, "3 lines\n24\n"),
-    (Form::Off, "OFF # lines\n24 1 1\n"),
-];
+const HEADERS: [(Form, &str); 2] =
+    table![(Form::Qhull, "3 lines\n24\n"); (Form::Off, "OFF # lines\n24 1 1\n");];
 
 /// A comment with a point on each side of many cuts.
 const LONG_COMMENT: &str =
@@ -74,7 +60,7 @@ fn reads_lines_cut_anywhere(rt: HostRuntime) -> Result<(), Fail> {
     for (form, header) in HEADERS {
         let bytes = with_line(rt.alloc(), header, 24, "")?;
         for batch in 90..130 {
-            let way = Way::Threads(sizes(0, batch, 2, 4));
+            let way = Way::Threads(sizes!(0, batch, 2, 4));
             assert_read(&rt, form, &bytes, way, Ok(&places()));
         }
     }
@@ -143,7 +129,7 @@ fn tells_failing_reads(rt: HostRuntime) {
             _ => (Err(ReadFault::Device), 1),
         };
         let mut source = FailSource::new(b"3\n1\n5 5 5\n", 1, Some(fails_at));
-        let fours = sizes(2, 4, 2, 3);
+        let fours = sizes!(2, 4, 2, 3);
         let outcome = read_form_sizes(&rt, rt.alloc(), Form::Qhull, &mut source, fours);
         let way = Way::FailingRead(fails_at);
         assert_gave(&rt, outcome, want, "one point", way);

@@ -33,36 +33,22 @@ fn faces(alloc: Global) -> Result<Vec<Polygon>, Memory>
     ensures { IfOk result (λ v. v.items ≡ (5 ∷ 130 ∷ 599 ∷ []) ∷ (5 ∷ 131 ∷ 130 ∷ []) ∷ (5 ∷ 599 ∷ 131 ∷ []) ∷ (130 ∷ 131 ∷ 599 ∷ []) ∷ []) }
 {
     let [i, j, k, l] = corners();
-    let faces = [
-        Polygon::triangle(i, j, l),
-        Polygon::triangle(i, k, j),
-        Polygon::triangle(i, l, k),
-        Polygon::triangle(j, k, l),
-    ];
-    Ok(Vec::from_array(alloc, faces)?)
+    let (a, b) = (Polygon::triangle(i, j, l), Polygon::triangle(i, k, j));
+    let (c, d) = (Polygon::triangle(i, l, k), Polygon::triangle(j, k, l));
+    Ok(Vec::from_array(alloc, [a, b, c, d])?)
 }
 
 /// Returns the hull of those points.
 fn hull(alloc: Global) -> Result<Hull, Memory>
     ensures { IfOk result (λ h. h.body.extremes ≡ 5 ∷ 130 ∷ 131 ∷ 599 ∷ []) }
 {
-    let body = Body {
-        dim: 3,
-        extremes: Vec::from_array(alloc, corners())?,
-        polygons: faces(alloc)?,
-        edges: 6,
-    };
-    Ok(Hull {
-        given: 600,
-        distinct: 4,
-        body,
-    })
+    let extremes = Vec::from_array(alloc, corners())?;
+    Ok(hull!(600, 4; 3, extremes, faces(alloc)?, 6))
 }
 
 #[test]
 fn numbers_few_vertices_of_many_points(rt: HostRuntime) -> Result<(), Fail> {
-    let hull = hull(rt.alloc())?;
-    let pts = points(rt.alloc())?;
+    let (hull, pts) = (hull(rt.alloc())?, points(rt.alloc())?);
     let texts = text(rt.alloc(), &hull, &pts, &[Out::Off])?;
     assert_eq!(rt; texts.as_slice(), TETRAHEDRON_OFF.as_bytes());
     Ok(())

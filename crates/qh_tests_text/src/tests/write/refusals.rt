@@ -17,22 +17,10 @@ fn square(alloc: Global) -> Result<Hull, Memory>
     let face = Vec::from_array(alloc, corners)?;
     let mut polygons = Vec::new(alloc);
     polygons.push(Polygon::of(face))?;
-    let body = Body {
-        dim: 2,
-        extremes,
-        polygons,
-        edges: 4,
-    };
-    Ok(Hull {
-        given: 5,
-        distinct: 5,
-        body,
-    })
+    Ok(hull!(5, 5; 2, extremes, polygons, 4))
 }
 
-const OUTS: [Out; 5] = table![
-    Out::Rank; Out::Summary; Out::Fx; Out::Off; Out::OffTriangles;
-];
+const OUTS: [Out; 5] = table![Out::Rank; Out::Summary; Out::Fx; Out::Off; Out::OffTriangles;];
 
 const SQUARE_TEXT: &str =
     "5 5 2\nConvex hull of 5 points in 3-d:\n  dimension: 2\n  distinct points: 5\n  extreme points: 4\n  facets: 1\n  edges: 4\n4\n0\n1\n2\n3\nOFF\n4 1 4\n0 0 0\n2 0 0\n2 2 0\n0 2 0\n4 0 1 2 3\nOFF\n4 2 5\n0 0 0\n2 0 0\n2 2 0\n0 2 0\n3 0 1 2\n3 0 2 3\n";
@@ -59,6 +47,5 @@ fn sends_again(alloc: Global, bytes: &[u8]) -> bool {
 
 #[test]
 fn tries_again_to_send(rt: HostRuntime) {
-    let right = sends_again(rt.alloc(), SQUARE_TEXT.as_bytes());
-    assert!(rt; right);
+    assert!(rt; sends_again(rt.alloc(), SQUARE_TEXT.as_bytes()));
 }

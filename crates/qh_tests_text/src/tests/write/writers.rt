@@ -1,9 +1,9 @@
 //! A sink over a writer of std: the calls of the writer, and its failures.
 use qh_fixtures::{Host, table};
 use qh_write::{SendFault, Sink, StdSink, send};
-use std::io;
-use std::io::{ErrorKind, Write};
-use std::sync::atomic::{AtomicU64, Ordering};
+use std::io::{self, ErrorKind, Write};
+use std::sync::atomic::AtomicU64;
+use std::sync::atomic::Ordering::SeqCst;
 
 /// The behaviour of a writer.
 #[derive(Clone, Copy, Debug, Drop)]
@@ -38,12 +38,9 @@ impl Calls {
 
     /// Returns the number of writes, of accepted bytes and of flushes, and the number of bytes at the last flush.
     fn counts(&self) -> [u64; 4] {
-        [
-            self.writes.load(Ordering::SeqCst),
-            self.bytes.load(Ordering::SeqCst),
-            self.flushes.load(Ordering::SeqCst),
-            self.bytes_at_flush.load(Ordering::SeqCst),
-        ]
+        let (writes, bytes) = (self.writes.load(SeqCst), self.bytes.load(SeqCst));
+        let (flushes, at_flush) = (self.flushes.load(SeqCst), self.bytes_at_flush.load(SeqCst));
+        [writes, bytes, flushes, at_flush]
     }
 }
 
@@ -56,19 +53,19 @@ struct Counting<'a> {
 
 impl Write for Counting<'_> {
     fn write(&mut self, buf: &[u8]) -> io::Result<usize> {
-        self.calls.writes.fetch_add(1, Ordering::SeqCst);
+        self.calls.writes.fetch_add(1, SeqCst);
         if let Some(kind) = self.manner.write_error {
             return Err(io::Error::from(kind));
         }
         let count = buf.len().min(self.manner.greatest_piece);
-        self.calls.bytes.fetch_add(count as u64, Ordering::SeqCst);
+        self.calls.bytes.fetch_add(count as u64, SeqCst);
         Ok(count)
     }
 
     fn flush(&mut self) -> io::Result<()> {
-        self.calls.flushes.fetch_add(1, Ordering::SeqCst);
-        let bytes = self.calls.bytes.load(Ordering::SeqCst);
-        self.calls.bytes_at_flush.store(bytes, Ordering::SeqCst);
+        self.calls.flushes.fetch_add(1, SeqCst);
+        let bytes = self.calls.bytes.load(SeqCst);
+        self.calls.bytes_at_flush.store(bytes, SeqCst);
         match self.manner.flush_error {
             None => Ok(()),
             Some(kind) => Err(io::Error::from(kind)),
@@ -83,19 +80,14 @@ const TAKES_ALL: Manner = Manner {
     flush_error: None,
 };
 
+/// The result of sending bytes.
+type Sent = Result<(), SendFault>;
+
 /// Asserts the result of sending bytes to a writer, and the calls that the writer received.
-fn assert_calls(
-    rt: &impl Host,
-    manner: Manner,
-    bytes: &[u8],
-    want: Result<(), SendFault>,
-    counts: [u64; 4],
-) {
-    let calls = Calls::none();
-    let mut sink = StdSink::new(Counting {
-        calls: &calls,
-        manner,
-    });
+fn assert_calls(rt: &impl Host, manner: Manner, bytes: &[u8], want: Sent, counts: [u64; 4]) {
+    let received = Calls::none();
+    let calls = &received;
+    let mut sink = StdSink::new(Counting { calls, manner });
     let found = (send(&mut sink, bytes), sink.failures(), calls.counts());
     let failures = u64::from(want.is_err());
     assert_eq!(rt; found, (want, failures, counts), "{manner:?}");
