@@ -25,9 +25,7 @@ fn even_cut(alloc: Global, count: u32, wanted: u32) -> Result<Cut, Memory>
     match Cut::even(alloc, count, size) {
         Ok(cut) => Ok(cut),
         Err(CutError::Memory) => Err(Memory),
-        Err(CutError::ZeroSize) => unreachable!(),
-        Err(CutError::TooManyBlocks) => unreachable!(),
-        Err(CutError::BadBounds) => unreachable!(),
+        Err(_) => unreachable!(),
     }
 }
 

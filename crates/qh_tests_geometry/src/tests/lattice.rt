@@ -1,5 +1,4 @@
-//! Sets that are mapped, and sets that are not. A map multiplies all volumes by one number, and fills the range along
-//! each axis.
+//! Sets that are mapped, and others. A map multiplies all volumes by one number, and fills the range along each axis.
 
 use qh_fixtures::ids::ids_of;
 use qh_lattice::reduced;

@@ -45,8 +45,7 @@ type Row = (u32, u32, u64, u64);
 
 /// Asserts that all passes left, after the row's claims and steps, and that all blocks are at the root.
 ///
-/// The steps are the events of the passes, each a claim, an arrival or the root's publication, and the end of each
-/// pass.
+/// The steps are the events of the passes: claims, arrivals, the root's publication, and the end of each pass.
 fn assert_joined(rt: &impl Host, closed: Closed<Numbers>, met: usize, row: Row)
     requires { (closed_setup closed).passes ≡ row.1 }
 {

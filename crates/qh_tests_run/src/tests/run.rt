@@ -93,8 +93,7 @@ fn worked_by_one<'a>(alloc: Global, job: Job<'a>) -> Result<Closed<Job<'a>>, Boa
     Ok(board.close(lefts))
 }
 
-/// Returns the points, their distinct ids and a cut of them as a job; `None` if the cut has a different number of
-/// positions.
+/// Returns the points, their distinct ids and a cut as a job; `None` if the cut has another number of positions.
 fn job<'a>(pts: &'a [Point], ids: &'a [Id], cut: &'a Cut) -> Option<Job<'a>>
     requires { AreDistinctIds pts.now ids.now }
 {

@@ -1,5 +1,4 @@
-//! Calls of `answer` and `serve` with settings given by their parts, and the outcomes as texts, for comparison in
-//! tests.
+//! Calls of `answer` and `serve` with settings given by their parts, and the outcomes as texts, to be compared.
 
 use qh_fixtures::Host;
 use qh_model::Form;

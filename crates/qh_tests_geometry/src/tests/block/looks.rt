@@ -1,5 +1,4 @@
-//! Filters a set of few points and the lattice points of a cube, of which 8 are extreme, and extreme ids
-//! without a filter.
+//! Filters few points and the lattice points of a cube, of which 8 are extreme, and extreme ids without a filter.
 use crate::tests::distinct_ids;
 use qh_block::{cull_interior, extremes_unculled};
 use qh_fixtures::Host;

@@ -1,5 +1,4 @@
-//! The surfaces of solid sets, checked by a simple checker: each edge has its opposite, each triangle supports all
-//! points, and the counts are Euler's.
+//! The surfaces of solid sets: each edge has its opposite, each triangle supports all points, the counts are Euler's.
 
 use crate::tests::distinct_ids;
 use qh_block::surface;

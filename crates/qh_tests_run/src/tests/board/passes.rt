@@ -96,8 +96,7 @@ fn take_turn(
     climb(board, task, alone(alloc, block)?, log)
 }
 
-/// Claims all remaining blocks, and leaves; gives up if it gets the excepted block. Each claim is later than the one
-/// before, so this ends.
+/// Claims all remaining blocks, and leaves; gives up at the excepted block. Each claim is later, so this ends.
 pub fn work_but(
     alloc: Global,
     board: &Board<Numbers>,
