@@ -52,11 +52,12 @@ fn polygon_of(alloc: Global, seen: &Seen) -> Result<Polygon, Memory> {
 }
 
 /// Asserts the polygons of some of the points, seen from the side of a normal and from the other side.
-fn assert_polygons(rt: &impl Host, seen: Seen, above: &[u32], below: &[u32]) -> Result<(), Fail> {
-    let (pts, numbers, normal) = seen;
-    assert_ids(rt, polygon_of(rt.alloc(), &seen)?.ids(), above);
-    let opposite = (pts, numbers, normal.opposite());
-    assert_ids(rt, polygon_of(rt.alloc(), &opposite)?.ids(), below);
+fn assert_polygons(rt: &impl Host, seen: &Seen, above: &[u32], below: &[u32]) -> Result<(), Fail> {
+    let upper = polygon_of(rt.alloc(), seen)?;
+    let opposite = (seen.0, seen.1, seen.2.opposite());
+    let lower = polygon_of(rt.alloc(), &opposite)?;
+    assert_ids(rt, upper.ids(), above);
+    assert_ids(rt, lower.ids(), below);
     Ok(())
 }
 
@@ -64,14 +65,14 @@ fn assert_polygons(rt: &impl Host, seen: Seen, above: &[u32], below: &[u32]) -> 
 fn polygons(rt: HostRuntime) -> Result<(), Fail> {
     let pts = square();
     let up = cross(pts[0], pts[1], pts[7]);
-    assert_polygons(&rt, (&pts, &EIGHT, up), &[0, 2, 4, 6], &[0, 6, 4, 2])
+    assert_polygons(&rt, &(&pts, &EIGHT, up), &[0, 2, 4, 6], &[0, 6, 4, 2])
 }
 
 #[test]
 fn triangles(rt: HostRuntime) -> Result<(), Fail> {
     let pts = square();
     let up = cross(pts[0], pts[2], pts[4]);
-    assert_polygons(&rt, (&pts, &[0, 2, 4], up), &[0, 2, 4], &[0, 4, 2])
+    assert_polygons(&rt, &(&pts, &[0, 2, 4], up), &[0, 2, 4], &[0, 4, 2])
 }
 
 /// Asserts the shape of some of the points.
