@@ -28,7 +28,7 @@ LIMITS = {
     "long parameter lists": 1,
     "bare bools": 0,
     "long files": 0,
-    "long lines": 12,
+    "long lines": 11,
     "riddles": 0,
 }
 WORD_LIMITS = {

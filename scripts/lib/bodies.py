@@ -18,7 +18,7 @@ WORKERS = [
         ("match reduced(rt, alloc, set, passes, gate) {", "match reduced(rt, alloc, set, passes.min(0), gate) {"),
     ]),
     ("ignores-the-roots-list", RUN, [
-        ("Some(part) => gate.finish(alloc, pts, part),", "Some(_) => gate.finish(alloc, pts, ids),"),
+        ("Some(part) => Ok(gate.finish(alloc, pts, &part)?),", "Some(_) => Ok(gate.finish(alloc, pts, ids)?),"),
     ]),
     ("starts-no-worker", PASSES, [("run_pass(alloc, board, pass, gate)", "board.leave(pass)")]),
     ("gives-up-at-a-join", "crates/qh_run/src/blocks.rt", [
@@ -55,7 +55,7 @@ fn supporting_triples(set: IdSet) -> usize {
 ])  # fmt: skip
 
 # The line that hulls all ids where the tree has no root, and its replacement.
-WITHOUT_ROOT = ("without-root", RUN, [("None => gate.finish(alloc, pts, ids),", "None => Err(Memory),")])
+WITHOUT_ROOT = ("without-root", RUN, [("None => Ok(gate.finish(alloc, pts, ids)?),", "None => Err(RunError::Memory),")])
 
 # The crate whose tests call `answer`, and a body of it that is always out of memory.
 ROWS = "crates/qh_tests_serve"

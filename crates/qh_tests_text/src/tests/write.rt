@@ -9,7 +9,7 @@ use qh_write::{MemSink, Out, SendFault, Sink, StdSink, send, text};
 use std::alloc::Global;
 use std::test::Fail;
 
-/// The hull of so many given and distinct points; its dimension, extreme ids, faces and number of edges.
+/// A hull: the numbers of its points and distinct points; the dimension, extreme ids, faces and number of edges.
 macro_rules! hull {
     ($given:expr, $distinct:expr; $dim:expr, $extremes:expr, $polygons:expr, $edges:expr) => {
         Hull {
