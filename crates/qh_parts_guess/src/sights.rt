@@ -31,11 +31,6 @@ impl Sight {
         }
     }
 
-    /// Returns the direction of the normal.
-    pub fn way(&self) -> Vector {
-        self.normal.unit()
-    }
-
     /// Returns true if a point is strictly above the plane.
     pub fn sees(&self, point: Point) -> bool {
         self.plane.sees(point)
