@@ -4,7 +4,7 @@ ghost use Rattle.std.specs.{List.All, Fork.GivesEach, Thread.IsSend, Thread.IsSy
 ghost use Rattle.qh_threads.specs.steps.Answers.{AreAnswers};
 
 use crate::claimed::{Answer, claim, in_order};
-use crate::indices::map_indices;
+use crate::indices::indices_beside;
 use std::alloc::{AllocError, Global};
 use std::sync::atomic::AtomicUsize;
 use std::thread::{Threads, join_mut};
@@ -105,7 +105,7 @@ fn all_in_order<X: Send + Drop, F: Fn(usize) -> X + Sync>(
 ///
 /// The last result is `AllocError` if an allocation failed; both closures were called.
 pub fn map_claimed_beside<
-    R: Threads + Sync,
+    R: Threads,
     X: Send + Drop,
     F: Fn(usize) -> X + Sync,
     A: Send,
@@ -127,22 +127,9 @@ pub fn map_claimed_beside<
     ensures len { IfOk result.2 (λ v. length v.items ≡ calls.now.count) }
     ensures each { IfOk result.2 (λ v. GivesEach F.Fn calls.now.f.now calls.now.count v.items) }
 {
+    // The last threads to be started are the least likely to start late, so these make the first calls.
     let next = AtomicUsize::new(0);
     let more = calls.threads.saturating_sub(2);
-    let mut others = || -> Result<Vec<Result<Vec<Answer<X>>, AllocError>>, AllocError>
-        requires { IsSync R.row × IsSync F.row × IsSend X.row × ((i : ℕ) → i < calls.now.count → F.pre calls.now.f.now i) }
-        ensures { IfOk result (λ v. All (AreAnswers F.Fn calls.entry.now.f.now calls.entry.now.count) v.items) }
-    {
-        map_indices(
-            rt,
-            alloc,
-            more,
-            &|_thread: usize| -> Result<Vec<Answer<X>>, AllocError>
-                requires { IsSync F.row × IsSend X.row × ((i : ℕ) → i < calls.now.count → F.pre calls.now.f.now i) }
-                ensures { AreAnswers F.Fn calls.entry.now.f.now calls.entry.now.count result }
-            { claim(alloc, &next, calls.count, calls.f) },
-        )
-    };
     let mut both = || -> (
         (A, Result<Vec<Answer<X>>, AllocError>),
         (B, Result<Vec<Answer<X>>, AllocError>),
@@ -153,7 +140,13 @@ pub fn map_claimed_beside<
         ensures one { AreAnswers F.Fn calls.entry.now.f.now calls.entry.now.count result.0.1 }
         ensures two { AreAnswers F.Fn calls.entry.now.f.now calls.entry.now.count result.1.1 }
     { call_both_and_claim(rt, alloc, &next, calls, there, here) };
-    let (claimed, ((one, at_one), (two, at_two))) = join_mut(rt, &mut others, &mut both);
+    let claims = |_thread: usize| -> Result<Vec<Answer<X>>, AllocError>
+        requires { IsSync F.row × IsSend X.row × ((i : ℕ) → i < calls.now.count → F.pre calls.now.f.now i) }
+        ensures { AreAnswers F.Fn calls.entry.now.f.now calls.entry.now.count result }
+    { claim(alloc, &next, calls.count, calls.f) };
+    let (((one, at_one), (two, at_two)), claimed) = indices_beside(
+        rt, alloc, more, &claims, &mut both,
+    );
     (
         one,
         two,

@@ -12,9 +12,9 @@ use crate::regions::id_set::IdSet;
 use crate::regions::region::Region;
 use qh_model::{Id, Memory};
 use qh_pred::point_at;
-use qh_threads::{PARTS_FOR_EACH, map_claimed};
+use qh_threads::{PARTS_FOR_EACH, map_chunks, map_claimed};
 use std::alloc::{AllocError, Global};
-use std::thread::{self, Threads};
+use std::thread::Threads;
 
 /// The least number of ids that several threads process.
 const SHARED_FROM: usize = 16_384;
@@ -155,9 +155,10 @@ fn cells_in_threads<R: Threads + Sync>(
         return cells_between(alloc, plan);
     }
     let quarters = [0, 1, 2, 3];
-    let parts = thread::map_chunks(
+    let parts = map_chunks(
         rt,
         alloc,
+        threads,
         &quarters,
         quarters.len().div_ceil(threads),
         &move |_start: usize, numbers: &[u32]| -> Result<Vec<Cell>, Memory>
