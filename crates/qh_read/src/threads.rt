@@ -22,13 +22,13 @@ use std::thread::Threads;
 const START_LENGTH: u32 = 131_072;
 
 /// The number of bytes of a batch: large enough to pay for starting threads, small enough that its memory is reused.
-const BATCH_LENGTH: usize = 1_048_576;
+const BATCH_LENGTH: usize = 524_288;
 
 /// The number of segments of a batch: enough for a thread that starts late to leave its share to the others.
 const SEGMENTS: usize = 8;
 
 /// A shorter last batch is parsed by the calling thread, which takes less time than starting other threads.
-const SHARED_FROM: usize = 393_216;
+const SHARED_FROM: usize = 131_072;
 
 /// How a file is cut for several threads.
 #[derive(Clone, Copy, Debug)]

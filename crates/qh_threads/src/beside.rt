@@ -33,7 +33,7 @@ fn call_and_claim<X: Send + Drop, F: Fn(usize) -> X + Sync, A, T: FnMut() -> A>(
     (answer, claim(alloc, next, calls.count, calls.f))
 }
 
-/// Makes the call `there` in another thread and the call `here` in this one. Each of the two threads then claims calls.
+/// Makes the call `here` in this thread, and the call `there` in another one, which then claims calls.
 fn call_both_and_claim<
     R: Threads,
     X: Send + Drop,
@@ -49,57 +49,45 @@ fn call_both_and_claim<
     calls: &Calls<'_, F>,
     there: &mut T,
     here: &mut H,
-) -> (
-    (A, Result<Vec<Answer<X>>, AllocError>),
-    (B, Result<Vec<Answer<X>>, AllocError>),
-)
+) -> ((A, Result<Vec<Answer<X>>, AllocError>), B)
     requires there { T.pre there.old }
     requires here { H.pre here.old }
     requires calls { (i : ℕ) → i < calls.now.count → F.pre calls.now.f.now i }
     ensures there { T.step there.old result.0.0 there.new }
-    ensures here { H.step here.old result.1.0 here.new }
-    ensures one { AreAnswers F.Fn calls.now.f.now calls.now.count result.0.1 }
-    ensures two { AreAnswers F.Fn calls.now.f.now calls.now.count result.1.1 }
+    ensures here { H.step here.old result.1 here.new }
+    ensures answers { AreAnswers F.Fn calls.now.f.now calls.now.count result.0.1 }
 {
     let mut first = || -> (A, Result<Vec<Answer<X>>, AllocError>)
         requires { IsSync F.row × IsSend X.row × T.pre there.now × ((i : ℕ) → i < calls.now.count → F.pre calls.now.f.now i) }
         ensures first { T.step there.entry.now result.0 there.exit.now }
         ensures answers { AreAnswers F.Fn calls.entry.now.f.now calls.entry.now.count result.1 }
     { call_and_claim(alloc, next, calls, there) };
-    let mut second = || -> (B, Result<Vec<Answer<X>>, AllocError>)
-        requires { H.pre here.now × ((i : ℕ) → i < calls.now.count → F.pre calls.now.f.now i) }
-        ensures first { H.step here.entry.now result.0 here.exit.now }
-        ensures answers { AreAnswers F.Fn calls.entry.now.f.now calls.entry.now.count result.1 }
-    { call_and_claim(alloc, next, calls, here) };
-    join_mut(rt, &mut first, &mut second)
+    join_mut(rt, &mut first, here)
 }
 
-/// Returns the results of the calls in order, given what the two threads with a first call claimed, and the others.
+/// Returns the results of the calls in order, given what the thread with a first call claimed, and the others.
 fn all_in_order<X: Send + Drop, F: Fn(usize) -> X + Sync>(
     alloc: Global,
     others: Result<Vec<Result<Vec<Answer<X>>, AllocError>>, AllocError>,
     one: Result<Vec<Answer<X>>, AllocError>,
-    two: Result<Vec<Answer<X>>, AllocError>,
     calls: &Calls<'_, F>,
 ) -> Result<Vec<X>, AllocError>
     requires accepts { (i : ℕ) → i < calls.now.count → F.pre calls.now.f.now i }
     requires others { IfOk others (λ v. All (AreAnswers F.Fn calls.now.f.now calls.now.count) v.items) }
     requires one { AreAnswers F.Fn calls.now.f.now calls.now.count one }
-    requires two { AreAnswers F.Fn calls.now.f.now calls.now.count two }
     ensures len { IfOk result (λ v. length v.items ≡ calls.now.count) }
     ensures each { IfOk result (λ v. GivesEach F.Fn calls.now.f.now calls.now.count v.items) }
 {
     let mut claimed = others?;
     claimed.push(one)?;
-    claimed.push(two)?;
     in_order(alloc, claimed, calls.count, calls.f)
 }
 
-/// Makes the calls as [`map_claimed`](crate::map_claimed) does, beside two calls of other closures. The calling thread
-/// first calls `here`, another thread `there`; then each of the two claims, too. Returns the results of `there`, of
-/// `here`, and of the calls.
+/// Makes the calls as [`map_claimed`](crate::map_claimed) does, beside two calls of other closures: `here` in the calling
+/// thread, and `there` in another thread, which then claims, too. Returns the results of `there`, of `here`, and of the
+/// calls.
 ///
-/// At least two threads are used. What cannot be started is done by the calling thread.
+/// At least one thread is started. What cannot be started is done by the calling thread.
 ///
 /// # Errors
 ///
@@ -127,29 +115,19 @@ pub fn map_claimed_beside<
     ensures len { IfOk result.2 (λ v. length v.items ≡ calls.now.count) }
     ensures each { IfOk result.2 (λ v. GivesEach F.Fn calls.now.f.now calls.now.count v.items) }
 {
-    // The last threads to be started are the least likely to start late, so these make the first calls.
     let next = AtomicUsize::new(0);
-    let more = calls.threads.saturating_sub(2);
-    let mut both = || -> (
-        (A, Result<Vec<Answer<X>>, AllocError>),
-        (B, Result<Vec<Answer<X>>, AllocError>),
-    )
+    let mut both = || -> ((A, Result<Vec<Answer<X>>, AllocError>), B)
         requires { IsSync F.row × IsSend X.row × T.pre there.now × H.pre here.now × ((i : ℕ) → i < calls.now.count → F.pre calls.now.f.now i) }
         ensures there { T.step there.entry.now result.0.0 there.exit.now }
-        ensures here { H.step here.entry.now result.1.0 here.exit.now }
-        ensures one { AreAnswers F.Fn calls.entry.now.f.now calls.entry.now.count result.0.1 }
-        ensures two { AreAnswers F.Fn calls.entry.now.f.now calls.entry.now.count result.1.1 }
+        ensures here { H.step here.entry.now result.1 here.exit.now }
+        ensures answers { AreAnswers F.Fn calls.entry.now.f.now calls.entry.now.count result.0.1 }
     { call_both_and_claim(rt, alloc, &next, calls, there, here) };
     let claims = |_thread: usize| -> Result<Vec<Answer<X>>, AllocError>
         requires { IsSync F.row × IsSend X.row × ((i : ℕ) → i < calls.now.count → F.pre calls.now.f.now i) }
         ensures { AreAnswers F.Fn calls.entry.now.f.now calls.entry.now.count result }
     { claim(alloc, &next, calls.count, calls.f) };
-    let (((one, at_one), (two, at_two)), claimed) = indices_beside(
-        rt, alloc, more, &claims, &mut both,
-    );
-    (
-        one,
-        two,
-        all_in_order(alloc, claimed, at_one, at_two, calls),
-    )
+    let others = calls.threads.saturating_sub(1);
+    // The thread with a first call is started last: a system may let the first of several threads wait.
+    let (((one, claimed), two), by_others) = indices_beside(rt, alloc, others, &claims, &mut both);
+    (one, two, all_in_order(alloc, by_others, claimed, calls))
 }

@@ -61,8 +61,8 @@ fn with_last<X: Send + Drop, F: Fn(usize) -> X + Sync>(
 
 /// Calls `f` at each index below `count` and returns the results in order.
 ///
-/// The calling thread makes the last call. Each other call gets a thread of its own if one can be started, and
-/// otherwise the calling thread makes it. So `count` is a number of threads, and should be small.
+/// Each call gets a thread of its own if one can be started, and the calling thread waits for them; it makes a single
+/// call itself, and each that no thread can be started for. So `count` is a number of threads, and should be small.
 ///
 /// # Errors
 ///
@@ -77,14 +77,12 @@ pub fn map_indices<R: Threads, X: Send + Drop, F: Fn(usize) -> X + Sync>(
     ensures len { IfOk result (λ v. length v.items ≡ count) }
     ensures each { IfOk result (λ v. GivesEach F.Fn f.now count v.items) }
 {
-    if count == 0 {
-        return Ok(Vec::new(alloc));
+    if count == 1 {
+        let mut one = Vec::new(alloc);
+        one.push(f(0))?;
+        return Ok(one);
     }
-    let last = count - 1;
-    let mut own = || -> X
-        requires { F.pre f.now last }
-        ensures { FnReturns F.Fn f.entry.now (last, tt) result }
-    { f(last) };
-    let (result, earlier) = indices_beside(rt, alloc, last, f, &mut own);
-    with_last(earlier, last, result, f)
+    let mut nothing = || {};
+    let (_, results) = indices_beside(rt, alloc, count, f, &mut nothing);
+    results
 }
