@@ -79,9 +79,9 @@ impl Batch {
         Ok(at_end)
     }
 
-    /// Parses the segments, which several threads claim. Before it claims, another thread feeds the batch `done` to a
-    /// reader, and the calling thread calls `here`; their results are returned. If an allocation fails, the batch has no
-    /// segments, which only costs time.
+    /// Parses the segments, which several threads claim. Before it claims, one of them feeds the batch `done` to a
+    /// reader. The calling thread calls `here`. The results of these two are returned. If an allocation fails, the batch
+    /// has no segments, which only costs time.
     pub fn parse_beside<R: Threads + Sync, B, H: FnMut() -> B>(
         &mut self,
         rt: &R,

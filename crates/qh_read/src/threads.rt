@@ -1,7 +1,7 @@
 //! Reads with several threads.
 //!
 //! A file is read in batches, and a batch is cut into segments, which threads claim and parse. Before it claims, one of
-//! the threads feeds the previous batch to the reader, and the calling thread reads the next batch.
+//! the threads feeds the previous batch to the reader. The calling thread only reads the next batch.
 ghost use Rattle.std.specs.Io.KnownBytes.{Consumes, IsAtEnd};
 ghost use Rattle.std.specs.Prelude.{◌≡◌, ◌≤◌, ◌<◌, ◌+◌, ◌-◌, ◌^◌, ◌++◌, ◌≢◌, ℕ, List, true, false, length, Err, IfErr, OnOk, Ok};
 ghost use Rattle.qh_model.specs.declared.form.Form.{Form};
@@ -39,7 +39,7 @@ pub struct Sizes {
     pub batch: usize,
     /// The number of segments of a batch. 0 counts as 1.
     pub segments: usize,
-    /// The number of threads, including the calling thread. Fewer than 2 count as 2.
+    /// The number of threads that parse a batch, beside the calling thread. 0 counts as 1.
     pub threads: usize,
 }
 
@@ -194,8 +194,8 @@ pub fn read_form_sizes<R: Threads + Sync, S: Source>(
     reader.finish()
 }
 
-/// Returns the points of the file of this form in a source, with the results of [`read_form_from`]. It uses at most
-/// this number of threads, including the calling thread.
+/// Returns the points of the file of this form in a source, with the results of [`read_form_from`]. It starts at most
+/// this number of threads at a time.
 ///
 /// A file of less than 524,288 bytes is read by the calling thread alone, and so is any file if `threads` is 0 or 1. The
 /// result does not depend on the number of threads, nor on which of them can be started. Out of memory for the points

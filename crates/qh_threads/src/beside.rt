@@ -127,7 +127,7 @@ pub fn map_claimed_beside<
         ensures { AreAnswers F.Fn calls.entry.now.f.now calls.entry.now.count result }
     { claim(alloc, &next, calls.count, calls.f) };
     let others = calls.threads.saturating_sub(1);
-    // The thread with a first call is started last: a system may let the first of several threads wait.
+    // The thread with a first call is started last: the first thread often waits for the calling thread's processor.
     let (((one, claimed), two), by_others) = indices_beside(rt, alloc, others, &claims, &mut both);
     (one, two, all_in_order(alloc, by_others, claimed, calls))
 }

@@ -117,8 +117,8 @@ pub(crate) fn in_order<X: Send + Drop, F: Fn(usize) -> X + Sync>(
 
 /// Calls `f` at each index below `count`, by at most `threads` threads, and returns the results in order.
 ///
-/// The calling thread is one of them. Each thread claims the next index until all are claimed, so that a slower thread
-/// makes fewer calls. If `threads` is 0 or 1, no other thread is started.
+/// Each thread claims the next index until all are claimed, so that a slower thread makes fewer calls. The calling thread
+/// waits for them. If `threads` is 0 or 1, no thread is started, and the calling thread makes all calls.
 ///
 /// # Errors
 ///
