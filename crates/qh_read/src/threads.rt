@@ -25,7 +25,7 @@ const START_LENGTH: u32 = 131_072;
 const BATCH_LENGTH: usize = 524_288;
 
 /// The number of segments of a batch: enough for a thread that starts late to leave its share to the others.
-const SEGMENTS: usize = 8;
+const SEGMENTS: usize = 32;
 
 /// A shorter last batch is parsed by the calling thread, which takes less time than starting other threads.
 const SHARED_FROM: usize = 131_072;

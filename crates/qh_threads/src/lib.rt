@@ -15,7 +15,7 @@ mod claimed;
 mod indices;
 
 /// The number of parts for each thread into which a caller should divide its work. A slower thread claims fewer parts.
-pub const PARTS_FOR_EACH: usize = 4;
+pub const PARTS_FOR_EACH: usize = 8;
 
 pub use beside::{Calls, map_claimed_beside};
 pub use chunks::map_chunks;

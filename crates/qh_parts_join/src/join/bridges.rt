@@ -26,7 +26,7 @@ use std::thread::Threads;
 const GROUP: usize = 4;
 
 /// The budget of blocks and points to test, for each own corner of the parts, when the bridges of a piece are shown to
-/// be faces. The bridges are cut into pieces, four for each thread. If the budget runs out, the bridges are refused. A
+/// be faces. The bridges are cut into pieces, eight for each thread. If the budget runs out, the bridges are refused. A
 /// piece of a round set tests 15 at most; the hull by one thread takes as long as 400.
 const LOOKED_FOR_EACH: u32 = 24;
 
