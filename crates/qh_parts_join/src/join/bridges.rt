@@ -18,7 +18,7 @@ use qh_model::{Id, Memory, Point, Polygon};
 use qh_places::{Budget, Places};
 use qh_polygon::{polygon, rising_ids};
 use qh_pred::{Plane, cross, in_line, point_at};
-use qh_threads::{PARTS_FOR_EACH, map_chunks};
+use qh_threads::map_chunks;
 use std::alloc::{AllocError, Global};
 use std::thread::Threads;
 
@@ -26,9 +26,12 @@ use std::thread::Threads;
 const GROUP: usize = 4;
 
 /// The budget of blocks and points to test, for each own corner of the parts, when the bridges of a piece are shown to
-/// be faces. The bridges are cut into pieces, eight for each thread. If the budget runs out, the bridges are refused. A
-/// piece of a round set tests 15 at most; the hull by one thread takes as long as 400.
+/// be faces. If the budget runs out, the bridges are refused. A piece of a round set tests 15 at most; the hull by one
+/// thread takes as long as 400.
 const LOOKED_FOR_EACH: u32 = 24;
+
+/// The number of pieces for each thread into which bridges are cut. Few, since each piece has a budget of its own.
+const PIECES_FOR_EACH: usize = 4;
 
 /// Returns for each part the positions to test against some planes. It is faster if the planes have similar slants and
 /// pass near one point.
@@ -282,7 +285,7 @@ pub(crate) fn are_bridges<R: Threads>(
         ensures { IfOk result (λ yes. IsTrue yes → All
             (IsBridge kept.entry.pts.now kept.entry.corners.now kept.entry.shared.now) part.now) }
     { are_faces(alloc, kept, part) };
-    let size = bridges.len() / workers.max(1).saturating_mul(PARTS_FOR_EACH) + 1;
+    let size = bridges.len() / workers.max(1).saturating_mul(PIECES_FOR_EACH) + 1;
     let answers = map_chunks(rt, alloc, workers, bridges, size, &look)?;
     are_all(&answers)
 }
