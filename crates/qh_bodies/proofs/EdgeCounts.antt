@@ -1,9 +1,14 @@
 -- The number of edges of a solid: exactly one face has the step from the lower id of an edge to the higher one.
 use Rattle.qh_model.proofs.Common.{◌≡◌, inl, inr, ℕ, ◌<◌, List, [], ◌∷◌, sym, subst, refl, arith, nat_tests, flat_map, ◌↔◌, HasDistinctPoints, Vector, In, Once}
 use Rattle.qh_model.proofs.Common.{Members, IsDimension, FollowsAlong, Follows, AreFaces, IsEdge, IsEdgeCount}
+use Rattle.qh_model.proofs.Common.{◌+◌, ◌++◌, flat_map-append, length-append}
 use Rattle.qh_model.proofs.{lists.Joined.once_append, lists.Joined.in_flat_map, lists.Joined.of_flat_map, polygons.Neighbours.along_members}
 use Rattle.qh_model.proofs.polygons.{Edges.one_face_a_step, OtherFace.other_face}
 use Rattle.qh_bodies.specs.contract.SolidEdges.{ups_along, ups, all_edges_up}
+
+-- the number of steps up of two lists of polygons
+pub edges_append : (ps qs : List (List ℕ)) → all_edges_up (ps ++ qs) ≡ all_edges_up ps + all_edges_up qs
+edges_append ps qs = rw (flat_map-append ups ps qs) (length-append (flat_map ups ps) (flat_map ups qs))
 
 abbrev Pair : Type 0
 Pair = ℕ × ℕ

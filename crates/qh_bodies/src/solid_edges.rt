@@ -1,5 +1,5 @@
 //! The number of edges of polygons.
-ghost use Rattle.std.specs.Prelude.{◌≡◌, ◌≤◌, ◌++◌, IfOk, length, map};
+ghost use Rattle.std.specs.Prelude.{◌≡◌, ◌≤◌, ◌+◌, ◌++◌, IfOk, length, map};
 ghost use Rattle.qh_bodies.specs.{contract.SolidEdges.ups, contract.SolidEdges.all_edges_up, steps.FaceKeys.triangle_in};
 
 use crate::face_keys::triangle_in;
@@ -27,19 +27,34 @@ fn edges_up(ids: &[Id]) -> usize
     count
 }
 
-/// Returns the number of steps to a higher id round the triangles of keys.
-fn edges_of_keys(keys: &[u64]) -> Result<u64, Memory>
-    ensures { IfOk result (λ n. n ≡ all_edges_up (map triangle_in keys.now)) }
+/// Returns the sum of two numbers of steps.
+fn sum_of(first: u64, second: u64) -> Result<u64, Memory>
+    ensures { IfOk result (λ n. n ≡ first + second) }
 {
-    let mut count: u64 = 0;
-    for key in keys {
-        // An overflow would need more ids than fit into memory.
-        let Some(sum) = count.checked_add(edges_up(triangle_in(*key).ids()) as u64) else {
-            return Err(Memory);
-        };
-        count = sum;
+    // An overflow would need more ids than fit into memory.
+    first.checked_add(second).ok_or(Memory)
+}
+
+/// Returns the number of steps to a higher id round polygons.
+pub fn edges_of(polygons: &[Polygon]) -> Result<u64, Memory>
+    ensures { IfOk result (λ n. n ≡ all_edges_up polygons.now) }
+{
+    let mut count = 0;
+    for polygon in polygons {
+        count = sum_of(count, edges_up(polygon.ids()) as u64)?;
     }
     Ok(count)
+}
+
+/// Returns the number of steps to a higher id round the triangles of keys, and `more`.
+pub fn edges_with(keys: &[u64], more: u64) -> Result<u64, Memory>
+    ensures { IfOk result (λ n. n ≡ all_edges_up (map triangle_in keys.now) + more) }
+{
+    let mut count = 0;
+    for key in keys {
+        count = sum_of(count, edges_up(triangle_in(*key).ids()) as u64)?;
+    }
+    sum_of(count, more)
 }
 
 /// Returns the number of steps to a higher id round triangles, given by their keys, and other polygons. For the faces of
@@ -47,12 +62,5 @@ fn edges_of_keys(keys: &[u64]) -> Result<u64, Memory>
 pub fn edge_count(keys: &[u64], others: &[Polygon]) -> Result<u64, Memory>
     ensures { IfOk result (λ n. n ≡ all_edges_up (map triangle_in keys.now ++ others.now)) }
 {
-    let mut count = edges_of_keys(keys)?;
-    for polygon in others {
-        let Some(sum) = count.checked_add(edges_up(polygon.ids()) as u64) else {
-            return Err(Memory);
-        };
-        count = sum;
-    }
-    Ok(count)
+    edges_with(keys, edges_of(others)?)
 }

@@ -4,9 +4,11 @@ ghost use Rattle.std.specs.List.{flat_map, Sorted.IsStrictlyIncreasing};
 ghost use Rattle.qh_model.specs.contract.{ClosedPolygons.AreClosedFaces, IdSets.HasDistinctPoints};
 ghost use Rattle.qh_model.specs.headline.{Dimension.IsDimension, Hull.IsBody, Polygons.RiseStrictly};
 ghost use Rattle.qh_model.specs.headline.{Sets.In, Sets.Members, Vector.Vector};
-ghost use Rattle.qh_bodies.specs.{contract.Tallies.all_members, contract.Tallies.IsTally, steps.FaceKeys.triangle_in};
+ghost use Rattle.qh_bodies.specs.contract.Tallies.{all_members, IsTally};
+ghost use Rattle.qh_bodies.specs.steps.{FaceKeys.triangle_in, PartTallies.IsTallyWith};
 
 use crate::face_keys::triangle_in;
+use crate::solid_edges::edges_with;
 use qh_model::{Body, Id, Memory, Polygon};
 use qh_polygon::rising_ids;
 use std::alloc::{AllocError, Global};
@@ -23,7 +25,7 @@ fn ids_of_keys(alloc: Global, keys: &[u64]) -> Result<Vec<Id>, AllocError>
 }
 
 /// Appends the ids of polygons, one after the other.
-fn list_ids(polygons: &[Polygon], ids: &mut Vec<Id>) -> Result<(), AllocError>
+pub fn list_ids(polygons: &[Polygon], ids: &mut Vec<Id>) -> Result<(), AllocError>
     ensures { OnOk result (ids.new.items ≡ ids.old.items ++ all_members polygons.now) }
 {
     for polygon in polygons {
@@ -53,6 +55,22 @@ pub struct Tally {
     pub extremes: Vec<Id>,
     /// The number of edges of the faces.
     pub edges: u64,
+}
+
+/// Returns the tally of triangles, given by their keys, and of other polygons, given by their ids, one after the other,
+/// and the number of their steps to a higher id.
+///
+/// # Errors
+///
+/// `Memory` if an allocation failed.
+pub fn tally_with(alloc: Global, keys: &[u64], listed: &[Id], more: u64) -> Result<Tally, Memory>
+    ensures { IfOk result (IsTallyWith keys.now listed.now more) }
+{
+    let mut all = ids_of_keys(alloc, keys)?;
+    all.extend_from_slice(listed)?;
+    let extremes = rising_ids(alloc, &all)?;
+    let edges = edges_with(keys, more)?;
+    Ok(Tally { extremes, edges })
 }
 
 /// Returns the hull of a solid set, from its faces in rising lexicographic order, and their tally.

@@ -6,7 +6,7 @@ use qh_bodies::UnsortedFaces;
 use qh_fixtures::faces::polygons_of;
 use qh_fixtures::ids::ids_of;
 use qh_fixtures::{faces_of, points_at};
-use qh_model::{Memory, Point};
+use qh_model::{Body, Memory, Point};
 use std::alloc::{AllocError, Global};
 use std::test::Fail;
 
@@ -46,6 +46,21 @@ fn triangles_and_squares(rt: HostRuntime) -> Result<(), Fail> {
         return Err("no corners".into());
     }
     let body = hull(rt.alloc(), &pts, &ids)?;
+    assert!(rt; is(&body, &CUBOCTAHEDRON), "{body:?}");
+    Ok(())
+}
+
+#[test]
+fn faces_are_sorted_beside_their_tally(rt: HostRuntime) -> Result<(), Fail> {
+    let faces = polygons_of(rt.alloc(), CUBOCTAHEDRON.faces)?;
+    let faces = UnsortedFaces::of(rt.alloc(), faces)?;
+    let (polygons, tally, dim) = faces.sorted_beside(&rt, rt.alloc(), || 3)?;
+    let body = Body {
+        dim,
+        extremes: tally.extremes,
+        polygons,
+        edges: tally.edges,
+    };
     assert!(rt; is(&body, &CUBOCTAHEDRON), "{body:?}");
     Ok(())
 }
