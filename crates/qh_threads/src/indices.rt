@@ -8,7 +8,7 @@ use std::thread::{Threads, join_mut};
 /// Calls `f` at each index below `count`, each in a thread of its own if one can be started, and `here` in the calling
 /// thread. Returns the result of `here`, and the other results in order.
 ///
-/// The calling thread starts all threads. A thread that a new one starts would often wait for that one's processor.
+/// The calling thread starts all threads. A thread that a new thread starts would often wait for its processor.
 #[cycle(calls)]
 pub(crate) fn indices_beside<
     R: Threads,
