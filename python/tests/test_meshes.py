@@ -3,6 +3,7 @@ from __future__ import annotations
 
 import random
 import struct
+from decimal import Decimal
 from fractions import Fraction
 
 import pytest
@@ -154,6 +155,20 @@ def test_the_least_power_of_ten_is_taken(words, scale, tmp_path):
     path.write_text(f"OFF 2 0 0\n{words}\n{' '.join(words.split()[::-1])}\n")
     found, said, taken = put(path)
     assert said.startswith("exact") and taken == scale and found[0] == list(map(Fraction, words.split()))
+
+
+@pytest.mark.parametrize("digits, size", [(20, 1), (30, 10**15), (12, 10**-9)])
+def test_decimals_without_room_are_put_on_the_finest_grid(digits, size, tmp_path):
+    generator = random.Random(digits)
+    rows = [[Decimal(generator.randrange(-(10**digits), 10**digits)).scaleb(-digits) * Decimal(size) for _ in "xyz"] for _ in range(40)]
+    path = tmp_path / "long.obj"
+    path.write_text("".join("v %s %s %s\n" % tuple(row) for row in rows))
+    found, said, scale = put(path)
+    pairs = [(Fraction(number), place) for row, places in zip(rows, found) for number, place in zip(row, places)]
+    most, extent = max(abs(number - place) for number, place in pairs), max(max(axis) - min(axis) for axis in zip(*rows))
+    assert Fraction(said.split()[-1]) == most <= 1 / scale / 2 and said.startswith(f"{sum(one != other for one, other in pairs)} of 120 ")
+    assert (scale.numerator & scale.numerator - 1, scale.denominator & scale.denominator - 1) == (0, 0)
+    assert 2**30 <= Fraction(extent) * scale <= 2**31
 
 
 @pytest.mark.parametrize("centre, scale", [("1/2,0,0", 10), ("0.125,-3,1/5", 1000), ("7,0,0", 1)])
