@@ -243,6 +243,16 @@ def test_a_file_that_lacks_a_part_is_refused_with_its_line(name, tmp_path):
     assert reason in done.stderr.decode(), done.stderr
 
 
+def test_facets_of_text_are_read_at_once_if_nothing_else_is_there():
+    from qconvex.commands.stl_files import corners_of_text, plain_corners
+
+    text = stl_text()
+    assert plain_corners(text) == [words for _, words in corners_of_text(text)] and len(plain_corners(text)) == 36
+    others = [LACKING[name][0].encode() for name in ("cut.stl", "two.stl")]
+    others += [text + text, text.replace(b"endloop", b"end loop"), text.replace(b"outer", b"inner", 1), text.replace(b"\n", b"\r"), b"solid\nendsolid\n"]
+    assert not any(map(plain_corners, others))
+
+
 @pytest.mark.parametrize("end", [b"\r", b"\r\n", b"\n"])
 @pytest.mark.parametrize("name", ["cube.off", "cube.obj", "ascii.ply", "text.stl"])
 def test_any_line_end_is_read(name, end, tmp_path):
