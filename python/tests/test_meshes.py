@@ -253,6 +253,13 @@ def test_facets_of_text_are_read_at_once_if_nothing_else_is_there():
     assert not any(map(plain_corners, others))
 
 
+def test_an_obj_text_of_vertices_alone_is_read_at_once():
+    from qconvex.commands.mesh_faces import faces_of_obj, plain_obj
+
+    assert plain_obj(b"# two\nv 1 2 3\nv 4 5 6\nvn 1 0 0\n") == (b"1 2 3\n4 5 6\n", b"")
+    assert plain_obj(b"f 1 2 3\nv 1 2 3\n") == (b"1 2 3\n", b"1 2 3\n") and faces_of_obj(b"v 1 2 3\n") == []
+
+
 @pytest.mark.parametrize("end", [b"\r", b"\r\n", b"\n"])
 @pytest.mark.parametrize("name", ["cube.off", "cube.obj", "ascii.ply", "text.stl"])
 def test_any_line_end_is_read(name, end, tmp_path):
