@@ -34,6 +34,7 @@ def lists_of(hull):
 @pytest.mark.parametrize("seed", range(6))
 def test_the_text_is_that_of_the_loops(form, seed, monkeypatch):
     monkeypatch.setattr(closed_surfaces, "LEAST_FACES", 2)
+    monkeypatch.setattr(closed_surfaces, "FACES", 7)
     monkeypatch.setattr(number_texts, "MOST_NUMBERS", 40)
     hull = sphere_of(60) if seed == 5 else hull_of(seed)
     points, faces = lists_of(hull)
@@ -113,6 +114,14 @@ def test_numbers_are_written_as_python_writes_them():
         wanted = [(one << 31) + other for one, other in zip(high.tolist(), low.tolist())]
         found = b"".join(number_texts.blocks_of([number_texts.each(" ", number_texts.wide_of(high, low))]))
         assert list(map(int, found.split())) == wanted and found.decode() == "".join(f" {number}" for number in wanted)
+
+
+@pytest.mark.parametrize("count", [2, 10000, 10002, 123456])
+def test_small_numbers_are_looked_up(count):
+    field = number_texts.rows("\n", ", ", numpy.arange(count).reshape(-1, 2))
+    found = b"".join(number_texts.blocks_of([field])).decode()
+    assert number_texts.words_of(field) is not None
+    assert found == "".join(f"\n{number}, {number + 1}" for number in range(0, count, 2))
 
 
 def test_records_of_any_lengths():

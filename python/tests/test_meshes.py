@@ -3,6 +3,7 @@ from __future__ import annotations
 
 import random
 import struct
+from decimal import Decimal
 from fractions import Fraction
 
 import pytest
@@ -156,6 +157,20 @@ def test_the_least_power_of_ten_is_taken(words, scale, tmp_path):
     assert said.startswith("exact") and taken == scale and found[0] == list(map(Fraction, words.split()))
 
 
+@pytest.mark.parametrize("digits, size", [(20, 1), (30, 10**15), (12, 10**-9)])
+def test_decimals_without_room_are_put_on_the_finest_grid(digits, size, tmp_path):
+    generator = random.Random(digits)
+    rows = [[Decimal(generator.randrange(-(10**digits), 10**digits)).scaleb(-digits) * Decimal(size) for _ in "xyz"] for _ in range(40)]
+    path = tmp_path / "long.obj"
+    path.write_text("".join("v %s %s %s\n" % tuple(row) for row in rows))
+    found, said, scale = put(path)
+    pairs = [(Fraction(number), place) for row, places in zip(rows, found) for number, place in zip(row, places)]
+    most, extent = max(abs(number - place) for number, place in pairs), max(max(axis) - min(axis) for axis in zip(*rows))
+    assert Fraction(said.split()[-1]) == most <= 1 / scale / 2 and said.startswith(f"{sum(one != other for one, other in pairs)} of 120 ")
+    assert (scale.numerator & scale.numerator - 1, scale.denominator & scale.denominator - 1) == (0, 0)
+    assert 2**30 <= Fraction(extent) * scale <= 2**31
+
+
 @pytest.mark.parametrize("centre, scale", [("1/2,0,0", 10), ("0.125,-3,1/5", 1000), ("7,0,0", 1)])
 def test_a_given_centre_stands_on_the_grid(centre, scale, tmp_path):
     path = tmp_path / "whole.off"
@@ -226,6 +241,23 @@ def test_a_file_that_lacks_a_part_is_refused_with_its_line(name, tmp_path):
     done = run("meshpoints", path)
     assert done.returncode == 1 and not done.stdout and b"Traceback" not in done.stderr
     assert reason in done.stderr.decode(), done.stderr
+
+
+def test_facets_of_text_are_read_at_once_if_nothing_else_is_there():
+    from qconvex.commands.stl_files import corners_of_text, plain_corners
+
+    text = stl_text()
+    assert plain_corners(text) == [words for _, words in corners_of_text(text)] and len(plain_corners(text)) == 36
+    others = [LACKING[name][0].encode() for name in ("cut.stl", "two.stl")]
+    others += [text + text, text.replace(b"endloop", b"end loop"), text.replace(b"outer", b"inner", 1), text.replace(b"\n", b"\r"), b"solid\nendsolid\n"]
+    assert not any(map(plain_corners, others))
+
+
+def test_an_obj_text_of_vertices_alone_is_read_at_once():
+    from qconvex.commands.mesh_faces import faces_of_obj, plain_obj
+
+    assert plain_obj(b"# two\nv 1 2 3\nv 4 5 6\nvn 1 0 0\n") == (b"1 2 3\n4 5 6\n", b"")
+    assert plain_obj(b"f 1 2 3\nv 1 2 3\n") == (b"1 2 3\n", b"1 2 3\n") and faces_of_obj(b"v 1 2 3\n") == []
 
 
 @pytest.mark.parametrize("end", [b"\r", b"\r\n", b"\n"])

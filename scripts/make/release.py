@@ -5,7 +5,9 @@
 
 It takes the program, the libraries for C and the shared one for Python as they were built, and makes
 
-    qconvex-VERSION-linux-x86_64.tar.gz         bin, lib, include and share, to be unpacked anywhere
+    qconvex-VERSION-source.tar.gz               the sources as they were committed last
+    qconvex-VERSION-linux-x86_64.tar.gz         bin, lib, include and share, to be unpacked anywhere; in bin stand the commands
+                                                of python/bin, too, which need Python 3
     qconvex-exact_VERSION_amd64.deb             the same for Debian under /usr, beside Qhull's program qconvex: the program
                                                 and its page are called qconvex-exact
     qconvex-VERSION-py3-none-linux_x86_64.whl   the package for Python, with the library in it
@@ -35,13 +37,14 @@ Version: {version}
 Architecture: amd64
 Maintainer: {maintainer}
 Depends: libc6
+Recommends: python3, python3-numpy
 Section: science
 Priority: optional
 Description: exact and proved convex hull of whole-number points in space
  The extreme points and every face as a polygon, counterclockwise from outside,
  none missed. The program is called qconvex-exact, and hullcheck checks the
  faces of any program; the library for C has its header, qconvex.pc and a CMake
- package.
+ package. Commands such as hullexplain and meshpoints need Python 3.
 """
 
 
@@ -57,10 +60,31 @@ def installed(prefix, name, below=""):
     output("make", "-s", "-C", "c", "install", *places)
 
 
+def add_commands(tree):
+    """Adds the commands of Python to a tree, with their pages: hullexplain and those beside it, which need no library."""
+    home, pages = tree / "share/qconvex/python", tree / "share/man/man1"
+    for part in ("bin", "qconvex"):
+        shutil.copytree(TOP / "python" / part, home / part, ignore=shutil.ignore_patterns("__pycache__", "*.so"))
+    for folder in (tree / "bin", pages):
+        folder.mkdir(parents=True, exist_ok=True)
+    for path in (home / "bin").iterdir():
+        if not path.suffix:
+            (tree / "bin" / path.name).symlink_to(Path("../share/qconvex/python/bin") / path.name)
+    output(PYTHON, TOP / "python/man/man_pages.py", pages)
+
+
+def sources(folder, version):
+    """The archive of the sources."""
+    made = folder / f"qconvex-{version}-source.tar.gz"
+    output("git", "archive", f"--prefix=qconvex-{version}/", "-o", made, "HEAD")
+    return made
+
+
 def tarball(folder, version, room):
     """The archive of a tree that can be unpacked anywhere."""
     name = f"qconvex-{version}-linux-x86_64"
     installed(room / name, "qconvex")
+    add_commands(room / name)
     pages = room / name / "share/doc/qconvex"
     pages.mkdir(parents=True)
     for page in PAGES:
@@ -75,7 +99,8 @@ def debian_package(folder, version, room):
     """The package for Debian."""
     tree = room / "debian"
     installed("/usr", "qconvex-exact", tree)
-    subprocess.run(["gzip", "-9n", tree / "usr/share/man/man1/qconvex-exact.1"], check=True)
+    add_commands(tree / "usr")
+    subprocess.run(["gzip", "-9n", *(tree / "usr/share/man/man1").iterdir()], check=True)
     (tree / "DEBIAN").mkdir()
     maintainer = output("git", "log", "-1", "--format=%an <%ae>").strip()
     (tree / "DEBIAN/control").write_text(CONTROL.format(version=version, maintainer=maintainer))
@@ -98,6 +123,9 @@ def try_tree(tree, program, wanted):
         got = output(tree / "bin" / program, "s", stdin=points)
     if got != wanted:
         sys.exit(f"{tree}: the program answers {got!r}, not {wanted!r}")
+    said = output(tree / "bin/hullexplain", CUBE)
+    if not said.startswith("No fault"):
+        sys.exit(f"{tree}: hullexplain says {said!r}")
     cube = tree.parent / "cube"
     output("gcc", "-o", cube, "-I", tree / "include", TOP / "c/cube.c", "-L", tree / "lib", "-lqconvex")
     print(f"ok: {tree.name}, {output(cube, env={'LD_LIBRARY_PATH': str(tree / 'lib')}).splitlines()[0]}")
@@ -130,6 +158,7 @@ def main():
         try_tree(next((room / "tried0").iterdir()), "qconvex", wanted)
         try_tree(room / "tried1/usr", "qconvex-exact", wanted)
         try_wheel(made[2], room)
+    made.append(sources(folder, version))
     sums = [f"{hashlib.sha256(path.read_bytes()).hexdigest()}  {path.name}\n" for path in made]
     (folder / "SHA256SUMS").write_text("".join(sums))
     print("".join(sums), end="")

@@ -16,6 +16,7 @@ except ImportError:
 
 # Of fewer faces than this the loops are as fast.
 LEAST_FACES = 1000
+FACES = 1 << 14  # whose planes are found at once: what they take stays in the processor's cache
 CLOSE = float(1 << 60)
 PLACE_BITS = 23  # of the sides of a hull of as many points as the program takes
 
@@ -133,27 +134,28 @@ def cross(u: Any, v: Any) -> Any:
 def planes_of(arrays: Arrays, sides: Sides) -> Optional[Tuple[Any, Any, int]]:
     """The normal and the level of each face without a common divisor, if all faces are plane, and six times the volume."""
     places, starts = np.ascontiguousarray(arrays.points.T), arrays.offsets[:-1]
-    firsts = places.take(arrays.corners[starts], 1)
-    second, third = (places.take(arrays.corners[starts + place], 1) - firsts for place in (1, 2))
-    normals = cross(second, third)
-    if not normals.any(axis=0).all():
+    parts = [planes_at(starts[first : first + FACES], arrays.corners, places) for first in range(0, len(starts), FACES)]
+    if None in parts:
         return None
-    levels, volume = dot(normals, firsts), None
+    normals, high, low = (np.concatenate([part[place] for part in parts if part]) for place in range(3))
+    volume: Optional[int] = sum(part[3] for part in parts if part)
     if len(arrays.corners) != normals.size:  # other faces than triangles
-        volume = volume_of(arrays, sides, places, normals)
-        if volume is None:
-            return None
-    volume = sum_of(*levels) if volume is None else volume
+        volume = volume_of(arrays, sides, places, normals.T)
+    return None if volume is None else (normals, wide_of(high, low), volume)
+
+
+def planes_at(starts: Any, corners: Any, places: Any) -> Optional[Tuple[Any, Any, Any, int]]:
+    """Of some faces the normals, the two parts of the levels, and six times the volume below the first three corners of each."""
+    firsts, second, third = (places.take(corners.take(starts + place), 1) for place in range(3))
+    normals = cross(second - firsts, third - firsts)
+    volume = sum_of(*dot(normals, firsts))
     is_short = max(-int(normals.min()), int(normals.max())) < 1 << 31
     few = normals.astype(np.int32) if is_short else normals  # whose divisors are found sooner
     divisors = np.gcd(np.gcd(few[0], few[1]), few[2])
-    common = (divisors > 1).nonzero()[0]
-    normals[:, common] //= divisors[common]
-    high, low = levels
-    if common.size:
-        changed = dot(normals[:, common], firsts[:, common])
-        high[common], low[common] = changed
-    return np.ascontiguousarray(normals.T), wide_of(high, low), volume
+    if not divisors.all():
+        return None
+    normals = (few // divisors).astype(np.int64)
+    return normals.T, *dot(normals, firsts), volume
 
 
 def volume_of(arrays: Arrays, sides: Sides, places: Any, normals: Any) -> Optional[int]:

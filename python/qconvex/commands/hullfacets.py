@@ -138,11 +138,11 @@ def in_form(points: Sequence[Vector], faces: Sequence[List[int]], indices: Seque
 
 def parted(data: bytes) -> Tuple[List[int], bytes]:
     """What stands before an OFF text where it is the text of `Fx off`, a count and as many indices; and the OFF text."""
-    head, mark, _ = data.partition(b"OFF")
-    words = head.decode("utf-8", "replace").split() if mark else []
+    start = max(data.find(b"OFF"), 0)
+    words = data[:start].decode("utf-8", "replace").split()
     if not words or not all(map(COUNT.fullmatch, words)):
         return [], data
-    return list(map(int, words)), data[len(head) :]
+    return list(map(int, words)), data[start:]
 
 
 def indices_of(before: List[int], count: int) -> List[int]:

@@ -47,13 +47,19 @@ def faces_of_off(data: bytes) -> Faces:
 
 
 def plain_obj(data: bytes) -> Optional[Tuple[bytes, bytes]]:
-    """What lines of an OBJ text have behind v, and behind f, if those of each kind follow each other; None where each has to be looked at."""
+    """What lines of an OBJ text have behind v, and behind f, if those of each kind follow each other; None where each has to be looked at.
+
+    It is nothing where there are no such lines.
+    """
     rest, parts = b"\n%b\n" % data, []
     for head in b"\nv ", b"\nf ":
         first, last = rest.find(head), rest.rfind(head)
+        if first < 0:
+            parts.append(b"")
+            continue
         end = rest.find(b"\n", last + 1)
         lines = rest[first:end]
-        if first < 0 or lines.count(b"\n") != lines.count(head):
+        if lines.count(b"\n") != lines.count(head):
             return None
         parts.append(lines.replace(head, b"\n")[1:] + b"\n")
         rest = rest[:first] + rest[end:]
@@ -65,7 +71,7 @@ def plain_obj(data: bytes) -> Optional[Tuple[bytes, bytes]]:
 def faces_of_obj(data: bytes) -> Faces:
     """The faces of an OBJ text. Numbers below 0 count back from the last vertex before the face."""
     plain = plain_obj(data)
-    found = array_of(plain[1], 1, plain[0].count(b"\n")) if plain else None
+    found = array_of(plain[1], 1, plain[0].count(b"\n")) if plain and plain[1] else None
     if found is not None:
         return found
     vertices, faces = 0, []

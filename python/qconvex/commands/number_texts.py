@@ -15,7 +15,7 @@ except ImportError:
     np = None  # type: ignore[assignment]
 
 # Records that are made at once, and the most numbers of one field that are: what they take stays in the processor's cache.
-RECORDS, MOST_NUMBERS = 1 << 12, 1 << 16
+RECORDS, MOST_NUMBERS = 1 << 13, 1 << 16
 GROUP = 4  # digits that are looked up together
 GROUPS = 10**GROUP
 PART_BITS = 31
@@ -78,10 +78,14 @@ def blocks_of(fields: Sequence[Field], after: str = "") -> Iterator[bytes]:
 def text_of(columns: Iterable[Any], count: int) -> bytes:
     """The text of some records by their columns: each is an array, or one text for all."""
     named = {str(place): column for place, column in enumerate(columns)}
-    made = np.zeros(count, np.dtype([(name, column.dtype) for name, column in named.items()], align=True))
+    one = np.zeros(1, np.dtype([(name, column.dtype) for name, column in named.items()]))
+    for name in [name for name, column in named.items() if not column.ndim]:
+        one[name] = named.pop(name)
+    made = bytearray(one.tobytes()) * count
+    records = np.frombuffer(made, one.dtype)
     for name, column in named.items():
-        made[name] = column
-    return made.tobytes().translate(None, b"\0")
+        records[name] = column
+    return made.translate(None, b"\0")
 
 
 def known_of(field: Field) -> Known:
@@ -114,8 +118,18 @@ def words_of(field: Field) -> Any:
     numbers, room = field.numbers, 10 ** (2 * GROUP - len(field.between))
     if isinstance(numbers, Wide) or not 0 <= numbers.min() <= numbers.max() <= len(numbers) < room:
         return None
-    low, *high = digits_of(np.arange(int(numbers.max()) + 1))[::-1]
-    return low.astype(np.uint64) << np.uint64(8 * GROUP) | (high[0] if high else np.uint64(0)) | word_of(field.between)
+    return small_numbers(int(numbers.max()) + 1) | word_of(field.between)
+
+
+@lru_cache(maxsize=None)
+def small_numbers(count: int) -> Any:
+    """Words of memory with the numbers from 0 to before another, the lower group of digits last."""
+    bare, full = np.split(digit_groups(b"0").astype(np.uint64), 2)
+    low = full << np.uint64(8 * GROUP)
+    high = bare[: -(-count // GROUPS), np.newaxis]
+    words = (high | low).ravel()[:count]
+    words[:GROUPS] = bare[:count] << np.uint64(8 * GROUP)
+    return words
 
 
 def columns_of(known: Known, start: int, end: int) -> Iterator[Any]:

@@ -31,7 +31,8 @@ def arrays_of_text(data: bytes) -> Optional[Arrays]:
     begins = np.cumsum(widths[points + 1 :]) - widths[points + 1 :]
     if (sizes < 1).any() or (rest[begins] != sizes).any():
         return None
-    corners = np.delete(rest, begins)
+    are_even = len(rest) == len(sizes) * (sizes[0] + 1) and (sizes == sizes[0]).all()
+    corners = rest.reshape(len(sizes), -1)[:, 1:].ravel() if are_even else np.delete(rest, begins)
     if np.abs(places).max() > COORDINATE_LIMIT or corners.min() < 0 or corners.max() >= points:
         return None
     return Arrays(places, corners, np.append(0, sizes.cumsum()))
@@ -45,7 +46,7 @@ def numbers_of(text: bytes) -> Optional[Tuple[Any, Any]]:
     if np is None:
         return None
     letters, gaps = np.frombuffer(text, np.uint8), np.frombuffer(text.translate(None, DIGITS), np.uint8)
-    signs, lines = (letters == MINUS).nonzero()[0], (gaps == NEWLINE).nonzero()[0]
+    signs, lines = (letters[: text.rfind(b"-") + 1] == MINUS).nonzero()[0], (gaps == NEWLINE).nonzero()[0]
     if not text.endswith(b"\n") or len(lines) + np.count_nonzero(gaps == BLANK) < len(gaps):
         return None
     if (letters[signs - 1] > BLANK).any() or (letters[signs + 1] <= MINUS).any():

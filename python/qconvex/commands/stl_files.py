@@ -3,12 +3,15 @@ from __future__ import annotations
 
 import struct
 from itertools import chain
-from typing import List, Sequence, Tuple, Union
+from typing import List, Optional, Sequence, Tuple, Union
 
-from .exact_numbers import Vertices, of_numbers, of_words
+from .exact_numbers import Vertices, of_lines, of_numbers, of_words
 from .off_files import Malformed, lines_of
 
 HEAD, TRIANGLE = 84, struct.Struct("<12x12s12s12s2x")
+# The words of a facet of a text, with None for each number, and where those of its corners are.
+FACET = ["facet", "normal", *[None] * 3, "outer", "loop", *["vertex", *[None] * 3] * 3, "endloop", "endfacet"]
+CORNERS = [place + 1 for place, word in enumerate(FACET) if word == "vertex"]
 
 # A corner by its bytes, or by its words.
 Corner = Union[bytes, Tuple[str, ...]]
@@ -21,7 +24,18 @@ def corners_of(data: bytes) -> Sequence[Corner]:
         return list(chain.from_iterable(TRIANGLE.iter_unpack(data[HEAD:])))
     if not data.lstrip().startswith(b"solid"):
         raise Malformed(f"it has {len(data)} bytes; {count} triangles have {HEAD + count * TRIANGLE.size}")
-    return [words for _, words in corners_of_text(data)]
+    return plain_corners(data) or [words for _, words in corners_of_text(data)]
+
+
+def plain_corners(data: bytes) -> Optional[List[Tuple[str, ...]]]:
+    """The corners of a text that has nothing but the words of its facets between its first line and its last; None of others."""
+    body, _, last = data.partition(b"\n")[2].rstrip().rpartition(b"\n")
+    words, size = body.decode("utf-8", "replace").split(), len(FACET)
+    are_right = all(word is None or set(words[place::size]) == {word} for place, word in enumerate(FACET))
+    if len(words) % size or not are_right or last.split()[:1] != [b"endsolid"]:
+        return None
+    corners = (zip(*(words[place + axis :: size] for axis in range(3))) for place in CORNERS)
+    return list(chain.from_iterable(zip(*corners)))
 
 
 def corners_of_text(data: bytes) -> List[Tuple[int, Tuple[str, ...]]]:
@@ -43,5 +57,8 @@ def of_stl(data: bytes) -> Vertices:
     corners = dict.fromkeys(corners_of(data))
     if all(isinstance(corner, bytes) for corner in corners):
         return of_numbers(list(struct.unpack(f"<{3 * len(corners)}f", b"".join(corners))))  # type: ignore[arg-type]
+    plain = of_lines("".join(map("%s %s %s\n".__mod__, corners)).encode()) if all(len(corner) == 3 for corner in corners) else None
+    if plain:
+        return plain
     lines = {words: line for line, words in corners_of_text(data)}
     return of_words([(line, list(words)) for words, line in lines.items()])
