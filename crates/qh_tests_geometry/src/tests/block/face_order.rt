@@ -3,10 +3,10 @@
 use super::{Row, is};
 use qh_block::hull;
 use qh_bodies::UnsortedFaces;
-use qh_fixtures::faces::polygons_of;
-use qh_fixtures::ids::ids_of;
+use qh_fixtures::faces::{are_round, polygons_of};
+use qh_fixtures::ids::{are, ids_of};
 use qh_fixtures::{faces_of, points_at};
-use qh_model::{Body, Memory, Point};
+use qh_model::{Memory, Point};
 use std::alloc::{AllocError, Global};
 use std::test::Fail;
 
@@ -54,14 +54,12 @@ fn triangles_and_squares(rt: HostRuntime) -> Result<(), Fail> {
 fn faces_are_sorted_beside_their_tally(rt: HostRuntime) -> Result<(), Fail> {
     let faces = polygons_of(rt.alloc(), CUBOCTAHEDRON.faces)?;
     let faces = UnsortedFaces::of(rt.alloc(), faces)?;
-    let (polygons, tally, dim) = faces.sorted_beside(&rt, rt.alloc(), || 3)?;
-    let body = Body {
-        dim,
-        extremes: tally.extremes,
-        polygons,
-        edges: tally.edges,
-    };
-    assert!(rt; is(&body, &CUBOCTAHEDRON), "{body:?}");
+    let (polygons, tally, told) = faces.sorted_beside(&rt, rt.alloc(), || 3)?;
+    let holds = are_round(&polygons, CUBOCTAHEDRON.faces)
+        && are(&tally.extremes, CUBOCTAHEDRON.extremes);
+    assert!(rt; holds, "{polygons:?}");
+    assert_eq!(rt; tally.edges, CUBOCTAHEDRON.edges);
+    assert_eq!(rt; told, 3);
     Ok(())
 }
 
