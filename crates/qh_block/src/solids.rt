@@ -33,8 +33,7 @@ pub fn solid_extremes(alloc: Global, pts: &[Point], surface: &NamedMesh) -> Resu
         → AreExtremes (place pts.now) (Members ids) v.items) }
 {
     let faces = faces(alloc, pts, surface)?;
-    let extremes = faces.corners(alloc)?;
-    Ok(extremes)
+    Ok(faces.tally(alloc)?.extremes)
 }
 
 /// Returns the hull of a set with a finished mesh.

@@ -1,5 +1,5 @@
 //! The number of edges of polygons.
-ghost use Rattle.std.specs.Prelude.{◌≡◌, ◌≤◌, ◌+◌, ◌++◌, IfOk, length, map};
+ghost use Rattle.std.specs.Prelude.{◌≡◌, ◌≤◌, ◌+◌, IfOk, length, map};
 ghost use Rattle.qh_bodies.specs.{contract.SolidEdges.ups, contract.SolidEdges.all_edges_up, steps.FaceKeys.triangle_in};
 
 use crate::face_keys::triangle_in;
@@ -46,7 +46,8 @@ pub fn edges_of(polygons: &[Polygon]) -> Result<u64, Memory>
     Ok(count)
 }
 
-/// Returns the number of steps to a higher id round the triangles of keys, and `more`.
+/// Returns the number of steps to a higher id round the triangles of keys, and `more`. With those round the other faces
+/// of a solid it is the number of its edges, since two faces run along each edge in opposite directions.
 pub fn edges_with(keys: &[u64], more: u64) -> Result<u64, Memory>
     ensures { IfOk result (λ n. n ≡ all_edges_up (map triangle_in keys.now) + more) }
 {
@@ -55,12 +56,4 @@ pub fn edges_with(keys: &[u64], more: u64) -> Result<u64, Memory>
         count = sum_of(count, edges_up(triangle_in(*key).ids()) as u64)?;
     }
     sum_of(count, more)
-}
-
-/// Returns the number of steps to a higher id round triangles, given by their keys, and other polygons. For the faces of
-/// a solid it is the number of their edges, since two faces run along each edge in opposite directions.
-pub fn edge_count(keys: &[u64], others: &[Polygon]) -> Result<u64, Memory>
-    ensures { IfOk result (λ n. n ≡ all_edges_up (map triangle_in keys.now ++ others.now)) }
-{
-    edges_with(keys, edges_of(others)?)
 }

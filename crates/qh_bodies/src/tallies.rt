@@ -1,9 +1,9 @@
 //! The corners of polygons, the number of their edges, and the hull with these faces.
-ghost use Rattle.std.specs.Prelude.{◌≡◌, ◌↔◌, ◌++◌, ℕ, List, IfOk, OnOk, map};
-ghost use Rattle.std.specs.List.{flat_map, Sorted.IsStrictlyIncreasing};
+ghost use Rattle.std.specs.Prelude.{◌≡◌, ℕ, List, IfOk};
+ghost use Rattle.std.specs.List.{flat_map};
 ghost use Rattle.qh_model.specs.contract.{ClosedPolygons.AreClosedFaces, IdSets.HasDistinctPoints};
 ghost use Rattle.qh_model.specs.headline.{Dimension.IsDimension, Hull.IsBody, Polygons.RiseStrictly};
-ghost use Rattle.qh_model.specs.headline.{Sets.In, Sets.Members, Vector.Vector};
+ghost use Rattle.qh_model.specs.headline.{Sets.Members, Vector.Vector};
 ghost use Rattle.qh_bodies.specs.contract.Tallies.{all_members, IsTally};
 ghost use Rattle.qh_bodies.specs.steps.{FaceKeys.triangle_in, PartTallies.IsTallyWith};
 
@@ -24,28 +24,15 @@ fn ids_of_keys(alloc: Global, keys: &[u64]) -> Result<Vec<Id>, AllocError>
     Ok(ids)
 }
 
-/// Appends the ids of polygons, one after the other.
-pub fn list_ids(polygons: &[Polygon], ids: &mut Vec<Id>) -> Result<(), AllocError>
-    ensures { OnOk result (ids.new.items ≡ ids.old.items ++ all_members polygons.now) }
+/// Returns the ids of polygons, one after the other.
+pub fn listed_ids(alloc: Global, polygons: &[Polygon]) -> Result<Vec<Id>, AllocError>
+    ensures { IfOk result (λ v. v.items ≡ all_members polygons.now) }
 {
+    let mut ids = Vec::new(alloc);
     for polygon in polygons {
         ids.extend_from_slice(polygon.ids())?;
     }
-    Ok(())
-}
-
-/// Returns the ids of triangles, given by their keys, and of other polygons, rising, each once.
-///
-/// # Errors
-///
-/// `Memory` if an allocation failed.
-pub fn corners(alloc: Global, keys: &[u64], others: &[Polygon]) -> Result<Vec<Id>, Memory>
-    ensures rising { IfOk result (λ v. IsStrictlyIncreasing v.items) }
-    ensures members { IfOk result (λ v. (i : ℕ) → In i v.items ↔ In i (all_members (map triangle_in keys.now ++ others.now))) }
-{
-    let mut ids = ids_of_keys(alloc, keys)?;
-    list_ids(others, &mut ids)?;
-    rising_ids(alloc, &ids)
+    Ok(ids)
 }
 
 /// The extreme ids and the number of edges of a solid set, computed from its faces.

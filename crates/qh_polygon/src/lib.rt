@@ -15,7 +15,7 @@ mod ranking;
 mod shape;
 
 pub use id_lists::rising_ids;
-pub use id_marks::{IdMarks, MARKS_FOR_EACH, marked_ids, past_greatest};
+pub use id_marks::marked_ids;
 pub use inner_places::outer_ids;
 pub use place_keys::{ROOM, biased, place_in, place_key, place_key_id, point_keys};
 pub use planar::polygon;

@@ -11,6 +11,7 @@ use qh_block::{Allowance, TELLING, are_few, extremes_unculled};
 use qh_board::Spans;
 use qh_model::{Cut, Id, Memory, Point};
 use std::alloc::Global;
+use std::sync::atomic::{AtomicBool, Ordering};
 
 /// Rising ids of distinct points, such as those that the interior filter leaves, and a cut of their positions.
 #[derive(Drop)]
@@ -18,6 +19,8 @@ pub(crate) struct Blocks<'a> {
     pub pts: &'a [Point],
     pub ids: &'a [Id],
     pub cut: &'a Cut,
+    /// Whether a pass gave up. The tree has no root then, so every other pass gives up at its next block.
+    given_up: AtomicBool,
     ghost indices: { AreIndices pts.now ids.now },
     ghost rising: { IsStrictlyIncreasing ids.now },
     ghost distinct: { HasDistinctPoints (place pts.now) (Members ids.now) },
@@ -41,6 +44,29 @@ impl<'a> Spans for Blocks<'a> {
 }
 
 impl<'a> Blocks<'a> {
+    /// Returns the blocks of a cut.
+    pub fn new(pts: &'a [Point], ids: &'a [Id], cut: &'a Cut) -> Blocks<'a>
+        requires indices { AreIndices pts.now ids.now }
+        requires set { IsIdSet pts.now ids.now }
+        requires whole { positions cut.now ≡ length ids.now }
+        ensures pts { result.pts.now ≡ pts.now }
+        ensures ids { result.ids.now ≡ ids.now }
+        ensures cut { result.cut.now ≡ cut.now }
+    {
+        Blocks {
+            pts,
+            ids,
+            cut,
+            given_up: AtomicBool::new(false),
+        }
+    }
+
+    /// Makes the other passes give up, too.
+    fn give_up(&self) -> GivesUp {
+        self.given_up.store(true, Ordering::SeqCst);
+        GivesUp
+    }
+
     /// Tests with the first ids of a large block whether the tree pays, before a pass works on its first block.
     fn ask_sample(&self, alloc: Global, block: &[Id]) -> Result<(), GivesUp>
         requires { AreIndices self.now.pts.now block.now }
@@ -49,7 +75,7 @@ impl<'a> Blocks<'a> {
             let (sample, _) = block.split_at(TELLING);
             let found = extremes_unculled(alloc, self.pts, sample)?;
             if !are_few(found.len(), TELLING) {
-                return Err(GivesUp);
+                return Err(self.give_up());
             }
         }
         Ok(())
@@ -70,7 +96,7 @@ impl<'a> Blocks<'a> {
     {
         let ids = extremes_unculled(alloc, self.pts, part)?;
         if !allowance.admits(ids.len()) {
-            return Err(GivesUp);
+            return Err(self.give_up());
         }
         Ok(Extremes { ids, allowance })
     }
@@ -108,6 +134,9 @@ impl<'a> Reduction for Blocks<'a> {
     }
 
     fn reduce(&self, alloc: Global, block: u32, claimed: Claimed) -> Result<Extremes, GivesUp> {
+        if self.given_up.load(Ordering::SeqCst) {
+            return Err(GivesUp);
+        }
         if claimed == Claimed::First {
             let (from, to) = self.cut.block(block);
             self.ask_sample(alloc, &self.ids[from as usize..to as usize])?;

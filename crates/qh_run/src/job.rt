@@ -29,11 +29,7 @@ impl<'a> Job<'a> {
         ensures ids { result.ids.now ≡ self.now.ids.now }
         ensures cut { result.cut.now ≡ self.now.cut.now }
     {
-        Blocks {
-            pts: self.pts,
-            ids: self.ids,
-            cut: self.cut,
-        }
+        Blocks::new(self.pts, self.ids, self.cut)
     }
 }
 

@@ -65,7 +65,7 @@ pub fn run_body<R: Threads + Sync, G: Gate>(
         return Err(RunError::BadWorkers);
     }
     // The found ids have the same hull.
-    match root_ids(rt, alloc, Blocks { pts, ids, cut }, workers, gate) {
+    match root_ids(rt, alloc, Blocks::new(pts, ids, cut), workers, gate) {
         Some(part) => Ok(gate.finish(alloc, pts, &part)?),
         None => Ok(gate.finish(alloc, pts, ids)?),
     }
