@@ -1,10 +1,10 @@
 -- The bytes that a source read from a file whose bytes are known.
-use Rattle.qh_model.proofs.Common.{◌≡◌, ◌∙◌, ℕ, ◌<◌, List, ◌++◌, Option, Some, None, length, IfSome, arith, ap, append-nil, length-append, Consumes}
+use Rattle.qh_model.proofs.Common.{◌≡◌, ◌∙◌, ℕ, ◌<◌, List, ◌++◌, inr, Option, Some, None, length, IfSome, arith, ap, append-nil, length-append, Consumes}
 use Rattle.qh_model.specs.declared.limits.TheConstants.{BYTE_LIMIT}
 use Rattle.qh_read.specs.headline.SourceBytes.{Gives, GivesAll}
 use Rattle.hullcheck.specs.contract.{Checking.IsCheckFault, Checking.IsJudgeFault, CommandLine.Asked, CommandLine.asked_by}
 use Rattle.hullcheck.specs.{contract.Judging.IsWhole, declared.fault.Fault.Fault}
-use Rattle.hullcheck.specs.declared.fault.Fault.TheVariants.{Usage, Memory, Device, Output, Points, Faces}
+use Rattle.hullcheck.specs.declared.fault.Fault.TheVariants.{Usage, Memory, Output, Points, Faces}
 
 -- all bytes that a source read to its end are those of the file
 pub all_of : {P : List ℕ → Type 0} (content remaining new : Option (List ℕ)) → IfSome content (λ known. remaining ≡ Some known)
@@ -33,7 +33,6 @@ pub judge_fault : (words : List (List ℕ)) (contents : Option (List ℕ) → Op
     → IsCheckFault asked.reading remaining new ReadFailed text f → IsJudgeFault words contents Failed f
 judge_fault words contents asked Failed ReadFailed remaining new text Usage e points faces failed h = absurd h
 judge_fault words contents asked Failed ReadFailed remaining new text Memory e points faces failed h = tt
-judge_fault words contents asked Failed ReadFailed remaining new text Device e points faces failed h = absurd h
 judge_fault words contents asked Failed ReadFailed remaining new text Output e points faces failed h = absurd h
 judge_fault words contents asked Failed ReadFailed remaining new text (Points fault) e points faces failed h = (
   asked,
@@ -44,4 +43,4 @@ judge_fault words contents asked Failed ReadFailed remaining new text (Points fa
     big = λ is. long_of (contents asked.points) remaining new points (h.big is);
   },
 )
-judge_fault words contents asked Failed ReadFailed remaining new text (Faces fault) e points faces failed h = (asked, e, (text, faces, h))
+judge_fault words contents asked Failed ReadFailed remaining new text (Faces fault) e points faces failed h = (asked, e, inr (text, faces, h))

@@ -14,13 +14,11 @@ pub enum Fault {
     Usage,
     /// An allocation failed.
     Memory,
-    /// A file could not be opened, or the faces could not be read.
-    Device,
     /// The judgement could not be written.
     Output,
-    /// The points could not be read.
+    /// The points could not be read; with `Device`, also if their file could not be opened.
     Points(ReadFault),
-    /// The faces could not be read.
+    /// The faces could not be read; with `Device`, also if their file could not be opened.
     Faces(ReadFault),
 }
 
@@ -32,7 +30,7 @@ impl Fault {
         match self {
             Fault::Usage => 2,
             Fault::Memory => 3,
-            Fault::Device | Fault::Output => 4,
+            Fault::Output => 4,
             Fault::Points(fault) | Fault::Faces(fault) => match fault {
                 ReadFault::Memory => 3,
                 ReadFault::Device => 4,
@@ -84,7 +82,6 @@ impl fmt::Display for Fault {
                 "usage: hullcheck [--workers N] [--indices | --counted] [--clockwise] POINTS [FACES]"
             ),
             Fault::Memory => write!(f, "hullcheck: out of memory"),
-            Fault::Device => write!(f, "hullcheck: a file could not be read"),
             Fault::Output => write!(f, "hullcheck: the judgement could not be written"),
             Fault::Points(fault) => write!(f, "hullcheck: the points: {}", Words(*fault)),
             Fault::Faces(fault) => write!(f, "hullcheck: the faces: {}", Words(*fault)),

@@ -4,7 +4,8 @@ ghost use Rattle.std.specs.{Prelude.string_bytes, Option.option_map};
 ghost use Rattle.qh_write.specs.contract.LineDevices.{LineDevice};
 ghost use Rattle.hullcheck.specs.contract.{Checking.IsJudgeFault, Judging.IsToldBy, Judging.IsWhole};
 ghost use Rattle.hullcheck.specs.contract.Runs.{IsAnswered, IsEnd, IsRefusal, IsRun};
-ghost use Rattle.hullcheck.specs.declared.fault.Fault.TheVariants.{Device, Memory};
+ghost use Rattle.qh_model.specs.declared.read_fault.ReadFault.TheVariants as reads;
+ghost use Rattle.hullcheck.specs.declared.fault.Fault.TheVariants.{Faces, Memory, Points};
 ghost use Rattle.hullcheck.specs.steps.Files.{IsUnread};
 
 use crate::answer::{Answer, status_of};
@@ -13,46 +14,53 @@ use crate::fault::Fault;
 use crate::files::Files;
 use crate::judging::check_streams;
 use qh_check::Judgement;
+use qh_model::ReadFault;
 use qh_write::Lines;
 use std::alloc::Global;
 use std::io::ErrorKind;
 use std::thread::Threads;
 
-/// Returns the fault of a file that could not be opened or read: out of memory, or the device failed.
-fn unread_file(kind: ErrorKind) -> Fault
-    ensures { (result ≡ Memory) ⊎ (result ≡ Device) }
+/// Returns the fault of a file that could not be opened or read: out of memory, or the given one.
+fn unread(kind: ErrorKind, fault: Fault) -> Fault
+    ensures { (result ≡ Memory) ⊎ (result ≡ fault) }
 {
     match kind {
         ErrorKind::OutOfMemory => Fault::Memory,
-        _ => Fault::Device,
+        _ => fault,
     }
 }
 
-/// Opens a file.
+/// Opens the file of the points.
 fn open<F: Files>(files: &mut F, name: &str) -> Result<F::File, Fault>
     ensures same { F.contents files.new ≡ F.contents files.old }
     ensures bytes { IfOk result (λ f. IfSome (F.contents files.old (Some name.now)) (λ known. F.File.remaining f ≡ Some known)) }
     ensures begins { IfOk result (λ f. F.File.failure_count f ≡ 0) }
-    ensures fault { IfErr result (IsUnread (F.failed files.new ≡ true)) }
+    ensures fault { IfErr result (IsUnread (Points reads.Device) (F.failed files.new ≡ true)) }
 {
-    files.open(name).map_err(unread_file)
+    match files.open(name) {
+        Ok(file) => Ok(file),
+        Err(kind) => Err(unread(kind, Fault::Points(ReadFault::Device))),
+    }
 }
 
-/// Returns all bytes of a file, or of the standard input.
+/// Returns all bytes of the file of the faces, or of the standard input.
 fn text_of<F: Files>(files: &mut F, alloc: Global, name: Option<&str>) -> Result<Vec<u8>, Fault>
     ensures same { F.contents files.new ≡ F.contents files.old }
     ensures bytes { IfOk result (λ v. IsWhole (F.contents files.old (option_map (λ w. w.now) name.entry)) v.items) }
-    ensures fault { IfErr result (IsUnread (F.failed files.new ≡ true)) }
+    ensures fault { IfErr result (IsUnread (Faces reads.Device) (F.failed files.new ≡ true)) }
 {
-    files.text(alloc, name).map_err(unread_file)
+    match files.text(alloc, name) {
+        Ok(text) => Ok(text),
+        Err(kind) => Err(unread(kind, Fault::Faces(ReadFault::Device))),
+    }
 }
 
 /// Judges the faces that a command line names.
 ///
 /// # Errors
 ///
-/// `Usage` if the command line is invalid, `Memory` if an allocation failed, `Device` if a file could not be opened or
-/// the faces could not be read, and `Points` or `Faces` with the first fault of that file.
+/// `Usage` if the command line is invalid, `Memory` if an allocation failed, and `Points` or `Faces` with the first fault
+/// of that file, which is `Device` if it could not be opened or read.
 fn judge_words<R: Threads + Sync, F: Files>(
     rt: &R,
     alloc: Global,

@@ -1,5 +1,5 @@
 -- The faults that prevent a verdict on the bytes of two files. This project's own.
-use Rattle.std.specs.Prelude.{ℕ, ◌≡◌, ◌<◌, List, Option, None, Some, IfSome, length}
+use Rattle.std.specs.Prelude.{ℕ, ◌≡◌, ◌⊎◌, ◌<◌, List, Option, None, Some, IfSome, length}
 use Rattle.qh_model.specs.declared.form.Form.TheVariants as forms
 use Rattle.qh_model.specs.declared.{limits.TheConstants.BYTE_LIMIT, read_fault.ReadFault.ReadFault}
 use Rattle.qh_model.specs.declared.read_fault.ReadFault.TheVariants as reads
@@ -7,7 +7,7 @@ use Rattle.qh_model.specs.headline.Forms.{IsFirstFault}
 use Rattle.qh_read.specs.{contract.ReadFaults.IsTextFault, contract.FaceFiles.IsFaultOfFaces, declared.faces.reading.Reading.Reading}
 use Rattle.qh_read.specs.headline.SourceBytes.{Gives, GivesAll}
 use Rattle.hullcheck.specs.{contract.CommandLine.Asked, contract.CommandLine.asked_by, contract.Judging.IsWhole, declared.fault.Fault.Fault}
-use Rattle.hullcheck.specs.declared.fault.Fault.TheVariants.{Usage, Memory, Device, Output, Points, Faces}
+use Rattle.hullcheck.specs.declared.fault.Fault.TheVariants.{Usage, Memory, Output, Points, Faces}
 
 -- a fault of reading all points: the first fault of all bytes read; or a read failed; or more bytes were read than the input limit
 pub record IsPointsFault (old new : Option (List ℕ)) (Failed : Type 0) (e : ReadFault) : Type 0 where
@@ -19,7 +19,6 @@ pub record IsPointsFault (old new : Option (List ℕ)) (Failed : Type 0) (e : Re
 abbrev pub IsCheckFault : Reading → Option (List ℕ) → Option (List ℕ) → Type 0 → List ℕ → Fault → Type 0
 IsCheckFault reading old new Failed faces Usage = ⊥
 IsCheckFault reading old new Failed faces Memory = Unit {0}
-IsCheckFault reading old new Failed faces Device = ⊥
 IsCheckFault reading old new Failed faces Output = ⊥
 IsCheckFault reading old new Failed faces (Points e) = IsPointsFault old new Failed e
 IsCheckFault reading old new Failed faces (Faces e) = IsFaultOfFaces reading.layout faces e
@@ -30,12 +29,16 @@ pub record IsPointFileFault (content : Option (List ℕ)) (Failed : Type 0) (e :
   pub device : e ≡ reads.Device → Failed
   pub big : e ≡ reads.Big → IfSome content (λ bytes. BYTE_LIMIT < length bytes)
 
+-- the same for a file of faces, which may also fail to open
+abbrev pub IsFaceFileFault : Reading → Option (List ℕ) → Type 0 → ReadFault → Type 0
+IsFaceFileFault reading content Failed e = ((e ≡ reads.Device) × Failed)
+    ⊎ ((bytes : List ℕ) × IsWhole content bytes × IsFaultOfFaces reading.layout bytes e)
+
 -- a fault that prevents a verdict on the files that words name; `Failed` says whether a call of the files failed
 abbrev pub IsJudgeFault : List (List ℕ) → (Option (List ℕ) → Option (List ℕ)) → Type 0 → Fault → Type 0
 IsJudgeFault words contents Failed Usage = asked_by words ≡ None
 IsJudgeFault words contents Failed Memory = Unit {0}
-IsJudgeFault words contents Failed Device = Failed
 IsJudgeFault words contents Failed Output = ⊥
 IsJudgeFault words contents Failed (Points e) = (asked : Asked) × (asked_by words ≡ Some asked) × IsPointFileFault (contents asked.points) Failed e
 IsJudgeFault words contents Failed (Faces e) = (asked : Asked) × (asked_by words ≡ Some asked)
-    × ((bytes : List ℕ) × IsWhole (contents asked.faces) bytes × IsFaultOfFaces asked.reading.layout bytes e)
+    × IsFaceFileFault asked.reading (contents asked.faces) Failed e

@@ -3,7 +3,7 @@ use Rattle.std.specs.Prelude.{ℕ, List, ◌++◌, codes, decimal}
 use Rattle.qh_model.specs.declared.read_fault.ReadFault.{ReadFault}
 use Rattle.qh_model.specs.declared.read_fault.ReadFault.TheVariants as read
 use Rattle.hullcheck.specs.declared.fault.Fault.{Fault}
-use Rattle.hullcheck.specs.declared.fault.Fault.TheVariants.{Usage, Memory, Device, Output, Points, Faces}
+use Rattle.hullcheck.specs.declared.fault.Fault.TheVariants.{Usage, Memory, Output, Points, Faces}
 
 -- the text for a fault of a file
 abbrev pub read_fault_text : ReadFault → List ℕ
@@ -23,7 +23,6 @@ read_fault_text read.NotOff = codes "NotOff"
 abbrev pub fault_text : Fault → List ℕ
 fault_text Usage = codes "usage: hullcheck [--workers N] [--indices | --counted] [--clockwise] POINTS [FACES]"
 fault_text Memory = codes "hullcheck: out of memory"
-fault_text Device = codes "hullcheck: a file could not be read"
 fault_text Output = codes "hullcheck: the judgement could not be written"
 fault_text (Points fault) = codes "hullcheck: the points: " ++ read_fault_text fault
 fault_text (Faces fault) = codes "hullcheck: the faces: " ++ read_fault_text fault

@@ -7,7 +7,7 @@ use Rattle.qh_check.specs.declared.judgement.Judgement.{Judgement, TheVariants.T
 use Rattle.hullcheck.specs.declared.answer.Answer.{Answer, TheVariants.Help}
 use Rattle.hullcheck.specs.declared.answer.Answer.TheVariants as answer
 use Rattle.hullcheck.specs.declared.fault.Fault.{Fault}
-use Rattle.hullcheck.specs.declared.fault.Fault.TheVariants.{Usage, Memory, Device, Output, Points, Faces}
+use Rattle.hullcheck.specs.declared.fault.Fault.TheVariants.{Usage, Memory, Output, Points, Faces}
 
 -- the faces are the hull, or the help text was written
 abbrev pub all_right : ℕ
@@ -65,7 +65,6 @@ read_fault_status read.NotOff = no_such_text
 abbrev pub fault_status : Fault → ℕ
 fault_status Usage = no_command
 fault_status Memory = no_memory
-fault_status Device = no_device
 fault_status Output = no_device
 fault_status (Points f) = read_fault_status f
 fault_status (Faces f) = read_fault_status f

@@ -29,9 +29,9 @@ const RUNS: [(&[&str], &str, u8, &str, &str); 12] = table![
     (&["hullcheck"], COUNTED, 2, "", USAGE);
     (&["--help"], COUNTED, 2, "", USAGE);
     (&["hullcheck", "cube", "--helper"], COUNTED, 2, "", USAGE);
-    (&["hullcheck", "cube", "none"], COUNTED, 4, "", "hullcheck: a file could not be read\n");
+    (&["hullcheck", "cube", "none"], COUNTED, 4, "", "hullcheck: the faces: the file could not be read\n");
     (&["hullcheck", "broken", "faces"], "", 4, "", "hullcheck: the points: the file could not be read\n");
-    (&["hullcheck", "cube", "broken"], "", 4, "", "hullcheck: a file could not be read\n");
+    (&["hullcheck", "cube", "broken"], "", 4, "", "hullcheck: the faces: the file could not be read\n");
     (&["hullcheck", "word", "faces"], "", 5, "", "hullcheck: the points: BadNumber at line 3\n");
     (&["hullcheck", "cube", "--counted"], "2\n3 0 1 2\n", 5, "", "hullcheck: the faces: Short\n");
 ];
