@@ -8,6 +8,8 @@ from fractions import Fraction
 
 import pytest
 
+from qconvex.commands.exact_numbers import of_numbers, of_words
+from qconvex.commands.grids import map_of_vertices, rounded
 from test_commands import CUBE, CUBE_OFF, TOP, out, run
 
 
@@ -267,3 +269,31 @@ def test_any_line_end_is_read(name, end, tmp_path):
     path.write_bytes(MESHES[name].replace(b"\n", end).rstrip(b"\r\n"))
     found, _, _ = put(path)
     assert sorted(map(tuple, found)) == CUBE
+
+
+LINES = {
+    "wholes": "1 -2 3\n40 5 6\n", "decimals": "1.5 -.25 3.\n0.001 00.5 -0\n", "exponents": "1e-5 -2.5E3 1.50e1\n-3e0 7 0e9\n", "zero": "0 -0.0 0\n"
+}  # fmt: skip
+FLOATS = {"floats": [0.1, -(2.0**-30), 3.0, 1e-9, -0.0, 0.75], "far floats": [2.0**900, 1e300, -5e-324], "zero floats": [0.0, -0.0, 0.0]}
+
+
+@pytest.mark.parametrize("scale", [None, 1000, Fraction(-7, 3), Fraction(1, 8)])
+@pytest.mark.parametrize("name", [*LINES, *FLOATS])
+def test_many_vertices_are_put_on_the_grid_of_few(name, scale):
+    arrays = pytest.importorskip("qconvex.commands.vertex_arrays")
+    if name in LINES:
+        few, many = of_words([(1, line.split()) for line in LINES[name].splitlines()]), arrays.of_decimals(LINES[name].encode(), 3)
+    else:
+        few, many = of_numbers(FLOATS[name]), arrays.of_records(struct.pack(f"<{len(FLOATS[name])}d", *FLOATS[name]), "<ddd", [0, 1, 2])
+    for centre in (None, (Fraction(1, 3), Fraction(0), Fraction(7))):
+        by = map_of_vertices(few, scale and Fraction(scale), centre)
+        assert map_of_vertices(many, scale and Fraction(scale), centre) == by
+        one, other = rounded(few, by), rounded(many, by)
+        assert (one.points, one.changed, one.most) == (other.points, other.changed, other.most)
+
+
+def test_decimals_that_floats_do_not_tell_are_left_to_lists():
+    arrays = pytest.importorskip("qconvex.commands.vertex_arrays")
+    assert arrays.of_decimals(b"0 0 562949953421312\n", 0) and arrays.of_decimals(b"0 0 0.0000000000000000000001\n", 22)
+    for text, behind in ((b"0 -999999999999999 0\n", 0), (b"0 0 56294995342131.3\n", 1), (b"0 0 1e-23\n", 0), (b"1e999 0 0\n", 0)):
+        assert arrays.of_decimals(text, behind) is None

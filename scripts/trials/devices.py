@@ -87,6 +87,17 @@ CHECKS = [
     ("short points", [SHORT, CUBE], 5), ("short faces", ["--indices", CUBE, "/dev/null"], 5),
 ]  # fmt: skip
 
+UNREAD, STRANGER = b"hullcheck: a file could not be read\n", b"face 0: one of its corners is not a point of the set\n"
+CLOCKWISE = "2 3 1 0|4 6 2 0|1 5 4 0|3 7 5 1|6 7 3 2|5 7 6 4"  # the faces of the cube
+# Of each run of the checker its name, a line of shell, and the answer.
+LINES = [
+    ("no input", '"$P" "$CUBE" <&-', (4, b"", UNREAD)),
+    ("a folder as input", '"$P" "$CUBE" < "$EXAMPLES"', (4, b"", UNREAD)),
+    ("an index of 2^30", 'printf "1\\n0 1 1073741824\\n" | "$P" --indices "$CUBE"', (1, STRANGER, b"")),
+    ("an index above 2^30", 'printf "1\\n0 1 1073741825\\n" | "$P" --indices "$CUBE"', (5, b"", b"hullcheck: the faces: BadNumber at line 2\n")),
+    ("an option twice", f'echo "6|{CLOCKWISE}" | tr "|" "\\n" | "$P" --indices --clockwise --clockwise "$CUBE"', (0, b"all right\n", b"")),
+]  # fmt: skip
+
 
 def checker(given, _rng):
     """The checker on devices that fail. Where standard output fails, the status alone is looked at."""
@@ -95,6 +106,9 @@ def checker(given, _rng):
         done = subprocess.run([ours, *words], stdin=subprocess.DEVNULL, capture_output=True, check=False)
         right = done.returncode == status and not done.stdout and done.stderr.count(b"\n") == 1
         yield "runs", None if right else f"{name}: {done}"
+    for name, script, want in LINES:
+        got = shell(script, ours)
+        yield "runs", None if got == want else f"{name}: {got}, not {want}"
     faces = hull_text(points_of(Path(CUBE).read_bytes()), ["off"])[0]
     for name, target in (("a full output", "> /dev/full"), ("no output", ">&-"), ("a full output for the help text", "--help > /dev/full")):
         done = subprocess.run(["sh", "-c", f'"$0" "$1" {target}', ours, CUBE], input=faces, stderr=subprocess.PIPE, check=False)

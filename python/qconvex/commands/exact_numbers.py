@@ -3,11 +3,13 @@ from __future__ import annotations
 
 import re
 from decimal import Context, Decimal
+from importlib import import_module
 from itertools import chain
-from typing import List, NamedTuple, Optional, Sequence, Tuple, Union
+from typing import Any, List, NamedTuple, Optional, Sequence, Tuple, Union
 
 from .off_files import Malformed, Row
 
+MANY = 1 << 15  # so many vertices are read sooner by numpy, which takes a while to load
 # A coordinate of a mesh has fewer decimals than this: the smallest double has 1074.
 MOST_DECIMALS = 2000
 EXACT = Context(prec=10**6)
@@ -20,14 +22,36 @@ OF_ZEROS = re.compile(rb"[+-]?(0{1,999}\.?0{0,999}|\.0{1,999})([eE][+-]?0{1,3})?
 class Vertices(NamedTuple):
     """Vertices as whole numbers: coordinate k of a vertex is its number on axis k divided by the divisor."""
 
-    axes: List[List[int]]  # three lists of whole numbers
+    axes: Any  # three lists of whole numbers; or an array (3, n) of int64, or of float64 with the divisor 1
     divisor: int  # a power of the base
     base: int  # ten for decimals, two for binary numbers
+
+    def listed(self) -> Vertices:
+        """The same with lists."""
+        return self if isinstance(self.axes, list) else self.of_list(self.axes.T.ravel().tolist())
+
+    def ends(self) -> Vertices:
+        """The least coordinates and the greatest ones."""
+        if isinstance(self.axes, list):
+            return self._replace(axes=[[min(part), max(part)] for part in self.axes])
+        return self.of_list([*self.axes.min(1).tolist(), *self.axes.max(1).tolist()])
+
+    def of_list(self, numbers: List[Any]) -> Vertices:
+        """Some numbers of the array, three for each vertex."""
+        return self._replace(axes=along_axes(numbers)) if self.axes.dtype.kind == "i" else of_numbers(numbers)
 
 
 def along_axes(numbers: List[int]) -> List[List[int]]:
     """Numbers, three for each vertex, in a list for each axis."""
     return [numbers[axis::3] for axis in range(3)]
+
+
+def arrays_for(rows: int) -> Any:
+    """The module for many vertices, where there are so many and numpy is installed; else None."""
+    try:
+        return import_module("..vertex_arrays", __name__) if rows >= MANY else None
+    except ImportError:
+        return None
 
 
 def of_lines(text: bytes, separator: Optional[bytes] = None) -> Optional[Vertices]:
@@ -40,6 +64,10 @@ def of_lines(text: bytes, separator: Optional[bytes] = None) -> Optional[Vertice
         return None
     text = text.replace(separator, b" ") if separator else text
     decimals = {len(word.partition(b".")[2]) for word in chain.from_iterable(shapes)}
+    arrays = arrays_for(text.count(b"\n"))
+    found: Optional[Vertices] = arrays.of_decimals(text, max(decimals)) if arrays else None
+    if found:
+        return found
     if len(decimals) == 1 and b"e" not in text and b"E" not in text:
         numbers, most = list(map(int, text.replace(b".", b"").split())), decimals.pop()
     else:

@@ -9,7 +9,7 @@ from __future__ import annotations
 from fractions import Fraction
 from itertools import chain
 from math import floor, gcd
-from typing import List, NamedTuple, Optional, Sequence, Tuple
+from typing import Any, List, NamedTuple, Optional, Tuple
 
 from .._limits import COORDINATE_LIMIT
 from .exact_numbers import Vertices
@@ -27,22 +27,25 @@ class Map(NamedTuple):
 class Rounded(NamedTuple):
     """The whole points of vertices along each axis, how many coordinates were rounded, and by how much at most."""
 
-    axes: List[List[int]]
+    axes: List[Any]  # three lists of whole numbers, or three arrays of int64
     changed: int
     most: Fraction
+
+    def ends(self) -> List[Tuple[int, int]]:
+        """The least and the greatest coordinate on each axis."""
+        return [(min(part), max(part)) if isinstance(part, list) else (part.min(), part.max()) for part in self.axes]
 
     @property
     def points(self) -> List[Tuple[int, ...]]:
         """The whole points."""
-        return list(zip(*self.axes))
+        return list(zip(*(part if isinstance(part, list) else part.tolist() for part in self.axes)))
 
 
 class Box:
     """The least and the greatest coordinate on each axis, and the centre, if one is given."""
 
     def __init__(self, vertices: Vertices, centre: Optional[Fractions] = None) -> None:
-        self.ends = [(min(part), max(part)) for part in vertices.axes]
-        self.divisor = vertices.divisor
+        self.ends, self.divisor, _ = vertices.ends()
         self.centre = centre
 
     def middle(self, scale: Fraction) -> Fractions:
@@ -74,7 +77,13 @@ def map_of_vertices(vertices: Vertices, scale: Optional[Fraction] = None, centre
 
 def exact_scales(vertices: Vertices, centre: Optional[Fractions]) -> List[Fraction]:
     """The least power of the base at which all coordinates and a given centre are whole, from 1 on and of all powers."""
-    common, scale = gcd(*chain.from_iterable(vertices.axes)), Fraction(vertices.divisor)
+    if isinstance(vertices.axes, list):
+        common, divisor = gcd(*chain.from_iterable(vertices.axes)), 1
+    else:
+        from .vertex_arrays import common_of
+
+        common, divisor = common_of(vertices.axes)
+    scale = Fraction(vertices.divisor * divisor)
     while common and common % vertices.base == 0:
         common, scale = common // vertices.base, scale / vertices.base
     scale = scale if common else Fraction(1)
@@ -93,10 +102,11 @@ def finest_scale(box: Box) -> Fraction:
     return Fraction(2) ** power
 
 
-def along_axis(numbers: Sequence[int], divisor: int, offset: Fraction, scale: Fraction) -> Tuple[List[int], int, Fraction]:
+def along_axis(numbers: Any, divisor: int, offset: Fraction, scale: Fraction) -> Tuple[Any, int, Fraction]:
     """The whole numbers of one axis, how many were rounded, and by how much at most, in units of the grid.
 
     n / divisor * scale - offset is (n * top - start) / bottom - shift, and the remainder of the division decides how to round.
+    Of an array it is an OverflowError where 64 bits don't do.
     """
     shift = floor(offset)
     offset -= shift
@@ -104,6 +114,10 @@ def along_axis(numbers: Sequence[int], divisor: int, offset: Fraction, scale: Fr
     top, start = offset.denominator * scale.numerator, offset.numerator * divisor * scale.denominator
     common = gcd(bottom, top, start)
     bottom, top, start = bottom // common, top // common, start // common
+    if not isinstance(numbers, list):
+        from .vertex_arrays import divided
+
+        return divided(numbers, top, start, bottom, shift)
     if bottom == 1:
         return [number * top - start - shift for number in numbers], 0, Fraction(0)
     whole: List[int] = []
@@ -122,7 +136,10 @@ def along_axis(numbers: Sequence[int], divisor: int, offset: Fraction, scale: Fr
 
 def rounded(vertices: Vertices, by: Map) -> Rounded:
     """The whole points of the vertices."""
-    axes = [along_axis(part, vertices.divisor, middle * by.scale, by.scale) for part, middle in zip(vertices.axes, by.centre)]
+    try:
+        axes = [along_axis(part, vertices.divisor, middle * by.scale, by.scale) for part, middle in zip(vertices.axes, by.centre)]
+    except OverflowError:
+        return rounded(vertices.listed(), by)
     wholes, counts, mosts = zip(*axes)
     return Rounded(list(wholes), sum(counts), max(mosts) / abs(by.scale))
 

@@ -39,6 +39,7 @@ WRONG, MEMORY, UNREAD = 1, 3, 5
 
 def places_among(points: Vertices, vertices: Vertices) -> List[int]:
     """The position of each vertex among points, by its coordinates; where there is none, the number of points."""
+    points, vertices = points.listed(), vertices.listed()
     common = lcm(points.divisor, vertices.divisor)
     mine, theirs = (
         list(zip(*([number * (common // given.divisor) for number in axis] for axis in given.axes))) for given in (points, vertices)
@@ -61,13 +62,13 @@ def reason_of(vertices: Vertices, faces: Faces, may_round: bool) -> str:
     """What is wrong with faces, or that all is right."""
     found = rounded(vertices, map_of_vertices(vertices))
     if found.changed and not may_round:
-        return fault_of([(x, y, z) for x, y, z in zip(*vertices.axes)], lists_of(faces)) or RIGHT
+        return fault_of([(x, y, z) for x, y, z in zip(*vertices.listed().axes)], lists_of(faces)) or RIGHT
     if found.changed:
         report(found)
     return reason_of_library(found.axes, faces)
 
 
-def reason_of_library(axes: List[List[int]], faces: Any) -> str:
+def reason_of_library(axes: List[Any], faces: Any) -> str:
     """What the library says. It is Malformed that there is none."""
     try:
         import numpy

@@ -32,17 +32,23 @@ from .grids import Fractions, Map, Rounded, decimals_of, map_of_vertices, rounde
 from .mesh_faces import lists_of
 from .meshes import READERS, faces_of_mesh, vertices_of_mesh
 from .off_files import Malformed, Number, off_text, read_off_file
+from .point_streams import lines_of
 
 NOTE = re.compile(r"scale (\S+) centre (\S+) (\S+) (\S+)")
 
 
 def write_points(found: Rounded, by: Map) -> None:
     """Writes the point file."""
-    if max(max(max(axis), -min(axis)) for axis in found.axes) > COORDINATE_LIMIT:
+    if any(max(high, -low) > COORDINATE_LIMIT for low, high in found.ends()):
         sys.exit(f"meshpoints: with this scale a coordinate is beyond {COORDINATE_LIMIT}")
     print(3, "scale", by.scale, "centre", *by.centre)
     print(len(found.axes[0]))
-    sys.stdout.write("".join(map("%d %d %d\n".__mod__, zip(*found.axes))))
+    if isinstance(found.axes[0], list):
+        sys.stdout.write("".join(map("%d %d %d\n".__mod__, zip(*found.axes))))
+    else:
+        import numpy
+
+        sys.stdout.write(lines_of(numpy.stack(found.axes, 1)).decode("ascii"))
     report(found)
     if len(found.axes[0]) > POINT_LIMIT:
         print(f"more than {POINT_LIMIT} points: hullmany takes them", file=sys.stderr)

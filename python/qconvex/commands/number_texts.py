@@ -162,9 +162,11 @@ def in_rows(column: Any, most: int, there: Any) -> Any:
 @lru_cache(maxsize=None)
 def digit_groups(zero: bytes) -> Any:
     """The letters of the numbers of a group, all of them: without zeros to the left, where 0 is a text that is given; then with them."""
-    bare = [zero, *(b"%d" % number for number in range(1, GROUPS))]
-    full = (b"%04d" % number for number in range(GROUPS))
-    return np.frombuffer(b"".join([*(text.rjust(GROUP, b"\0") for text in bare), *full]), np.uint32)
+    numbers, powers = np.arange(GROUPS)[:, np.newaxis], 10 ** np.arange(GROUP)[::-1]
+    full = (numbers // powers % 10 + ord("0")).astype(np.uint8)
+    bare = full * (numbers >= powers)
+    bare[0] = np.frombuffer(zero.rjust(GROUP, b"\0"), np.uint8)
+    return np.concatenate([bare, full]).view(np.uint32).ravel()
 
 
 def digits_of(numbers: Union[Wide, Any]) -> List[Any]:

@@ -5,7 +5,7 @@ import struct
 from itertools import chain
 from typing import List, NamedTuple, Tuple
 
-from .exact_numbers import Vertices, of_lines, of_numbers, of_words
+from .exact_numbers import Vertices, arrays_for, of_lines, of_numbers, of_words
 from .off_files import COUNT, Malformed, Row, lines_at, lines_of, text_of_numbers
 
 # The types of ply, by struct's letters.
@@ -134,6 +134,10 @@ def of_ply_bytes(body: bytes, header: Header) -> Vertices:
     end = first + element.rows * row.size
     if len(body) < end:
         raise Malformed(f"the ply file has {len(body)} bytes behind its header; its vertices end at byte {end}")
+    arrays = arrays_for(element.rows)
+    if arrays:
+        vertices: Vertices = arrays.of_records(body[first:end], row.format, [x, y, z])
+        return vertices
     rows = row.iter_unpack(body[first:end])
     return of_numbers(list(chain.from_iterable((row[x], row[y], row[z]) for row in rows)))
 

@@ -5,7 +5,7 @@ import struct
 from itertools import chain
 from typing import List, Optional, Sequence, Tuple, Union
 
-from .exact_numbers import Vertices, of_lines, of_numbers, of_words
+from .exact_numbers import Vertices, arrays_for, of_lines, of_numbers, of_words
 from .off_files import Malformed, lines_of
 
 HEAD, TRIANGLE = 84, struct.Struct("<12x12s12s12s2x")
@@ -56,6 +56,10 @@ def of_stl(data: bytes) -> Vertices:
     """The corners of the triangles of an stl file, each once."""
     corners = dict.fromkeys(corners_of(data))
     if all(isinstance(corner, bytes) for corner in corners):
+        arrays = arrays_for(len(corners))
+        if arrays:
+            vertices: Vertices = arrays.of_records(b"".join(corners), "<fff", [0, 1, 2])  # type: ignore[arg-type]
+            return vertices
         return of_numbers(list(struct.unpack(f"<{3 * len(corners)}f", b"".join(corners))))  # type: ignore[arg-type]
     plain = of_lines("".join(map("%s %s %s\n".__mod__, corners)).encode()) if all(len(corner) == 3 for corner in corners) else None
     if plain:

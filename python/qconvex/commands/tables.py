@@ -100,4 +100,9 @@ def of_npy(data: bytes) -> Vertices:
         raise Malformed(f"points have the shape (n, 3), not {getattr(array, 'shape', None)}")
     if array.dtype.kind not in "iuf" or array.dtype.itemsize > 8:
         raise Malformed(f"points are whole numbers or floats of 64 bits at most, not {array.dtype}")
-    return of_numbers(array.ravel().tolist())
+    from .vertex_arrays import of_floats
+
+    if array.dtype.kind == "f":
+        return of_floats(array.T)
+    is_short = abs(array.astype(float)).max(initial=0) < 1 << 61
+    return Vertices(array.T.astype("int64"), 1, 2) if is_short else of_numbers(array.ravel().tolist())
