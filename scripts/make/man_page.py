@@ -5,7 +5,7 @@
     scripts/make/man_page.py --check      says whether it is what would be written; the status is 1 if not
     scripts/make/man_page.py --name NAME  prints the page of the program as it is installed by another name
 
-So there is one source: edit the help text, build the program, run this. The page is read by `man docs/qconvex.1`.
+So there is one source: edit the help text, run this. The page is read by `man docs/qconvex.1`.
 """
 import argparse
 import os

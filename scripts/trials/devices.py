@@ -87,7 +87,7 @@ CHECKS = [
     ("short points", [SHORT, CUBE], 5), ("short faces", ["--indices", CUBE, "/dev/null"], 5),
 ]  # fmt: skip
 
-UNREAD, STRANGER = b"hullcheck: a file could not be read\n", b"face 0: one of its corners is not a point of the set\n"
+UNREAD, STRANGER = b"hullcheck: the faces: the file could not be read\n", b"face 0: one of its corners is not a point of the set\n"
 CLOCKWISE = "2 3 1 0|4 6 2 0|1 5 4 0|3 7 5 1|6 7 3 2|5 7 6 4"  # the faces of the cube
 # Of each run of the checker its name, a line of shell, and the answer.
 LINES = [

@@ -72,8 +72,9 @@ fn judge_words<R: Threads + Sync, F: Files>(
     ensures fault { IfErr result (IsJudgeFault (map string_bytes words.now) (F.contents files.old) (F.failed files.new ≡ true)) }
 {
     let settings = settings_of(words)?;
-    let mut points = open(files, settings.points.unwrap())?;
+    // A closed standard input has to fail before a file takes its descriptor.
     let text = text_of(files, alloc, settings.faces)?;
+    let mut points = open(files, settings.points.unwrap())?;
     let threads = (settings.workers as usize).min(processors).max(1);
     let judged = check_streams(
         rt,

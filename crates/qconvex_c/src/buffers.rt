@@ -15,7 +15,7 @@ pub struct Buffers<'a> {
     pub corners: &'a mut [u32],
 }
 
-/// Writes items at the front of a buffer.
+/// Writes items at the front of a buffer that is long enough. The rest of the buffer stays.
 pub fn put<T: Copy>(buffer: &mut [T], items: &[T])
     requires { length items.now ≤ length buffer.old }
     ensures items { take (length items.now) buffer.new ≡ items.now }

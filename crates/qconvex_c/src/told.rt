@@ -13,7 +13,7 @@ use qh_check::{FaceFault, Judgement, SurfaceVerdict, judge_faces_alone};
 use qh_model::Memory;
 use std::alloc::Global;
 
-/// Returns a verdict that names neither a face nor a point.
+/// Returns the verdict of a kind that needs neither a face nor a point; its other numbers are 0.
 pub fn of_kind(kind: u32) -> Verdict
     ensures { result ≡ of_kind kind }
 {

@@ -79,7 +79,7 @@ pub fn hull_by_parts<R: Threads>(
 
 /// Returns the hull of a set, as [`hull`](qh_block::hull) does, with at most `workers` threads. If there are at least
 /// three workers, a large set is divided into parts, which are joined, provided that most of its first ids are extreme
-/// among these.
+/// among these, and that a sample shows that parts are likely to pay.
 ///
 /// `ids` has at least one id, each the index of one of the points. The caller ensures that the ids rise and have
 /// distinct points (`IsIdSet`).

@@ -19,7 +19,7 @@ pub(crate) struct Blocks<'a> {
     pub pts: &'a [Point],
     pub ids: &'a [Id],
     pub cut: &'a Cut,
-    /// Whether a pass gave up. The tree has no root then, so every other pass gives up at its next block.
+    /// True once a pass gave up. The tree has no root then, so every other pass gives up at its next block.
     given_up: AtomicBool,
     ghost indices: { AreIndices pts.now ids.now },
     ghost rising: { IsStrictlyIncreasing ids.now },
