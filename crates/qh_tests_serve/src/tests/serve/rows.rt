@@ -38,8 +38,8 @@ const ROWS: [(Asked, &str, &str); 13] = table![
 ];
 
 /// The unit cube: each of its six squares as two triangles.
-const CUBE_OFFT: &str =
-    "OFF\n8 12 18\n0 0 0\n0 0 1\n0 1 0\n0 1 1\n1 0 0\n1 0 1\n1 1 0\n1 1 1\n3 0 1 3\n3 0 3 2\n3 0 2 6\n3 0 6 4\n3 0 4 5\n3 0 5 1\n3 1 5 7\n3 1 7 3\n3 2 3 7\n3 2 7 6\n3 4 6 7\n3 4 7 5\n";
+const CUBE_OFFT: &str = "OFF\n8 12 18\n0 0 0\n0 0 1\n0 1 0\n0 1 1\n1 0 0\n1 0 1\n1 1 0\n1 1 1\n\
+    3 0 1 3\n3 0 3 2\n3 0 2 6\n3 0 6 4\n3 0 4 5\n3 0 5 1\n3 1 5 7\n3 1 7 3\n3 2 3 7\n3 2 7 6\n3 4 6 7\n3 4 7 5\n";
 
 const SQUARE_OFFT: &str = "OFF\n4 2 5\n0 0 0\n2 0 0\n2 2 0\n0 2 0\n3 0 1 2\n3 0 2 3\n";
 
