@@ -70,6 +70,6 @@ def divided(numbers: Any, top: int, start: int, bottom: int, shift: int) -> Tupl
     whole, left = np.divmod(numbers, bottom)
     more, left = np.divmod(left * top - start, bottom)
     whole = whole * top + more
-    up = (2 * left > bottom) | (2 * left == bottom) & (whole & 1 == 1)
+    up = (2 * left > bottom) | (2 * left == bottom) & (whole % 2 == 1)
     most = np.where(up, bottom - left, left).max().item()
     return whole + up - shift, np.count_nonzero(left), Fraction(most, bottom)
