@@ -7,8 +7,9 @@
  * The caller's duties, which nothing checks:
  *  - every pointer is aligned for what it points to and is not null, also for a count or a room of 0;
  *  - lists that are only read have as many elements as their count says, each buffer as its room says, all initialised
- *    (calloc does it, and takes no memory for pages that stay unwritten), and nobody else uses it during the call;
- *    the sizes, the count or the verdict, the buffers and what is only read do not overlap;
+ *    (calloc does it, and takes no memory for pages that stay unwritten); during the call nobody writes the lists that are
+ *    only read, which several calls may read at once, and nobody else uses the rest; the sizes, the count or the verdict,
+ *    the buffers and what is only read do not overlap;
  *  - malloc, realloc and free are of one allocator, and align to 16 bytes, as the C library's do;
  *  - no call from a signal handler, or from the forked child of a process that has threads, where malloc may hang;
  *  - the processor has the level x86-64-v2 (SSE4.2).

@@ -6,8 +6,8 @@
  * A call throws Error with the library's status where it refuses what it is given, and std::bad_alloc where there is no
  * memory for buffers. All memory is given back in any case. A call that throws has changed nothing.
  *
- * Where a call takes workers, it starts as many threads, one where they would not pay, and 0 stands for as many as there
- * are processors. The answer is the same for any number of them.
+ * Where a call takes workers, it uses that many threads, or the calling one alone if more would not pay; 0 stands for as many
+ * as there are processors. The answer is the same for any number of them.
  */
 #ifndef QCONVEX_HPP
 #define QCONVEX_HPP
@@ -221,7 +221,7 @@ struct Answer {
 
 namespace detail {
 
-/* Fewer points than this one thread takes, and points of which more than two fifths of a sample are extreme. */
+/* One thread is used for fewer points than this, and if more than two fifths of a sample are extreme. */
 inline constexpr std::size_t least_points = 1 << 16, sample_points = 1 << 12, part_points = 1 << 13;
 
 struct Free {
@@ -421,8 +421,8 @@ inline std::vector<std::size_t> cuts_of(View<std::size_t> starts, std::size_t co
 
 /* The hull of points.
  *
- * Each worker takes the extreme points of a part, and then one thread the hull of these, which is that of all points. Fewer
- * than 65536 points, and points of which most of a sample is extreme, one thread takes. Throws Error where there is no point,
+ * Each worker takes the extreme points of a part, and then one thread the hull of these, which is that of all points. One
+ * thread is used for fewer than 65536 points, and if more than two fifths of a sample are extreme. Throws Error where there is no point,
  * there are too many, a coordinate is out of range, or memory is out. */
 inline Hull hull(Points points, unsigned workers = 1) {
     const std::vector<Index> indices = detail::extremes_of_parts(points, workers);

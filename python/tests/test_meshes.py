@@ -79,7 +79,7 @@ def test_a_hull_comes_back_in_the_units_of_the_mesh(tmp_path):
 
 
 def test_a_scale_and_a_centre_are_numbers(tmp_path):
-    scales = [("--scale", word) for word in ("0", "1/0", "x", "1e999999999")]
+    scales = [("--scale", word) for word in ("0", "-1000", "1/0", "x", "1e999999999")]
     for words in (*scales, ("--centre", "1,2"), ("--centre", "0,0,1/0")):
         done = run("meshpoints", *words, TOP / "examples" / "knot.obj")
         assert done.returncode == 2 and not done.stdout and b"Traceback" not in done.stderr

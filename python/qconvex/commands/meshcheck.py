@@ -75,7 +75,7 @@ def reason_of_library(axes: List[Any], faces: Any) -> str:
 
         from .._checks import check
     except (ImportError, OSError) as missing:
-        raise Malformed(f"meshcheck: numpy and the library are needed: {missing}") from None
+        raise Malformed(f"meshcheck: numpy and the library are needed (make -C c builds it): {missing}") from None
     try:
         return check(numpy.array(axes).T, faces).reason
     except ValueError as refused:

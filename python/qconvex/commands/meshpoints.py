@@ -69,10 +69,10 @@ def number(word: str) -> Fraction:
 
 
 def scale_of(word: str) -> Fraction:
-    """A scale, which is not 0."""
+    """A scale, which is above 0: another one turns the faces inside out."""
     scale = number(word)
-    if not scale:
-        raise argparse.ArgumentTypeError("a scale is not 0")
+    if scale <= 0:
+        raise argparse.ArgumentTypeError("a scale is above 0")
     return scale
 
 
