@@ -33,7 +33,7 @@ OWNERS = [
     (r"^(qh_lattice|qh_block|qh_surface|qh_mesh|qh_pred)::", "surface"),
     # A set is mapped before its surface is made. The tree and its workers make lists of extreme ids by surfaces of blocks. Morton order is
     # the start of a surface.
-    (r"^(qh_hull|qh_run|qh_board|atomic_table)::|^qh_serve::answers::hull", "surface"),
+    (r"^(qh_run|qh_board|atomic_table)::|^qh_serve::answers::hull", "surface"),
     # What is inlined in the calls above the crates is mostly the loop that reads.
     (r"^(qh_read|qh_serve|qconvex)::", "read"),
     # Every phase has points and ids, and claims calls by threads.

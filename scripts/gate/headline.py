@@ -37,7 +37,7 @@ CHECKER = {(CRATES / "hullcheck/src/program.rt", "run")}
 BOARD = {(CRATES / "qh_board/src" / file, call)
          for file, call in (("opening.rt", "new"), ("calls.rt", "claim"), ("calls.rt", "deliver"), ("calls.rt", "leave"),
                             ("calls.rt", "give_up"), ("closing.rt", "close"))}
-SETTINGS = CRATES / "qh_serve/src/settings.rt"
+SETTINGS = CRATES / "qh_command/src/settings.rt"
 LAWS = (CRATES / "qh_model/src/laws", CRATES / "qh_laws/src", CRATES / "qh_lattice/src", CRATES / "qh_laws_surface/src")
 NAMED = re.compile(r"`([^`\s]+)`")
 ROW = re.compile(r"^\| \[\w+\]\(([^)]*\.antt)\) \| ([^|]*) \|", re.M)

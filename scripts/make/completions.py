@@ -1,5 +1,5 @@
 #!/usr/bin/env python3
-"""Prints what a shell completes after the program's name, made of the help text in crates/qconvex/src/help.rt.
+"""Prints what a shell completes after the program's name, made of the help text in crates/qh_command/src/help.rt.
 
     scripts/make/completions.py bash              the shells are bash, zsh and fish
     scripts/make/completions.py fish --name qconvex-exact

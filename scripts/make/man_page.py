@@ -1,5 +1,5 @@
 #!/usr/bin/env python3
-"""Makes the manual page docs/qconvex.1 of the help text, which stands in crates/qconvex/src/help.rt.
+"""Makes the manual page docs/qconvex.1 of the help text, which stands in crates/qh_command/src/help.rt.
 
     scripts/make/man_page.py              writes docs/qconvex.1
     scripts/make/man_page.py --check      says whether it is what would be written; the status is 1 if not
@@ -17,7 +17,7 @@ sys.path.insert(0, str(Path(__file__).resolve().parents[1]))
 from lib.paths import TOP  # noqa: E402
 
 
-SOURCE = os.path.join(TOP, "crates", "qconvex", "src", "help.rt")
+SOURCE = os.path.join(TOP, "crates", "qh_command", "src", "help.rt")
 PAGE = os.path.join(TOP, "docs", "qconvex.1")
 TEXT = re.compile(r'pub const HELP: &str = "((?:[^"\\]|\\.)*)";', re.DOTALL)
 ESCAPES = {"\\n": "\n", "\\\\": "\\", '\\"': '"'}

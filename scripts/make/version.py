@@ -17,8 +17,8 @@ from lib.usage import names_given  # noqa: E402
 
 # A file, the text around the version, and whether it stands there as one number.
 PLACES = [
-    ("crates/qconvex/src/help.rt", 'HELP: &str = "qconvex {}: ', False),
-    ("crates/qconvex/src/help.rt", 'VERSION: &str = "qconvex {}\\n"', False),
+    ("crates/qh_command/src/help.rt", 'HELP: &str = "qconvex {}: ', False),
+    ("crates/qh_command/src/help.rt", 'VERSION: &str = "qconvex {}\\n"', False),
     ("c/qconvex.h", '#define QCONVEX_VERSION "{}"', False),
     ("c/qconvex.h", "#define QCONVEX_VERSION_NUMBER {} ", True),
     ("crates/qconvex_c/src/version.rt", "pub const VERSION: u32 = {};", True),

@@ -1,5 +1,5 @@
 //! The program, given the words of a command line, files, and devices for lines of text.
-ghost use Rattle.std.specs.Prelude.{◌≡◌, ◌⊎◌, ◌^◌, ◌-◌, ◌<◌, IfErr, IfOk, IfSome, Some, false, true, map};
+ghost use Rattle.std.specs.Prelude.{◌≡◌, ◌⊎◌, ◌^◌, ◌-◌, ◌<◌, ℕ, List, Option, IfErr, IfOk, IfSome, Some, false, true, map};
 ghost use Rattle.std.specs.{Prelude.string_bytes, Option.option_map};
 ghost use Rattle.qh_write.specs.contract.LineDevices.{LineDevice};
 ghost use Rattle.hullcheck.specs.contract.{Checking.IsJudgeFault, Judging.IsToldBy, Judging.IsWhole};
@@ -35,7 +35,7 @@ fn open<F: Files>(files: &mut F, name: &str) -> Result<F::File, Fault>
     ensures same { F.contents files.new ≡ F.contents files.old }
     ensures bytes { IfOk result (λ f. IfSome (F.contents files.old (Some name.now)) (λ known. F.File.remaining f ≡ Some known)) }
     ensures begins { IfOk result (λ f. F.File.failure_count f ≡ 0) }
-    ensures fault { IfErr result (IsUnread (Points reads.Device) (F.failed files.new ≡ true)) }
+    ensures fault { IfErr result (IsUnread (Points reads.Device) (F.failed files.new (Some name.now) ≡ true)) }
 {
     match files.open(name) {
         Ok(file) => Ok(file),
@@ -47,7 +47,7 @@ fn open<F: Files>(files: &mut F, name: &str) -> Result<F::File, Fault>
 fn text_of<F: Files>(files: &mut F, alloc: Global, name: Option<&str>) -> Result<Vec<u8>, Fault>
     ensures same { F.contents files.new ≡ F.contents files.old }
     ensures bytes { IfOk result (λ v. IsWhole (F.contents files.old (option_map (λ w. w.now) name.entry)) v.items) }
-    ensures fault { IfErr result (IsUnread (Faces reads.Device) (F.failed files.new ≡ true)) }
+    ensures fault { IfErr result (IsUnread (Faces reads.Device) (F.failed files.new (option_map (λ w. w.now) name.entry) ≡ true)) }
 {
     match files.text(alloc, name) {
         Ok(text) => Ok(text),
@@ -69,12 +69,13 @@ fn judge_words<R: Threads + Sync, F: Files>(
     files: &mut F,
 ) -> Result<Judgement, Fault>
     ensures told { IfOk result (IsToldBy (map string_bytes words.now) (F.contents files.old)) }
-    ensures fault { IfErr result (IsJudgeFault (map string_bytes words.now) (F.contents files.old) (F.failed files.new ≡ true)) }
+    ensures fault { IfErr result (IsJudgeFault (map string_bytes words.now) (F.contents files.old) (λ name. F.failed files.new name ≡ true)) }
 {
     let settings = settings_of(words)?;
     // A closed standard input has to fail before a file takes its descriptor.
     let text = text_of(files, alloc, settings.faces)?;
-    let mut points = open(files, settings.points.unwrap())?;
+    let name = settings.points.unwrap();
+    let mut points = open(files, name)?;
     let threads = (settings.workers as usize).min(processors).max(1);
     let judged = check_streams(
         rt,
@@ -84,7 +85,7 @@ fn judge_words<R: Threads + Sync, F: Files>(
         settings.reading,
         threads as u32,
     );
-    files.close(points);
+    files.close(points, name);
     judged
 }
 
@@ -96,7 +97,7 @@ fn answer<R: Threads + Sync, F: Files>(
     processors: usize,
     files: &mut F,
 ) -> Result<Answer, Fault>
-    ensures { IsAnswered (λ v. map string_bytes v.items) words (F.contents files.old) (F.failed files.new ≡ true) result }
+    ensures { IsAnswered (λ v. map string_bytes v.items) words (F.contents files.old) (λ name. F.failed files.new name ≡ true) result }
 {
     match words {
         Ok(words) if asks_help(&words) => Ok(Answer::Help),
@@ -151,14 +152,14 @@ pub fn run<R: Threads + Sync, F: Files, O: Lines, L: Lines>(
     output: &mut O,
     errors: &mut L,
 ) -> u8
-    requires files { F.failed files.old ≡ false }
+    requires files { (name : Option (List ℕ)) → F.failed files.old name ≡ false }
     requires output { O.count output.old < 2 ^ 64 - 1 }
     requires errors { L.count errors.old < 2 ^ 64 - 1 }
     ensures { let old : LineDevice = record { went = O.went output.old; failures = O.count output.old } in
         let new : LineDevice = record { went = O.went output.new; failures = O.count output.new } in
         let before : LineDevice = record { went = L.went errors.old; failures = L.count errors.old } in
         let after : LineDevice = record { went = L.went errors.new; failures = L.count errors.new } in
-        IsRun (IsAnswered (λ v. map string_bytes v.items) words (F.contents files.old) (F.failed files.new ≡ true))
+        IsRun (IsAnswered (λ v. map string_bytes v.items) words (F.contents files.old) (λ name. F.failed files.new name ≡ true))
         old new before after result }
 {
     let answered = answer(rt, alloc, words, processors, files);

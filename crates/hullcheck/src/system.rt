@@ -31,7 +31,7 @@ impl<R: rt::Files + Input> Files for SystemFiles<'_, R> {
 
     ghost contents = { λ _ _. None };
 
-    ghost failed = { λ s. s.failed };
+    ghost failed = { λ s _. s.failed };
 
     fn open(&mut self, name: &str) -> Result<StdSource<R::File>, ErrorKind> {
         match fs::open(self.rt, name) {
@@ -43,7 +43,7 @@ impl<R: rt::Files + Input> Files for SystemFiles<'_, R> {
         }
     }
 
-    fn close(&mut self, file: StdSource<R::File>) {
+    fn close(&mut self, file: StdSource<R::File>, _name: &str) {
         if file.failures() > 0 {
             self.failed = true;
         }

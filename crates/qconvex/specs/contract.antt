@@ -1,4 +1,3 @@
 -- Definitions that the contracts of public functions cite.
-pub mod CommandLine
 pub mod Outcomes
 pub mod Runs

@@ -4,9 +4,9 @@ ghost use Rattle.qconvex.specs.contract.Outcomes.{IsOutcome, devices};
 ghost use Rattle.qh_write.specs.contract.LineDevices.{LineDevice};
 ghost use Rattle.qconvex.specs.contract.Runs.{IsAsked, IsRun, SaysFault, outcome_status};
 
-use crate::command_line::{ArgFault, settings_of};
+use qh_command::{ArgFault, Settings, settings_of};
 use qh_read::{ReadFault, Source};
-use qh_serve::{Fault, Settings, Threaded, serve};
+use qh_serve::{Fault, Threaded, serve};
 use qh_write::{Lines, Sink, send};
 use std::alloc::Global;
 use std::io::ErrorKind;

@@ -8,8 +8,8 @@ ghost use Rattle.qconvex_c.specs.contract.Triangles.{AreFans};
 use crate::buffers::put;
 use crate::fans::{body_corners, body_normals};
 use crate::given::{CPoint, points_of};
-use qh_hull::hull_alone;
 use qh_model::{Hull, Memory, Point};
+use qh_run::hull_alone;
 use std::alloc::Global;
 
 /// Triangles, by their corners and their normals.

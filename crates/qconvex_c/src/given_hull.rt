@@ -8,7 +8,7 @@ use crate::fault::Fault;
 use crate::flat_hull::{FlatHull, flat_hull};
 use crate::given::{CPoint, points_of};
 use crate::judging::judge;
-use qh_hull::hull_alone;
+use qh_run::hull_alone;
 use std::alloc::Global;
 
 /// Returns the hull of points, in flat lists.

@@ -3,7 +3,7 @@
 //! A set is hulled in parts if that is cheaper: most points of a part are not extreme, and the extreme points of all
 //! parts are few. These rules decide when. They affect the time and never an answer, since the hull of a set is the
 //! same for every division of it. docs/PERFORMANCE.md has the measurements.
-ghost use Rattle.std.specs.Prelude.{◌≡◌, ◌↔◌, ◌≤◌, ◌<◌, ◌+◌, ◌*◌, ◌/◌, ◌^◌, ◌⊎◌, IsTrue};
+ghost use Rattle.std.specs.Prelude.{◌≡◌, ◌↔◌, ◌≤◌, ◌<◌, ◌+◌, ◌*◌, ◌/◌, ◌^◌, ◌⊎◌, ℕ, IsTrue};
 ghost use Rattle.qh_model.specs.{contract.Cut.blocks_of, declared.limits.TheConstants.BLOCK_LIMIT};
 
 use qh_model::BLOCK_LIMIT;
@@ -77,7 +77,7 @@ impl Allowance {
     }
 }
 
-/// Returns the size of the blocks of a list of points: the wanted size, or a greater one if there would be more than
+/// Returns the size of the blocks of a list of points: the wanted size, or the least greater one with at most
 /// `BLOCK_LIMIT` blocks.
 ///
 /// The program wants 4096 if its command line names no other size, so that workers have many blocks of a large set to
@@ -86,6 +86,7 @@ pub fn block_size(count: u32, wanted: u32) -> u32
     requires { 0 < wanted }
     ensures least { wanted ≤ result }
     ensures few { blocks_of count result ≤ BLOCK_LIMIT }
+    ensures smallest { (size : ℕ) → wanted ≤ size → blocks_of count size ≤ BLOCK_LIMIT → result ≤ size }
 {
     wanted.max(count.div_ceil(BLOCK_LIMIT))
 }

@@ -76,8 +76,8 @@ pub fn extremes_unculled(alloc: Global, pts: &[Point], ids: &[Id]) -> Result<Vec
 
 /// Returns the extreme ids of a set, rising.
 ///
-/// `ids` has at least one id, each the index of one of the points. The caller ensures that the ids rise and have
-/// distinct points (`IsIdSet`).
+/// `ids` has at least one id, each the index of one of the points. Nothing is promised for ids that do not rise or that
+/// have a point in common (`IsIdSet`).
 ///
 /// # Errors
 ///
@@ -115,8 +115,8 @@ pub fn few_are_extreme(alloc: Global, pts: &[Point], ids: &[Id]) -> Result<bool,
 
 /// Returns the hull of a set: its dimension, its extreme ids, its faces and the number of its edges.
 ///
-/// `ids` has at least one id, each the index of one of the points. The caller ensures that the ids rise and have
-/// distinct points (`IsIdSet`).
+/// `ids` has at least one id, each the index of one of the points. Nothing is promised for ids that do not rise or that
+/// have a point in common (`IsIdSet`).
 ///
 /// A set of dimension 3 has the polygon of each plane through three of its points with no point outside,
 /// counterclockwise seen from outside. For sets in a point, a line or a plane see

@@ -54,7 +54,7 @@ fn parts_pay(alloc: Global, pts: &[Point], ids: &[Id], count: usize) -> Result<b
 /// plane, or a guess of what stays of the parts, or of what closes the gap between them, is not verified. The contract
 /// allows `None` in every case.
 ///
-/// `ids` are indices of points. The caller ensures that they rise and have distinct points (`IsIdSet`).
+/// `ids` are indices of points. Nothing is promised for ids that do not rise or that have a point in common (`IsIdSet`).
 ///
 /// # Errors
 ///
@@ -81,8 +81,8 @@ pub fn hull_by_parts<R: Threads>(
 /// three workers, a large set is divided into parts, which are joined, provided that most of its first ids are extreme
 /// among these, and that a sample shows that parts are likely to pay.
 ///
-/// `ids` has at least one id, each the index of one of the points. The caller ensures that the ids rise and have
-/// distinct points (`IsIdSet`).
+/// `ids` has at least one id, each the index of one of the points. Nothing is promised for ids that do not rise or that
+/// have a point in common (`IsIdSet`).
 ///
 /// # Errors
 ///

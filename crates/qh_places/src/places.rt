@@ -122,7 +122,7 @@ impl Places {
         Ok(None)
     }
 
-    /// Does the same as `look` for the positions that begin at one.
+    /// Does the same as `look` for the `LEAF` positions from `start` on, or for those that there are.
     fn look_from(
         &self,
         plane: &Plane,

@@ -1,3 +1,4 @@
+pub mod KeptBlocks
 pub mod RightUnions
 pub mod Roots
 pub mod WorkedBoards

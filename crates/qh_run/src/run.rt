@@ -8,8 +8,8 @@ ghost use Rattle.qh_run.specs.declared.run.RunError.TheVariants as errors;
 
 use crate::blocks::Blocks;
 use crate::gate::Gate;
+use crate::hulls::hull_of_body;
 use crate::root::root_ids;
-use qh_hull::hull_of_body;
 use qh_model::{Body, Cut, Hull, Id, Memory, Point, WORKER_LIMIT};
 use std::alloc::Global;
 use std::thread::Threads;

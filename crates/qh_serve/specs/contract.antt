@@ -1,3 +1,2 @@
 -- Further definitions that the contracts of public functions cite.
 pub mod FaultLines
-pub mod Ranges

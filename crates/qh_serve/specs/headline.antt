@@ -1,4 +1,3 @@
 -- Definitions that a reader of the headline has to believe.
 pub mod Answers
 pub mod Serving
-pub mod SettingsValue

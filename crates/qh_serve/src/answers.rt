@@ -10,7 +10,7 @@ ghost use Rattle.qh_write.specs.contract.Pieces.{bytes_in};
 use crate::fault::Fault;
 use crate::hulls::hull_of;
 use crate::ranks::{are_all_ranks, rank_text};
-use crate::settings::Settings;
+use qh_command::Settings;
 use qh_model::{BYTE_LIMIT, Memory, Point};
 use qh_plane::distinct_in_threads;
 use qh_read::{MemSource, ReadFault, read_form_threads};

@@ -4,12 +4,11 @@ ghost use Rattle.qh_model.specs.contract.{Cut.positions, IdSets.AreIndices, IdSe
 ghost use Rattle.qh_model.specs.declared.limits.TheConstants.{POINT_LIMIT};
 ghost use Rattle.qh_model.specs.headline.{DistinctIds.AreDistinctIds, Hull.IsBody, Hull.IsHull, Predicates.place, Sets.Members};
 
-use crate::settings::Settings;
 use qh_block::{block_size, cull_interior};
-use qh_hull::hull_of_body;
+use qh_command::Settings;
 use qh_lattice::reduced;
 use qh_model::{Body, Cut, CutError, Hull, Id, Memory, Point};
-use qh_run::{Gate, RunError, run_body, run_hull};
+use qh_run::{Gate, RunError, hull_of_body, run_body, run_hull};
 use std::alloc::Global;
 use std::thread::Threads;
 

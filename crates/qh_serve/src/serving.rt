@@ -6,7 +6,7 @@ ghost use Rattle.qh_serve.specs.headline.Serving.{Devices, IsServed, IsServeFaul
 
 use crate::answers::text_of;
 use crate::fault::Fault;
-use crate::settings::Settings;
+use qh_command::Settings;
 use qh_read::{ReadFault, Source, read_form_threads};
 use qh_run::Gate;
 use qh_write::{Sink, send_pieces};

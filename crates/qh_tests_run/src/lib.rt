@@ -1,4 +1,4 @@
-//! Tests of the public functions of qh_board, qh_hull and qh_run: boards with one pass and with passes in parallel, and
+//! Tests of the public functions of qh_board and qh_run: boards with one pass and with passes in parallel, and
 //! hulls by one thread and by workers.
 #![tactic(auto)]
 

@@ -34,11 +34,11 @@ abbrev pub IsFaceFileFault : Reading → Option (List ℕ) → Type 0 → ReadFa
 IsFaceFileFault reading content Failed e = ((e ≡ reads.Device) × Failed)
     ⊎ ((bytes : List ℕ) × IsWhole content bytes × IsFaultOfFaces reading.layout bytes e)
 
--- a fault that prevents a verdict on the files that words name; `Failed` says whether a call of the files failed
-abbrev pub IsJudgeFault : List (List ℕ) → (Option (List ℕ) → Option (List ℕ)) → Type 0 → Fault → Type 0
+-- a fault that prevents a verdict on the files that words name; `Failed` says of a file whether a call for it failed
+abbrev pub IsJudgeFault : List (List ℕ) → (Option (List ℕ) → Option (List ℕ)) → (Option (List ℕ) → Type 0) → Fault → Type 0
 IsJudgeFault words contents Failed Usage = asked_by words ≡ None
 IsJudgeFault words contents Failed Memory = Unit {0}
 IsJudgeFault words contents Failed Output = ⊥
-IsJudgeFault words contents Failed (Points e) = (asked : Asked) × (asked_by words ≡ Some asked) × IsPointFileFault (contents asked.points) Failed e
+IsJudgeFault words contents Failed (Points e) = (asked : Asked) × (asked_by words ≡ Some asked) × IsPointFileFault (contents asked.points) (Failed asked.points) e
 IsJudgeFault words contents Failed (Faces e) = (asked : Asked) × (asked_by words ≡ Some asked)
-    × IsFaceFileFault asked.reading (contents asked.faces) Failed e
+    × IsFaceFileFault asked.reading (contents asked.faces) (Failed asked.faces) e

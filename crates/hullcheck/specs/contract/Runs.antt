@@ -13,7 +13,7 @@ abbrev pub IsUnread : ErrorKind → Result Answer Fault → Type 0
 IsUnread kind answered = (kind ≡ OutOfMemory → answered ≡ Err Memory) × (kind ≢ OutOfMemory → answered ≡ Err Usage)
 
 -- the answer to the words, or the fault that prevents it, if there are words
-abbrev pub IsAnswered : {W : Type 0} → (W → List (List ℕ)) → Result W ErrorKind → (Option (List ℕ) → Option (List ℕ)) → Type 0
+abbrev pub IsAnswered : {W : Type 0} → (W → List (List ℕ)) → Result W ErrorKind → (Option (List ℕ) → Option (List ℕ)) → (Option (List ℕ) → Type 0)
     → Result Answer Fault → Type 0
 IsAnswered texts words contents Failed answered = MatchResult words
     (λ w. MatchResult answered (IsAnswerTo (texts w) contents)

@@ -30,7 +30,7 @@ impl<'a> Files for FakeFiles<'a> {
 
     ghost contents = { λ _ _. None };
 
-    ghost failed = { λ f. f.failed };
+    ghost failed = { λ f _. f.failed };
 
     fn open(&mut self, name: &str) -> Result<FailSource<'a>, ErrorKind> {
         match self.named(name) {
@@ -43,7 +43,7 @@ impl<'a> Files for FakeFiles<'a> {
         }
     }
 
-    fn close(&mut self, file: FailSource<'a>) {
+    fn close(&mut self, file: FailSource<'a>, _name: &str) {
         if file.failures() > 0 {
             self.failed = true;
         }

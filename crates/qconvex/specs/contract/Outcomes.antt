@@ -7,8 +7,8 @@ use Rattle.qh_write.specs.headline.Sinks.{AppendsBeginning}
 use Rattle.qh_serve.specs.declared.fault.Fault.{Fault}
 use Rattle.qh_serve.specs.declared.fault.Fault.TheVariants as faults
 use Rattle.qh_serve.specs.headline.Serving.{Devices, IsQuiet, IsServed, IsServeFault}
-use Rattle.qh_serve.specs.headline.SettingsValue.{SettingsValue}
-use Rattle.qconvex.specs.declared.command_line.ArgFault.{ArgFault, TheVariants.Help, TheVariants.Usage, TheVariants.Memory}
+use Rattle.qh_command.specs.headline.SettingsValue.{SettingsValue}
+use Rattle.qh_command.specs.declared.command_line.ArgFault.{ArgFault, TheVariants.Help, TheVariants.Usage, TheVariants.Memory}
 
 -- the devices, by their observable state
 abbrev pub devices : Option (List ℕ) → Option (List ℕ) → ℕ → ℕ → Bool → Devices

@@ -5,9 +5,10 @@ use Rattle.std.specs.declared.io.ErrorKind.{ErrorKind, TheVariants.OutOfMemory}
 use Rattle.clap.specs.Words.{Text}
 use Rattle.qh_write.specs.contract.LineDevices.{LineDevice, SaysLine}
 use Rattle.qh_serve.specs.{contract.FaultLines.fault_line, contract.FaultLines.status_of, declared.fault.Fault.Fault, headline.Serving.Devices}
-use Rattle.qh_serve.specs.headline.SettingsValue.{SettingsValue}
-use Rattle.qconvex.specs.contract.{CommandLine.AreSettingsOf, CommandLine.IsArgFaultOf, Outcomes.IsOutcome}
-use Rattle.qconvex.specs.declared.command_line.ArgFault.{ArgFault, TheVariants.Usage, TheVariants.Memory}
+use Rattle.qh_command.specs.headline.SettingsValue.{SettingsValue}
+use Rattle.qh_command.specs.contract.CommandLine.{AreSettingsOf, IsArgFaultOf}
+use Rattle.qconvex.specs.contract.Outcomes.{IsOutcome}
+use Rattle.qh_command.specs.declared.command_line.ArgFault.{ArgFault, TheVariants.Usage, TheVariants.Memory}
 
 -- there are no words: out of memory, or a word is not UTF-8
 abbrev pub IsUnread : ErrorKind → Result SettingsValue ArgFault → Type 0

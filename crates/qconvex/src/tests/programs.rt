@@ -1,7 +1,7 @@
 //! The program over fake streams.
 use super::stand_in::{StandIn, Stream};
-use crate::help::{HELP, VERSION};
 use crate::system::start;
+use qh_command::{HELP, VERSION};
 use std::process::ExitCode;
 use std::test::Fail;
 

@@ -1,7 +1,7 @@
 //! Rows of points and their hulls, from the list of a cube in Geomview's OFF.
 use qh_fixtures::points::{doubled_cube, grid};
-use qh_hull::hull_alone;
 use qh_model::{Hull, Memory, POINT_LIMIT, Point};
+use qh_run::hull_alone;
 use std::alloc::Global;
 use std::test::Fail;
 

@@ -1,10 +1,11 @@
 //! Calls of `answer` and `serve` with settings given by their parts, and the outcomes as texts, to be compared.
 
+use qh_command::{Settings, SettingsError};
 use qh_fixtures::Host;
 use qh_model::Form;
 use qh_read::MemSource;
 use qh_run::Gate;
-use qh_serve::{Fault, Settings, SettingsError, answer, serve};
+use qh_serve::{Fault, answer, serve};
 use qh_write::{MemSink, Out};
 use std::alloc::{AllocError, Global};
 use std::test::Fail;

@@ -1,11 +1,12 @@
 //! Calls during which one allocation fails: the text is right, or the call is out of memory and returns the right text
 //! when it is repeated. `scripts/trials/refusals.py` makes each allocation fail in turn.
 use crate::tests::outcomes::OFF;
+use qh_command::{Settings, SettingsError};
 use qh_fixtures::files::{CUBE, CUBE_OFF, OCTAHEDRON, OCTAHEDRON_OFF, SQUARE, SQUARE_OFF};
 use qh_fixtures::{Host, again, table};
 use qh_read::{MemSource, ReadFault};
 use qh_run::NoGate;
-use qh_serve::{Fault, Settings, SettingsError, answer, serve};
+use qh_serve::{Fault, answer, serve};
 use qh_write::{MemSink, Sink};
 use std::test::Fail;
 

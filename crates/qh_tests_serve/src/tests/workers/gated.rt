@@ -6,6 +6,7 @@ ghost use Rattle.std.specs.Prelude.{◌≤◌, length};
 ghost use Rattle.qh_model.specs.declared.limits.TheConstants.{POINT_LIMIT};
 
 use crate::tests::outcomes::{Answered, Asked, OFF, Outcome};
+use qh_command::Settings;
 use qh_fixtures::Host;
 use qh_fixtures::files::{OCTAHEDRON, OCTAHEDRON_OFF};
 use qh_fixtures::ids::are;
@@ -14,7 +15,7 @@ use qh_model::{Body, Cut, Id, Memory, Point};
 use qh_plane::distinct;
 use qh_read::ReadFault;
 use qh_run::{Gate, NoGate, RunError, run_hull};
-use qh_serve::{Fault, Settings};
+use qh_serve::Fault;
 use qh_write::text;
 use std::alloc::Global;
 use std::sync::atomic::{AtomicU64, Ordering};

@@ -1,0 +1,3 @@
+pub mod headline
+pub mod contract
+pub mod steps

@@ -1,0 +1,2 @@
+-- Definitions that a reader of the headline has to believe.
+pub mod SettingsValue

@@ -1,2 +1,0 @@
--- Definitions that private functions cite: nothing to believe.
-pub mod Parts
