@@ -17,6 +17,9 @@ use std::thread::Threads;
 /// Two threads sort 32,768 points no faster than one.
 const POINTS_FOR_EACH: usize = 32_768;
 
+/// The same for points in a box with few slots, which take a fraction of the time.
+const BOX_POINTS_FOR_EACH: usize = 65_536;
+
 /// Finds the points of a list that are equal to an earlier one.
 pub trait Finder {
     /// Precondition of this finder.
@@ -96,7 +99,7 @@ impl<R: Threads + Sync> Finder for InThreads<'_, R> {
     ghost ready = { λ _. IsSync R.row };
 
     fn in_box(&self, alloc: Global, close: CloseBox, pts: &[Point]) -> FoundIds {
-        let count = self.for_points(pts);
+        let count = self.threads.min(pts.len() / BOX_POINTS_FOR_EACH);
         if count < 2 {
             return distinct_in_slots(alloc, close, pts);
         }

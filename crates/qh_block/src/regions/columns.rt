@@ -124,8 +124,7 @@ pub fn cells_between(alloc: Global, plan: Plan) -> Result<Vec<Cell>, Memory>
     Ok(cells)
 }
 
-/// Returns the cells of the quarters of the grid with these numbers, one quarter after the other. Which cells are in the
-/// list is not specified.
+/// Returns cells of the quarters of the grid with these numbers, quarter by quarter; which ones is not specified.
 pub fn cells_of_quarters(alloc: Global, plan: Plan, numbers: &[u32]) -> Result<Vec<Cell>, Memory>
     ensures { IfOk result (λ v. All (IsCellOf plan.entry.planes.now) v.items) }
 {
