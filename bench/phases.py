@@ -35,7 +35,7 @@ OWNERS = [
     # the start of a surface.
     (r"^(qh_run|qh_board|atomic_table)::|^qh_serve::answers::hull", "surface"),
     # What is inlined in the calls above the crates is mostly the loop that reads.
-    (r"^(qh_read|qh_serve|qconvex)::", "read"),
+    (r"^(qh_read|qh_command|qh_serve|qconvex)::", "read"),
     # Every phase has points and ids, and claims calls by threads.
     (r"^(qh_model|qh_threads)::", "else"),
 ]

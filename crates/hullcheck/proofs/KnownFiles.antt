@@ -27,8 +27,8 @@ long_of (Some known) remaining (Some rest) e gives =
 long_of (Some known) remaining None e gives = absurd (rw e at gives.1)
 
 -- so a fault that prevents a verdict on the bytes read also prevents one on the files
-pub judge_fault : (words : List (List ℕ)) (contents : Option (List ℕ) → Option (List ℕ)) (asked : Asked) (Failed : Option (List ℕ) → Type 0) (ReadFailed : Type 0)
-    (remaining new : Option (List ℕ)) (text : List ℕ) (f : Fault) → asked_by words ≡ Some asked
+pub judge_fault : (words : List (List ℕ)) (contents : Option (List ℕ) → Option (List ℕ)) (asked : Asked)
+    (Failed : Option (List ℕ) → Type 0) (ReadFailed : Type 0) (remaining new : Option (List ℕ)) (text : List ℕ) (f : Fault) → asked_by words ≡ Some asked
     → IfSome (contents asked.points) (λ known. remaining ≡ Some known) → IsWhole (contents asked.faces) text → (ReadFailed → Failed asked.points)
     → IsCheckFault asked.reading remaining new ReadFailed text f → IsJudgeFault words contents Failed f
 judge_fault words contents asked Failed ReadFailed remaining new text Usage e points faces failed h = absurd h

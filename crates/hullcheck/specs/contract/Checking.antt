@@ -39,6 +39,7 @@ abbrev pub IsJudgeFault : List (List ℕ) → (Option (List ℕ) → Option (Lis
 IsJudgeFault words contents Failed Usage = asked_by words ≡ None
 IsJudgeFault words contents Failed Memory = Unit {0}
 IsJudgeFault words contents Failed Output = ⊥
-IsJudgeFault words contents Failed (Points e) = (asked : Asked) × (asked_by words ≡ Some asked) × IsPointFileFault (contents asked.points) (Failed asked.points) e
+IsJudgeFault words contents Failed (Points e) = (asked : Asked) × (asked_by words ≡ Some asked)
+    × IsPointFileFault (contents asked.points) (Failed asked.points) e
 IsJudgeFault words contents Failed (Faces e) = (asked : Asked) × (asked_by words ≡ Some asked)
     × IsFaceFileFault asked.reading (contents asked.faces) (Failed asked.faces) e

@@ -5,7 +5,8 @@ use Rattle.clap.specs.Words.{Text, matched_of, one_text, raw_values}
 use Rattle.clap.specs.declared.error.kind.ErrorKind.{ErrorKind, TheVariants.DisplayHelp, TheVariants.DisplayVersion, TheVariants.OutOfMemory}
 use Rattle.clap.specs.declared.parser.matches.Found.{Found}
 use Rattle.qh_model.specs.declared.out.Out.{Out}
-use Rattle.qh_command.specs.{contract.CommandLine.AreOutsOf, contract.CommandLine.IsFormOf, contract.CommandLine.NumberOf, declared.command_line.ArgFault.ArgFault}
+use Rattle.qh_command.specs.contract.CommandLine.{AreOutsOf, IsFormOf, NumberOf}
+use Rattle.qh_command.specs.declared.command_line.ArgFault.{ArgFault}
 use Rattle.qh_command.specs.declared.help.TheConstants.{HELP, VERSION}
 use Rattle.qh_command.specs.declared.command_line.ArgFault.TheVariants.{Help, Usage, Memory}
 use Rattle.qh_command.specs.{contract.Ranges.IsInRange, headline.SettingsValue.SettingsValue}
