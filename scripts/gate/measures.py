@@ -28,7 +28,7 @@ LIMITS = {
     "long parameter lists": 1,
     "bare bools": 0,
     "long files": 0,
-    "long lines": 11,
+    "long lines": 10,
     "riddles": 0,
 }
 WORD_LIMITS = {
