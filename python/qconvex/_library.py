@@ -56,7 +56,10 @@ def _path() -> str:
 
 
 def _load() -> ctypes.CDLL:
-    library = ctypes.CDLL(_path())
+    try:
+        library = ctypes.CDLL(_path())
+    except OSError as wrong:
+        raise ImportError(f"the library for C is needed, which `make -C c` builds; QCONVEX_LIBRARY may name another place: {wrong}") from None
     buffer = [ctypes.c_void_p, ctypes.c_size_t]
     library.qconvex_version.restype = ctypes.c_uint32
     library.qconvex_version.argtypes = []

@@ -74,8 +74,8 @@ def reason_of_library(axes: List[Any], faces: Any) -> str:
         import numpy
 
         from .._checks import check
-    except (ImportError, OSError) as missing:
-        raise Malformed(f"meshcheck: numpy and the library are needed (make -C c builds it): {missing}") from None
+    except ImportError as missing:
+        raise Malformed(f"meshcheck: {missing}") from None
     try:
         return check(numpy.array(axes).T, faces).reason
     except ValueError as refused:

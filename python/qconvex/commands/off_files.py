@@ -93,6 +93,9 @@ def parts_of(rows: List[Row]) -> Tuple[List[Row], List[Row]]:
     """The rows of the points and of the faces, after the row of their counts, which has to count them right."""
     line, counts = rows[0] if rows else (1, [])
     if len(counts) == 1 and COUNT.fullmatch(counts[0]):
+        later = next((place for place, words in rows if words == ["OFF"]), None)
+        if later:
+            raise Malformed(f"line {later}: the OFF text begins here, behind another output: give what `qconvex off` writes alone")
         raise Malformed("this is a point file, without faces: qconvex off < FILE writes the hull with its faces")
     if len(counts) < 2 or not all(map(COUNT.fullmatch, counts[:2])):
         raise Malformed(f"line {line}: no OFF text: the numbers of points and faces are missing")
