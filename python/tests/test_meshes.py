@@ -297,3 +297,13 @@ def test_decimals_that_floats_do_not_tell_are_left_to_lists():
     assert arrays.of_decimals(b"0 0 562949953421312\n", 0) and arrays.of_decimals(b"0 0 0.0000000000000000000001\n", 22)
     for text, behind in ((b"0 -999999999999999 0\n", 0), (b"0 0 56294995342131.3\n", 1), (b"0 0 1e-23\n", 0), (b"1e999 0 0\n", 0)):
         assert arrays.of_decimals(text, behind) is None
+
+
+@pytest.mark.parametrize("count", [1, 2, 7, 500, 5000])
+def test_the_first_of_equal_rows_stays(count):
+    numpy = pytest.importorskip("numpy")
+    from qconvex.commands.vertex_arrays import firsts_of
+
+    for reach in (1, 2, 9, 1 << 32):
+        rows = numpy.random.default_rng(count).integers(0, reach, (count, 3)).astype("<u4")
+        assert list(map(tuple, rows[firsts_of(rows)].tolist())) == list(dict.fromkeys(map(tuple, rows.tolist())))

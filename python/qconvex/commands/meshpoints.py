@@ -48,7 +48,8 @@ def write_points(found: Rounded, by: Map) -> None:
     else:
         import numpy
 
-        sys.stdout.write(lines_of(numpy.stack(found.axes, 1)).decode("ascii"))
+        sys.stdout.flush()
+        sys.stdout.buffer.write(lines_of(numpy.stack(found.axes, 1)))
     report(found)
     if len(found.axes[0]) > POINT_LIMIT:
         print(f"more than {POINT_LIMIT} points: hullmany takes them", file=sys.stderr)

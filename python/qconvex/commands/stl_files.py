@@ -17,13 +17,22 @@ CORNERS = [place + 1 for place, word in enumerate(FACET) if word == "vertex"]
 Corner = Union[bytes, Tuple[str, ...]]
 
 
+def count_of(data: bytes) -> int:
+    """The number of triangles that a file of bytes announces."""
+    return int.from_bytes(data[80:HEAD], "little")
+
+
+def is_binary(data: bytes) -> bool:
+    """Whether a file has the bytes of the triangles that it announces."""
+    return len(data) == HEAD + count_of(data) * TRIANGLE.size
+
+
 def corners_of(data: bytes) -> Sequence[Corner]:
     """The corners of all triangles, three for each."""
-    count = int.from_bytes(data[80:HEAD], "little")
-    if len(data) == HEAD + count * TRIANGLE.size:
+    if is_binary(data):
         return list(chain.from_iterable(TRIANGLE.iter_unpack(data[HEAD:])))
     if not data.lstrip().startswith(b"solid"):
-        raise Malformed(f"it has {len(data)} bytes; {count} triangles have {HEAD + count * TRIANGLE.size}")
+        raise Malformed(f"it has {len(data)} bytes; {count_of(data)} triangles have {HEAD + count_of(data) * TRIANGLE.size}")
     return plain_corners(data) or [words for _, words in corners_of_text(data)]
 
 
@@ -54,12 +63,12 @@ def corners_of_text(data: bytes) -> List[Tuple[int, Tuple[str, ...]]]:
 
 def of_stl(data: bytes) -> Vertices:
     """The corners of the triangles of an stl file, each once."""
+    arrays = arrays_for(count_of(data) // 2) if is_binary(data) else None  # a closed mesh has half as many vertices
+    if arrays:
+        vertices: Vertices = arrays.of_triangles(data[HEAD:])
+        return vertices
     corners = dict.fromkeys(corners_of(data))
-    if all(isinstance(corner, bytes) for corner in corners):
-        arrays = arrays_for(len(corners))
-        if arrays:
-            vertices: Vertices = arrays.of_records(b"".join(corners), "<fff", [0, 1, 2])  # type: ignore[arg-type]
-            return vertices
+    if is_binary(data):
         return of_numbers(list(struct.unpack(f"<{3 * len(corners)}f", b"".join(corners))))  # type: ignore[arg-type]
     plain = of_lines("".join(map("%s %s %s\n".__mod__, corners)).encode()) if all(len(corner) == 3 for corner in corners) else None
     if plain:
