@@ -246,13 +246,13 @@ def test_a_file_that_lacks_a_part_is_refused_with_its_line(name, tmp_path):
 
 
 def test_facets_of_text_are_read_at_once_if_nothing_else_is_there():
-    from qconvex.commands.stl_files import corners_of_text, plain_corners
+    from qconvex.commands.stl_files import corners_of, corners_of_text, plain_lines
 
     text = stl_text()
-    assert plain_corners(text) == [words for _, words in corners_of_text(text)] and len(plain_corners(text)) == 36
+    assert corners_of(text) == [words for _, words in corners_of_text(text)] and len(plain_lines(text)) == 36
     others = [LACKING[name][0].encode() for name in ("cut.stl", "two.stl")]
     others += [text + text, text.replace(b"endloop", b"end loop"), text.replace(b"outer", b"inner", 1), text.replace(b"\n", b"\r"), b"solid\nendsolid\n"]
-    assert not any(map(plain_corners, others))
+    assert not any(map(plain_lines, others))
 
 
 def test_an_obj_text_of_vertices_alone_is_read_at_once():

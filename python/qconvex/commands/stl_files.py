@@ -9,9 +9,10 @@ from .exact_numbers import Vertices, arrays_for, of_lines, of_numbers, of_words
 from .off_files import Malformed, lines_of
 
 HEAD, TRIANGLE = 84, struct.Struct("<12x12s12s12s2x")
-# The words of a facet of a text, with None for each number, and where those of its corners are.
-FACET = ["facet", "normal", *[None] * 3, "outer", "loop", *["vertex", *[None] * 3] * 3, "endloop", "endfacet"]
-CORNERS = [place + 1 for place, word in enumerate(FACET) if word == "vertex"]
+# The lines of a facet of a text: their words, and how many numbers follow.
+VERTEX = [b"vertex"], 3
+FACET = [([b"facet", b"normal"], 3), ([b"outer", b"loop"], 0), VERTEX, VERTEX, VERTEX, ([b"endloop"], 0), ([b"endfacet"], 0)]
+CORNERS = [place for place, line in enumerate(FACET) if line is VERTEX]
 
 # A corner by its bytes, or by its words.
 Corner = Union[bytes, Tuple[str, ...]]
@@ -33,18 +34,28 @@ def corners_of(data: bytes) -> Sequence[Corner]:
         return list(chain.from_iterable(TRIANGLE.iter_unpack(data[HEAD:])))
     if not data.lstrip().startswith(b"solid"):
         raise Malformed(f"it has {len(data)} bytes; {count_of(data)} triangles have {HEAD + count_of(data) * TRIANGLE.size}")
-    return plain_corners(data) or [words for _, words in corners_of_text(data)]
+    lines = plain_lines(data)
+    if not lines:
+        return [words for _, words in corners_of_text(data)]
+    words = {line: words_of(line) for line in set(lines)}
+    return [words[line] for line in lines]
 
 
-def plain_corners(data: bytes) -> Optional[List[Tuple[str, ...]]]:
-    """The corners of a text that has nothing but the words of its facets between its first line and its last; None of others."""
+def words_of(line: bytes) -> Tuple[str, ...]:
+    """The words of a line behind its first."""
+    return tuple(line.decode("utf-8", "replace").split()[1:])
+
+
+def plain_lines(data: bytes) -> Optional[List[bytes]]:
+    """The lines of the corners of a text that has nothing but the lines of its facets between its first line and its last; None of others."""
     body, _, last = data.partition(b"\n")[2].rstrip().rpartition(b"\n")
-    words, size = body.decode("utf-8", "replace").split(), len(FACET)
-    are_right = all(word is None or set(words[place::size]) == {word} for place, word in enumerate(FACET))
-    if len(words) % size or not are_right or last.split()[:1] != [b"endsolid"]:
+    lines, size = body.split(b"\n"), len(FACET)
+    if len(lines) % size or last.split()[:1] != [b"endsolid"]:
         return None
-    corners = (zip(*(words[place + axis :: size] for axis in range(3))) for place in CORNERS)
-    return list(chain.from_iterable(zip(*corners)))
+    corners = list(chain.from_iterable(zip(*(lines[place::size] for place in CORNERS))))
+    kinds = [(set(lines[place::size]), line) for place, line in enumerate(FACET) if line is not VERTEX] + [(set(corners), VERTEX)]
+    are_right = (words[: len(words) - numbers] == head for kind, (head, numbers) in kinds for words in map(bytes.split, kind))
+    return corners if all(are_right) else None
 
 
 def corners_of_text(data: bytes) -> List[Tuple[int, Tuple[str, ...]]]:
@@ -67,7 +78,8 @@ def of_stl(data: bytes) -> Vertices:
     if arrays:
         vertices: Vertices = arrays.of_triangles(data[HEAD:])
         return vertices
-    corners = dict.fromkeys(corners_of(data))
+    listed = None if is_binary(data) else plain_lines(data)
+    corners = dict.fromkeys(map(words_of, dict.fromkeys(listed)) if listed else corners_of(data))
     if is_binary(data):
         return of_numbers(list(struct.unpack(f"<{3 * len(corners)}f", b"".join(corners))))  # type: ignore[arg-type]
     plain = of_lines("".join(map("%s %s %s\n".__mod__, corners)).encode()) if all(len(corner) == 3 for corner in corners) else None
