@@ -2,7 +2,6 @@
 -- Source: this project's own.
 use Rattle.std.specs.Prelude.{ℕ, ◌≡◌, ◌≢◌, List, Result, Ok, Err, MatchResult}
 use Rattle.std.specs.declared.io.ErrorKind.{ErrorKind, TheVariants.OutOfMemory}
-use Rattle.clap.specs.Words.{Text}
 use Rattle.qh_write.specs.contract.LineDevices.{LineDevice, SaysLine}
 use Rattle.qh_serve.specs.{contract.FaultLines.fault_line, contract.FaultLines.status_of, declared.fault.Fault.Fault, headline.Serving.Devices}
 use Rattle.qh_command.specs.headline.SettingsValue.{SettingsValue}
@@ -15,7 +14,7 @@ abbrev pub IsUnread : ErrorKind → Result SettingsValue ArgFault → Type 0
 IsUnread kind asked = (kind ≡ OutOfMemory → asked ≡ Err Memory) × (kind ≢ OutOfMemory → asked ≡ Err Usage)
 
 -- the settings of the words or the reason why there are no settings, if there are words
-abbrev pub IsAsked : {W : Type 0} → (W → List Text) → Result W ErrorKind → Result SettingsValue ArgFault → Type 0
+abbrev pub IsAsked : {W : Type 0} → (W → List (List ℕ)) → Result W ErrorKind → Result SettingsValue ArgFault → Type 0
 IsAsked texts words asked = MatchResult words (λ w. MatchResult asked (AreSettingsOf (texts w)) (IsArgFaultOf (texts w))) (λ kind. IsUnread kind asked)
 
 -- a line is written for a fault, and no line for an answer
@@ -29,7 +28,8 @@ outcome_status (Ok _) = 0
 outcome_status (Err fault) = status_of fault
 
 -- the words have settings or a fault, the devices have its outcome, and the status and the line of errors are those of the outcome
-pub record IsRun {W : Type 0} (texts : W → List Text) (words : Result W ErrorKind) (old new : Devices) (before after : LineDevice) (status : ℕ) : Type 0 where
+pub record IsRun {W : Type 0} (texts : W → List (List ℕ)) (words : Result W ErrorKind) (old new : Devices) (before after : LineDevice) (status : ℕ)
+    : Type 0 where
   pub asked : Result SettingsValue ArgFault
   pub outcome : Result (Unit {0}) Fault
   pub asks : IsAsked texts words asked
