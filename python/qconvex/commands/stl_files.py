@@ -74,7 +74,7 @@ def corners_of_text(data: bytes) -> List[Tuple[int, Tuple[str, ...]]]:
 
 def of_stl(data: bytes) -> Vertices:
     """The corners of the triangles of an stl file, each once."""
-    arrays = arrays_for(count_of(data) // 2) if is_binary(data) else None  # a closed mesh has half as many vertices
+    arrays = arrays_for(count_of(data) // 2) if is_binary(data) else None  # a closed mesh has two triangles for each vertex
     if arrays:
         vertices: Vertices = arrays.of_triangles(data[HEAD:])
         return vertices
