@@ -3,7 +3,7 @@ pub mod BridgeLevels
 pub mod JoinedLists
 pub mod LeftIds
 pub mod LevelPlanes
-pub mod ListedCorners
+pub mod MarkedCorners
 pub mod OnceListed
 pub mod OwnCorners
 pub mod PartCorners

@@ -133,17 +133,29 @@ fn outward_of(alloc: Global, surface: &NamedMesh, own: &[Id]) -> Result<Vec<Outw
     Ok(outward)
 }
 
-/// Returns the ids of the corners of the live facets, facet by facet.
-fn corners_of(alloc: Global, surface: &NamedMesh) -> Result<Vec<Id>, AllocError>
-    requires { AreCornersBelow (length surface.now.ids.items) surface.now.mesh }
-    ensures all { IfOk result (λ v. (l : ℕ) → IsLiveCorner (surface_of (named surface.now)) l → In l v.items) }
-    ensures only { IfOk result (λ v. (l : ℕ) → In l v.items → IsLiveCorner (surface_of (named surface.now)) l) }
+/// Sets the marks of ids.
+fn set_marks(marks: &mut Vec<bool>, ids: &[Id])
+    requires { All (λ i. i < length marks.now.items) ids.now }
+    ensures len { length marks.new.items ≡ length marks.old.items }
+    ensures set { (l : ℕ) → In l ids.now → mark_at marks.new.items l ≡ true }
+    ensures kept { (l : ℕ) → mark_at marks.old.items l ≡ true → mark_at marks.new.items l ≡ true }
 {
-    let mut corners = Vec::new(alloc);
-    for f in surface.mesh.live() {
-        corners.extend_from_slice(&surface.corners(f))?;
+    for id in ids {
+        marks[id.index()] = true;
     }
-    Ok(corners)
+}
+
+/// Returns marks for the first `count` ids, set for the corners of the live facets.
+fn corner_marks(alloc: Global, surface: &NamedMesh, count: usize) -> Result<Vec<bool>, AllocError>
+    requires corners { AreCornersBelow (length surface.now.ids.items) surface.now.mesh }
+    requires count { (l : ℕ) → IsLiveCorner (surface_of (named surface.now)) l → l < count }
+    ensures { IfOk result (λ v. (l : ℕ) → IsLiveCorner (surface_of (named surface.now)) l → mark_at v.items l ≡ true) }
+{
+    let mut marks = vec![in alloc; false; count]?;
+    for f in surface.mesh.live() {
+        set_marks(&mut marks, &surface.corners(f));
+    }
+    Ok(marks)
 }
 
 /// Returns true if an id is one of a list.
@@ -163,18 +175,6 @@ pub(crate) fn are_in(some: &[Id], ids: &[Id]) -> bool
         }
     }
     true
-}
-
-/// Returns marks for the first `count` ids, set for the ids of a list.
-fn marks_of(alloc: Global, count: usize, ids: &[Id]) -> Result<Vec<bool>, AllocError>
-    requires { All (λ i. i < count) ids.now }
-    ensures { IfOk result (λ v. (l : ℕ) → In l ids.now → mark_at v.items l ≡ true) }
-{
-    let mut marks = vec![in alloc; false; count]?;
-    for id in ids {
-        marks[id.index()] = true;
-    }
-    Ok(marks)
 }
 
 /// Returns true if an id is marked.
@@ -229,8 +229,7 @@ impl Part {
         let unshared = without(alloc, listed, shared)?;
         let order = each_once(alloc, &unshared, shared, &ids)?;
         let surface = surface_along(alloc, pts, order, first)?;
-        let corners = corners_of(alloc, &surface)?;
-        let marks = marks_of(alloc, pts.len(), &corners)?;
+        let marks = corner_marks(alloc, &surface, pts.len())?;
         let own = marked(alloc, &unshared, &marks)?;
         let outward = outward_of(alloc, &surface, &own)?;
         let places = Places::in_order(alloc, pts, &own, &outward)?;

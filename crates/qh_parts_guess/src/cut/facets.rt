@@ -37,6 +37,17 @@ impl<'a> Facets<'a> {
         places.find(|f| self.is_live(*f))
     }
 
+    /// Returns true if there is a facet at a place, and none of its corners is among the first `count` points of the mesh.
+    pub fn is_past(self, f: FacetNo, count: usize) -> bool {
+        self.is_live(f)
+            && self
+                .surface
+                .mesh
+                .facet(f)
+                .iter()
+                .all(|corner| corner.index() >= count)
+    }
+
     /// Returns what a list has at the positions of a facet's corners among the points of the mesh.
     pub fn at_corners<T: Copy>(self, f: FacetNo, items: &[T]) -> Option<[T; 3]> {
         if !self.is_live(f) {

@@ -64,21 +64,14 @@ pub fn outline_of(alloc: Global, set: Divided, number: usize) -> Result<Outline,
     Ok(Outline::over(alloc, points, &ways)?)
 }
 
-/// Removes the facets whose corners are all shared, since every part may have them.
-fn drop_shared(
-    alloc: Global,
-    part: &Part,
-    shared: &[Id],
-    cutting: &mut Cutting,
-) -> Result<(), AllocError> {
+/// Removes the facets whose corners are all shared, since every part may have them. The shared ids are the last ones of
+/// a part's mesh.
+fn drop_shared(part: &Part, shared: &[Id], cutting: &mut Cutting) -> Result<(), AllocError> {
     let facets = Facets::of(&part.surface);
-    let ids = part.surface.ids.iter();
-    let marks = ids
-        .map(|id| shared.contains(id))
-        .collect::<Vec<bool>>(alloc)?;
+    let own = part.surface.ids.len().saturating_sub(shared.len());
     for place in 0..facets.places() {
         let f = FacetNo::new(place);
-        if facets.at_corners(f, &marks) == Some([true; 3]) {
+        if facets.is_past(f, own) {
             cutting.drop_facet(f)?;
         }
     }
@@ -130,7 +123,7 @@ fn marks_against<'a>(
 ) -> Result<Marks, AllocError> {
     let facets = Facets::of(&part.surface);
     let mut cutting = Cutting::start(alloc, facets, others)?;
-    drop_shared(alloc, part, shared, &mut cutting)?;
+    drop_shared(part, shared, &mut cutting)?;
     let runs = all_witnesses(alloc, facets, four, others, &mut cutting)?;
     cutting.ask_waiting()?;
     if cutting.budget.is_spent() {

@@ -1,5 +1,5 @@
 //! The hull of a set from faces of its parts and polygons that close the gap between them.
-ghost use Rattle.std.specs.Prelude.{◌≡◌, ◌↔◌, ◌++◌, IfOk, IfSome, IsPermutation, IsTrue};
+ghost use Rattle.std.specs.Prelude.{◌≡◌, ◌++◌, IfOk, IfSome, IsPermutation, IsTrue};
 ghost use Rattle.std.specs.List.{All};
 ghost use Rattle.qh_model.specs.headline.Polygons.{RiseStrictly};
 ghost use Rattle.qh_bodies.specs.contract.{Borders.HaveOneBorder, Tallies.IsTally};
@@ -11,7 +11,7 @@ use crate::join::kept::Kept;
 use qh_bodies::{Tally, UnsortedFaces, body_of_faces, have_one_border, out_of_order};
 use qh_model::{Body, Memory, Polygon};
 use std::alloc::{AllocError, Global};
-use std::thread::{Threads, join};
+use std::thread::Threads;
 
 /// Returns true if polygons are in order.
 fn are_in_order(polygons: &[Polygon]) -> bool
@@ -21,7 +21,7 @@ fn are_in_order(polygons: &[Polygon]) -> bool
 }
 
 /// Returns true if bridges have the border of the faces that are gone, and each is a face of the kept ids of a set.
-/// With two or more workers, one of them checks the border, and the others check the bridges.
+/// The workers check the bridges.
 fn close_gap<R: Threads>(
     rt: &R,
     alloc: Global,
@@ -34,24 +34,11 @@ fn close_gap<R: Threads>(
     ensures faces { IfOk result (λ yes. IsTrue yes → All
         (IsBridge kept.entry.pts.now kept.entry.corners.now kept.entry.shared.now) bridges.now) }
 {
-    if workers < 2 {
-        let closes = have_one_border(alloc, gone, bridges)?;
-        if !closes {
-            return Ok(false);
-        }
-        return are_bridges(rt, alloc, kept, bridges, workers);
+    let closes = have_one_border(alloc, gone, bridges)?;
+    if !closes {
+        return Ok(false);
     }
-    let others = workers - 1;
-    let border = move || -> Result<bool, Memory>
-        ensures { IfOk result (λ yes. IsTrue yes ↔ HaveOneBorder gone.entry.now bridges.entry.now) }
-    { have_one_border(alloc, gone, bridges) };
-    let look = move || -> Result<bool, Memory>
-        ensures { IfOk result (λ yes. IsTrue yes → All
-            (IsBridge kept.entry.pts.now kept.entry.corners.now kept.entry.shared.now) bridges.entry.now) }
-    { are_bridges(rt, alloc, kept, bridges, others) };
-    let (closes, are_faces) = join(rt, border, look);
-    let (closes, are_faces) = (closes?, are_faces?);
-    Ok(closes && are_faces)
+    are_bridges(rt, alloc, kept, bridges, workers)
 }
 
 /// Returns copies of polygons.
