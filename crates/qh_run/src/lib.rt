@@ -7,7 +7,7 @@
 //! of their steps. [`run_body`] is the same for any set of ids, and [`work`] for a board of a [`Job`] that a caller makes.
 //!
 //! A [`Gate`] is notified of the blocks, and takes that hull; [`NoGate`] ignores the blocks. [`hull_alone`] starts no
-//! thread and has no tree. [`hull_of_body`] is the last step of all of them.
+//! thread and has no tree. [`hull_of_body`] is the last step of `run_hull` and `hull_alone`.
 //!
 //! Source: Preparata and Hong 1977 (the hull of a set from the hulls of its parts).
 #![tactic(auto)]
