@@ -18,6 +18,13 @@ use std::alloc::{AllocError, Global};
 /// The greatest number of ids in a sample.
 const SAMPLE: usize = 1_024;
 
+/// The greatest share of a sample's corners at seams for dividing to pay, in sixteenths.
+const AT_SEAMS: usize = 10;
+
+/// The same for fewer than four parts. Their seams cut across the octants of the curve, where they cut more of the long
+/// faces of a set than of its sample. A prism has 0.34 there, and a round set at most 0.28.
+const AT_FEW_SEAMS: usize = 5;
+
 /// Ids of a set, rising, each with the number of its part. Ids that belong to every part have no number.
 #[derive(Drop)]
 struct Sample {
@@ -171,8 +178,8 @@ pub fn trial_sample(alloc: Global, pts: &[Point], ids: &[Id]) -> Result<Vec<Id>,
     Ok(indices_among(alloc, pts, &rising)?)
 }
 
-/// Returns true if dividing a set into `count` parts is likely to pay, by the hull of its sample, `trial_sample`: at most
-/// five in eight of the corners are at seams, and the planes of the faces come near few points of the sample.
+/// Returns true if dividing a set into `count` parts is likely to pay, by the hull of its sample, `trial_sample`: few of
+/// the corners are at seams, and the planes of the faces come near few points of the sample.
 ///
 /// # Errors
 ///
@@ -197,5 +204,6 @@ pub fn is_worth_parting(
         ids: sampled,
     };
     let at_seams = sample.corners_at_seams(alloc, &body.polygons)?;
-    Ok(at_seams.saturating_mul(8) <= body.extremes.len().saturating_mul(5))
+    let most = if count < 4 { AT_FEW_SEAMS } else { AT_SEAMS };
+    Ok(at_seams.saturating_mul(16) <= body.extremes.len().saturating_mul(most))
 }
