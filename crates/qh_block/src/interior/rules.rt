@@ -7,11 +7,11 @@ ghost use Rattle.std.specs.Prelude.{◌<◌};
 /// A round of the interior filter: the sets that it takes, and its sample.
 #[derive(Clone, Copy, Drop)]
 pub struct Round {
-    /// The round takes sets of at least this many ids.
+    /// The round takes sets of at least this many ids. Of fewer, the sample would be a large part.
     pub from: usize,
     /// The round's sample has about this many ids, spread evenly over the set.
     pub sample: usize,
-    /// The round's grid has 2 to this power columns along each axis.
+    /// The round's grid has 2 to this power columns along each axis; many planes double it.
     pub side_bits: u32,
 }
 
@@ -26,8 +26,7 @@ impl Round {
 
 /// The only round of a set that is too small for two rounds.
 ///
-/// Its sample and its grid are small, so that they cost little for a small set, too. For fewer ids, the sample is a
-/// large part of the set.
+/// Its sample and its grid are small, so that they cost little for a small set, too.
 pub const SMALL_ROUND: Round = Round {
     from: 8_192,
     sample: 128,
@@ -35,8 +34,6 @@ pub const SMALL_ROUND: Round = Round {
 };
 
 /// The first round tests all ids. The hull of even a small sample has most of them inside, if most are inside at all.
-///
-/// For fewer ids, the sample is a large part of the set.
 pub const FIRST_ROUND: Round = Round {
     from: 50_000,
     sample: 2_048,
@@ -76,6 +73,11 @@ pub const PROBES: usize = 128;
 /// so few points of the set are inside.
 pub fn sample_pays(facets: usize, sample: usize) -> bool {
     facets <= sample
+}
+
+/// Returns 1 if a grid of twice the columns along each axis pays, or else 0. Of many planes, many lie near each point.
+pub fn finer_by(planes: usize, sample: usize) -> u32 {
+    u32::from(planes > sample / 8 * 5)
 }
 
 /// Returns true if the interior filter finds at least half of its sample inside, so that it pays to

@@ -4,7 +4,7 @@ ghost use Rattle.std.specs.List.Sorted.{IsStrictlyIncreasing};
 ghost use Rattle.qh_block.specs.steps.InnerPoints.{HasPlanes, AreInner};
 ghost use Rattle.qh_surface.specs.contract.Corners.{AreCornersBelow};
 
-use crate::interior::rules::sample_pays;
+use crate::interior::rules::{finer_by, sample_pays};
 use crate::regions::{CoarsePlane, Columns, IdSet, Sieve};
 use qh_mesh::Mesh;
 use qh_model::{Id, Memory, Point};
@@ -72,5 +72,6 @@ pub fn inner_columns<S: Sieve>(
     if !sample_pays(planes.len(), sample.ids.len()) {
         return Ok(None);
     }
-    Ok(Some(Columns::between(sieve, alloc, planes, sample, side_bits)?))
+    let bits = side_bits.saturating_add(finer_by(planes.len(), sample.ids.len()));
+    Ok(Some(Columns::between(sieve, alloc, planes, sample, bits)?))
 }
