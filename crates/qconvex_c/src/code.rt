@@ -18,7 +18,7 @@ pub const MEMORY: u32 = 4;
 /// A buffer is too short.
 pub const ROOM: u32 = 5;
 
-/// For many sets: there is no start, the starts do not rise, or one is beyond the points.
+/// There is no start or offset, or one is below the one before it or beyond the list that it cuts.
 pub const STARTS: u32 = 6;
 
 /// For neighbours: no triangle has the reversed side.

@@ -18,7 +18,7 @@ pub const OTHER_FACE: u32 = 4;
 /// More faces run along an edge in one direction than in the other.
 pub const OPEN: u32 = 5;
 
-/// An edge belongs to more than two faces.
+/// Faces run along an edge in one direction more than once.
 pub const TWICE: u32 = 6;
 
 /// There is no face, or the points lie in one plane and have a different polygon.

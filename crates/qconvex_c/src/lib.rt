@@ -2,7 +2,7 @@
 //! triangles with their normals.
 //!
 //! `given` converts the points, and `judging` refuses those that have no hull here. `flat_hull` and `fans` lay a hull
-//! out in flat lists, which `given_hull` returns. `buffers` and `fan_lists` fill the caller's buffers. `sets` and
+//! out in flat lists, which `given_hull` and `fan_lists` return. `buffers` and `fan_lists` fill the caller's buffers. `sets` and
 //! `set_hulls` do so for many sets in one call. `cut_faces` converts the faces of a caller, which `checked` judges, and
 //! `told` converts the result. `side_keys` sorts the sides of triangles, which `neighbors` joins. No function here starts a
 //! thread or keeps anything between calls.

@@ -58,7 +58,7 @@ QCONVEX_OTHER_FACE = 4
 abbrev pub QCONVEX_OPEN : ℕ
 QCONVEX_OPEN = 5
 
--- an edge belongs to more than two faces
+-- faces run along an edge in one direction more than once
 abbrev pub QCONVEX_TWICE : ℕ
 QCONVEX_TWICE = 6
 
