@@ -1,7 +1,7 @@
 //! Definitions that all of qconvex shares: points, ids, facet numbers, limits, point files and OFF files, the
 //! predicates, extreme points and the hull.
 //!
-//! The definitions are in `specs/`, one idea a file. Contracts of every crate cite them, and the functions of [`laws`]
+//! The definitions are in `specs/`, one idea a file. Contracts of most crates cite them, and the functions of [`laws`]
 //! prove what follows from them alone.
 #![tactic(auto)]
 

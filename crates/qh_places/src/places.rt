@@ -193,7 +193,7 @@ impl Places {
         self.near(alloc, Bundle::of_planes(origin, planes))
     }
 
-    /// Appends to `found` the ids whose points lie in a plane, if no point lies above the plane; else returns the id of
+    /// Lists in `found` the ids whose points lie in a plane, if no point lies above the plane; else returns the id of
     /// one that does. If `near` was made for the plane, only its positions are tested; for any other plane, all
     /// positions are.
     ///

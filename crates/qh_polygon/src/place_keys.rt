@@ -13,7 +13,7 @@ use std::alloc::{AllocError, Global};
 /// The number of values of a coordinate and of an id in a key of [`place_key`]: 2^32. Each is below it.
 pub const ROOM: u128 = 4294967296;
 
-/// Returns a coordinate, biased so that it is above 0.
+/// Returns a coordinate, biased so that it is not below 0.
 pub fn biased(coordinate: i32) -> u64
     requires { IsCoordinate coordinate }
     ensures value { result ≡ biased coordinate }

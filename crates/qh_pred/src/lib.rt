@@ -3,8 +3,8 @@
 //! share.
 //!
 //! Each predicate returns the value of its definition in `qh_model/specs/headline/Predicates.antt`; `left` returns the
-//! sign. The results are exact for all points, since a [`qh_model::Point`] keeps the limit of coordinates. No call
-//! allocates memory.
+//! sign, for points in a plane with its normal. The results are exact, since a [`qh_model::Point`] keeps the limit of
+//! coordinates. No call allocates memory.
 //!
 //! [`least_of`] and [`greatest_of`] return corners of the box that two points span.
 //!

@@ -19,7 +19,7 @@ pub(crate) struct Blocks<'a> {
     pub pts: &'a [Point],
     pub ids: &'a [Id],
     pub cut: &'a Cut,
-    /// True once a pass gave up. The tree has no root then, so every other pass gives up at its next block.
+    /// True once a pass found too many extreme ids. The tree has no root then, so others give up at their next block.
     given_up: AtomicBool,
     ghost indices: { AreIndices pts.now ids.now },
     ghost rising: { IsStrictlyIncreasing ids.now },

@@ -41,7 +41,7 @@ pub struct Axes {
 }
 
 impl Axes {
-    /// Returns the axes of a set with these ends (see [`ends_of`](crate::ends_of)).
+    /// Returns the axes of a set with these ends (see [`ends_of`](crate::starts::ends_of)).
     pub fn of(pts: &[Point], ends: &[Id; 6]) -> Axes
         requires { AreIndices pts.now ends.now }
     {

@@ -81,7 +81,7 @@ fn ids_of(alloc: Global, keys: Vec<Packed>) -> Result<Vec<Id>, AllocError>
 }
 
 /// Sorts ids along a Morton curve through their points, so that the ids of near points are near each other. The ends
-/// are those of the set along the three axes (see [`ends_of`](crate::ends_of)).
+/// are those of the set along the three axes (see [`ends_of`](crate::starts::ends_of)).
 ///
 /// # Errors
 ///
