@@ -207,7 +207,7 @@ struct Verdict {
         case QCONVEX_ABOVE: return face + ": point " + std::to_string(told.point) + " is above its plane";
         case QCONVEX_OTHER_FACE: return face + ": the polygon of its plane is another";
         case QCONVEX_OPEN: return edge + " is open";
-        case QCONVEX_TWICE: return edge + " belongs to more than two faces";
+        case QCONVEX_TWICE: return "more than one face has " + edge;
         default: return "the polygons are others";
         }
     }

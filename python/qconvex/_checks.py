@@ -29,7 +29,7 @@ _REASONS = {
     _ABOVE: "face {face}: point {point} is above its plane",
     _OTHER_FACE: "face {face}: the polygon of its plane is another",
     _OPEN: "the side from point {start} to point {end} is open",
-    _TWICE: "the side from point {start} to point {end} belongs to more than two faces",
+    _TWICE: "more than one face has the side from point {start} to point {end}",
     _OTHERS: "the polygons are others",
 }
 

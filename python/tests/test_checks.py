@@ -39,7 +39,7 @@ def test_an_edge_that_is_wrong():
     assert not missing and missing.face is None and missing.edge is not None and set(missing.edge) < {0, 1, 3}
     assert missing.reason == "the side from point {} to point {} is open".format(*missing.edge)
     twice = check(CUBE, TRIANGLES + TRIANGLES)
-    assert not twice and twice.edge is not None and "more than two faces" in twice.reason
+    assert not twice and twice.edge is not None and "more than one face" in twice.reason
 
 
 def test_flat_sets():

@@ -37,7 +37,7 @@ impl fmt::Display for SurfaceVerdict {
                 let (u, v) = (from.number(), to.number());
                 write!(
                     f,
-                    "the side from point {u} to point {v} belongs to more than two faces"
+                    "more than one face has the side from point {u} to point {v}"
                 )
             }
         }

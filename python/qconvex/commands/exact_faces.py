@@ -107,7 +107,7 @@ def fault_of_sides(points: Sequence[Vector], faces: Sequence[Sequence[int]]) -> 
         if count > counts.get((end, start), 0):
             return f"the side from point {start} to point {end} is open"
     twice = next((side for side, count in counts.items() if count > 1), None)
-    return f"the side from point {twice[0]} to point {twice[1]} belongs to more than two faces" if twice else None
+    return f"more than one face has the side from point {twice[0]} to point {twice[1]}" if twice else None
 
 
 def fault_of_corners(points: Sequence[Vector], faces: Sequence[Sequence[int]], planes: Sequence[Plane]) -> Optional[str]:

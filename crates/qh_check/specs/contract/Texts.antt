@@ -17,8 +17,7 @@ verdict_text Right = codes "all right"
 verdict_text OtherPolygons = codes "the polygons are others"
 verdict_text (NoPiece n fault) = codes "face " ++ (decimal n ++ (codes ": " ++ face_fault_text fault))
 verdict_text (Open u v) = codes "the side from point " ++ (decimal u ++ (codes " to point " ++ (decimal v ++ codes " is open")))
-verdict_text (Twice u v) =
-    codes "the side from point " ++ (decimal u ++ (codes " to point " ++ (decimal v ++ codes " belongs to more than two faces")))
+verdict_text (Twice u v) = codes "more than one face has the side from point " ++ (decimal u ++ (codes " to point " ++ decimal v))
 
 -- the text of the judgement
 abbrev pub judgement_text : Judgement → List ℕ
