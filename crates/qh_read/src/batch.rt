@@ -87,18 +87,18 @@ impl Batch {
         rt: &R,
         sizes: Sizes,
         reader: &mut Reader,
-        done: &Batch,
+        done: &mut Batch,
         here: &mut H,
     ) -> (Result<(), FeedFault>, B)
         requires few { length (batch_text self.old) ≤ BYTE_LIMIT }
         requires parsed { IsParsed self.old }
-        requires done { IsParsed done.now }
+        requires done { IsParsed done.old }
         requires here { H.pre here.old }
         ensures fed { OnOk result.0 ((form : Form) (before : List ℕ) → Fed form reader.old before
-            → Fed form reader.new (before ++ batch_text done.now)) }
-        ensures count { OnOk result.0 (reader.new.count ≡ reader.old.count + length (batch_text done.now)) }
+            → Fed form reader.new (before ++ batch_text done.old)) }
+        ensures count { OnOk result.0 (reader.new.count ≡ reader.old.count + length (batch_text done.old)) }
         ensures big { result.0 ≡ Err FeedFault.Big
-            → BYTE_LIMIT < reader.old.count + length (batch_text done.now) }
+            → BYTE_LIMIT < reader.old.count + length (batch_text done.old) }
         ensures here { H.step here.old result.1 here.new }
         ensures parsed { IsParsed self.new }
         ensures text { batch_text self.new ≡ batch_text self.old }
@@ -131,15 +131,17 @@ impl Batch {
         (fed, answer)
     }
 
-    /// Feeds the bytes to a reader, with the points of the segments.
-    pub fn feed(&self, reader: &mut Reader) -> Result<(), FeedFault>
-        requires { IsParsed self.now }
+    /// Feeds the bytes to a reader, with the points of the segments, whose memory is free for the next ones then.
+    pub fn feed(&mut self, reader: &mut Reader) -> Result<(), FeedFault>
+        requires { IsParsed self.old }
         ensures fed { OnOk result ((form : Form) (before : List ℕ) → Fed form reader.old before
-            → Fed form reader.new (before ++ batch_text self.now)) }
-        ensures count { OnOk result (reader.new.count ≡ reader.old.count + length (batch_text self.now)) }
+            → Fed form reader.new (before ++ batch_text self.old)) }
+        ensures count { OnOk result (reader.new.count ≡ reader.old.count + length (batch_text self.old)) }
         ensures big { result ≡ Err FeedFault.Big
-            → BYTE_LIMIT < reader.old.count + length (batch_text self.now) }
+            → BYTE_LIMIT < reader.old.count + length (batch_text self.old) }
     {
-        feed_all(reader, self.segments.as_slice(), self.text())
+        let fed = feed_all(reader, self.segments.as_slice(), self.text());
+        self.segments.clear();
+        fed
     }
 }

@@ -123,9 +123,7 @@ impl Reader {
         ensures big { result ≡ Err FeedFault.Big → BYTE_LIMIT < self.old.count + length text.now }
     {
         let (first, piece) = text.split_at(segment.head);
-        if let Err(fault) = self.feed(first) {
-            return Err(fault);
-        }
+        self.feed(first)?;
         self.feed_known(&KnownPoints {
             piece,
             points: segment.points.as_slice(),

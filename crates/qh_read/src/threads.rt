@@ -19,7 +19,7 @@ use std::mem;
 use std::thread::Threads;
 
 /// The number of bytes that are read serially before the first batch.
-const START_LENGTH: u32 = 65_536;
+const START_LENGTH: u32 = 655_360;
 
 /// The number of bytes of a batch: large enough to pay for starting threads, small enough that its memory is reused.
 const BATCH_LENGTH: usize = 524_288;
@@ -197,7 +197,7 @@ pub fn read_form_sizes<R: Threads + Sync, S: Source>(
 /// Returns the points of the file of this form in a source, with the results of [`read_form_from`]. It starts at most
 /// this number of threads at a time.
 ///
-/// A file of less than 262,144 bytes is read by the calling thread alone, and so is any file if `threads` is 0 or 1. The
+/// A file of less than 851,968 bytes is read by the calling thread alone, and so is any file if `threads` is 0 or 1. The
 /// result does not depend on the number of threads, nor on which of them can be started. Out of memory for the points
 /// of a segment only costs time.
 pub fn read_form_threads<R: Threads + Sync, S: Source>(
