@@ -8,7 +8,7 @@ use crate::seam::staying_faces;
 use qh_bodies::UnsortedFaces;
 use qh_model::{Id, Memory, Polygon};
 use qh_parts_guess::gap::{Border, border_of};
-use qh_parts_guess::{Outline, marks_of, outline_of};
+use qh_parts_guess::marks_of;
 use qh_parts_join::{Divided, Guess};
 use qh_threads::map_indices;
 use std::alloc::{AllocError, Global};
@@ -33,40 +33,15 @@ pub(crate) struct Contributions {
     pub seam: Vec<Id>,
 }
 
-/// Returns the outlines of all parts, with a thread for each.
-pub(crate) fn outlines_in_threads<R: Threads>(
-    rt: &R,
-    alloc: Global,
-    set: Divided,
-) -> Result<Vec<Outline>, Memory> {
-    let mut made = map_indices(
-        rt,
-        alloc,
-        set.parts.len(),
-        &move |number: usize| -> Result<Outline, Memory> { outline_of(alloc, set, number) },
-    )?;
-    let mut outlines = Vec::new(alloc);
-    while let Some(outline) = made.pop() {
-        outlines.push(outline?)?;
-    }
-    outlines.reverse();
-    Ok(outlines)
-}
-
 /// Returns the contribution of the part with this number, if its guess is verified.
-fn given_by(
-    alloc: Global,
-    set: Divided,
-    outlines: &[Outline],
-    number: usize,
-) -> Result<Option<Contribution>, Memory>
+fn given_by(alloc: Global, set: Divided, number: usize) -> Result<Option<Contribution>, Memory>
     requires { All (IsPartOf set.pts.now set.shared.now) set.parts.now }
     ensures { IfOk result (λ found. IfSome found (IsContribution set.entry.pts.now set.entry.shared.now set.entry.parts.now)) }
 {
     if number >= set.parts.len() {
         return Ok(None);
     }
-    let marks = marks_of(alloc, set, outlines, number)?;
+    let marks = marks_of(alloc, set, number)?;
     let guess = Guess {
         stay: &marks.stay,
         runs: &marks.runs,
@@ -119,7 +94,6 @@ pub(crate) fn given_in_threads<R: Threads>(
     rt: &R,
     alloc: Global,
     set: Divided,
-    outlines: &[Outline],
 ) -> Result<Option<Contributions>, Memory>
     requires { All (IsPartOf set.pts.now set.shared.now) set.parts.now }
     ensures { IfOk result (λ found. IfSome found (IsGiven set.entry.pts.now set.entry.shared.now set.entry.parts.now)) }
@@ -131,7 +105,7 @@ pub(crate) fn given_in_threads<R: Threads>(
         &move |number: usize| -> Result<Option<Contribution>, Memory>
             requires { All (IsPartOf set.pts.now set.shared.now) set.parts.now }
             ensures { IfOk result (λ found. IfSome found (IsContribution set.entry.pts.now set.entry.shared.now set.entry.parts.now)) }
-        { given_by(alloc, set, outlines, number) },
+        { given_by(alloc, set, number) },
     )?;
     all_given(alloc, set, made)
 }

@@ -6,13 +6,12 @@ ghost use Rattle.qh_model.specs.headline.{Predicates.place, Sets.Members};
 ghost use Rattle.qh_parts_join.specs.contract.Parts.{IsPartOf};
 ghost use Rattle.qh_parts.specs.steps.{Given.AreGivenOf, Kept.HaveKept};
 
-use crate::given::outlines_in_threads;
 use crate::hulls::Seams;
 use crate::joint::{Joint, joint_of};
 use crate::pieces::{Parted, are_indices};
 use qh_block::hull;
 use qh_model::{Body, Id, Memory, Point};
-use qh_parts_guess::{Outline, is_worth};
+use qh_parts_guess::is_worth;
 use qh_parts_join::join::{Kept, corners_of, join_faces};
 use qh_parts_join::{Divided, kept_ids};
 use std::alloc::Global;
@@ -78,9 +77,9 @@ fn hull_at_joint<R: Threads>(
 }
 
 /// Returns true if parts should be joined at their seams.
-fn has_seams(set: Divided, outlines: &[Outline], seams: Seams) -> bool {
+fn has_seams(set: Divided, seams: Seams) -> bool {
     match seams {
-        Seams::WhereTheyPay => is_worth(set, outlines),
+        Seams::WhereTheyPay => is_worth(set),
         Seams::Always => true,
     }
 }
@@ -106,11 +105,10 @@ pub(crate) fn hull_of_parts<R: Threads>(
         parts: &parted.parts,
         shared: &parted.shared,
     };
-    let outlines = outlines_in_threads(rt, alloc, set)?;
-    if !has_seams(set, &outlines, seams) {
+    if !has_seams(set, seams) {
         return hull_of_corners(alloc, set, ids);
     }
-    let Some(joint) = joint_of(rt, alloc, set, ids, outlines)? else {
+    let Some(joint) = joint_of(rt, alloc, set, ids)? else {
         return Ok(None);
     };
     hull_at_joint(rt, alloc, pts, parted, joint, workers)

@@ -7,7 +7,6 @@ use crate::given::{Contributions, given_in_threads};
 use qh_block::hull;
 use qh_bodies::UnsortedFaces;
 use qh_model::{Id, Memory, Point, Polygon};
-use qh_parts_guess::Outline;
 use qh_parts_guess::gap::{Border, bridge_over, indices_among};
 use qh_parts_join::{Divided, Part, have_ids};
 use qh_polygon::rising_ids;
@@ -80,18 +79,15 @@ pub(crate) fn joint_of<R: Threads>(
     alloc: Global,
     set: Divided,
     ids: &[Id],
-    outlines: Vec<Outline>,
 ) -> Result<Option<Joint>, Memory>
     requires { All (IsPartOf set.pts.now set.shared.now) set.parts.now }
     ensures given { IfOk result (λ found. IfSome found (λ j. AreGivenOf set.entry.pts.now set.entry.shared.now set.entry.parts.now
         j.faces j.gone.items)) }
     ensures kept { IfOk result (λ found. IfSome found (λ _. HaveKept set.entry.parts.now set.entry.shared.now ids.now)) }
 {
-    let Some(given) = given_in_threads(rt, alloc, set, &outlines)? else {
+    let Some(given) = given_in_threads(rt, alloc, set)? else {
         return Ok(None);
     };
-    // The outlines are no longer needed, and the list of faces needs their memory.
-    drop(outlines);
     let Contributions {
         faces,
         gone,

@@ -13,4 +13,4 @@ mod recent;
 
 pub(crate) use cutting::Others;
 pub(crate) use facets::Facets;
-pub use marking::{Marks, marks_of, outline_of};
+pub use marking::{Marks, marks_of};

@@ -1,6 +1,5 @@
 //! The rule that decides whether joining the hulls of parts at their seams pays.
 use crate::cut::{Facets, Others};
-use crate::outlines::Outline;
 use qh_parts_join::{Divided, Part};
 use qh_places::Budget;
 
@@ -14,8 +13,8 @@ const GONE_SHARE: usize = 4;
 /// The number of facets of each part that are tested, spread over all.
 const ASKED: usize = 64;
 
-/// The greatest number of blocks and points that the test of a facet examines, on average, for joining to pay. A round
-/// set takes 50, an ellipsoid of the axes 9, 6 and 2 takes 210, and a slanted thin plate most of its corners.
+/// The greatest number of positions and points that the test of a facet examines, on average, for joining to pay. A round
+/// set takes 50, an ellipsoid of the axes 9, 6 and 2 takes 84, and a slanted thin plate most of its corners.
 const LOOKED_FOR_EACH: u32 = 384;
 
 /// The number of tested facets, and the number of removed ones among them.
@@ -33,11 +32,11 @@ impl FacetTally {
         let mut tally = self;
         for number in 0..ASKED {
             let first = facets.first_from(step.wrapping_mul(number));
-            let Some(sight) = first.and_then(|f| facets.sight(f)) else {
+            let Some(tangent) = first.and_then(|f| facets.tangent(f)) else {
                 break;
             };
             tally.asked = tally.asked.saturating_add(1);
-            if !others.are_below(&sight, budget) {
+            if !others.are_below(&tangent, budget) {
                 tally.gone = tally.gone.saturating_add(1);
             }
         }
@@ -47,7 +46,7 @@ impl FacetTally {
 
 /// Returns true if joining the hulls of parts is likely to pay: they have more than `few` corners, few facets are
 /// removed, and testing a facet does not take long.
-pub(crate) fn is_worth_above(few: usize, set: Divided, outlines: &[Outline]) -> bool {
+pub(crate) fn is_worth_above(few: usize, set: Divided) -> bool {
     let own = set.parts.iter().map(|part| part.own.len());
     if own.fold(set.shared.len(), |count, more| count.saturating_add(more)) <= few {
         return false;
@@ -55,14 +54,20 @@ pub(crate) fn is_worth_above(few: usize, set: Divided, outlines: &[Outline]) -> 
     let mut tally = FacetTally { asked: 0, gone: 0 };
     let mut budget = Budget::for_each(set.parts.len().saturating_mul(ASKED), LOOKED_FOR_EACH);
     for (number, part) in set.parts.iter().enumerate() {
-        tally = tally.with(part, Others { outlines, number }, &mut budget);
+        tally = tally.with(
+            part,
+            Others {
+                parts: set.parts,
+                number,
+            },
+            &mut budget,
+        );
     }
     !budget.is_spent() && tally.gone <= tally.asked / GONE_SHARE
 }
 
 /// Returns true if joining the hulls of the parts of a set at their seams is likely to pay: they have many corners,
-/// most of their facets are likely to stay, and a few blocks are enough to test a facet. `outlines` has the outline of
-/// each part.
-pub fn is_worth(set: Divided, outlines: &[Outline]) -> bool {
-    is_worth_above(FEW_CORNERS, set, outlines)
+/// most of their facets are likely to stay, and a few blocks are enough to test a facet.
+pub fn is_worth(set: Divided) -> bool {
+    is_worth_above(FEW_CORNERS, set)
 }

@@ -15,4 +15,4 @@ mod parts;
 
 pub use guesses::{Divided, Guess, Run};
 pub use kept::{have_ids, kept_ids};
-pub use parts::{FACING_TOGETHER, Part};
+pub use parts::Part;

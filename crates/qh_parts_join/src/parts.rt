@@ -28,8 +28,6 @@ pub struct Part {
     pub own: Vec<Id>,
     /// The points of these corners, by blocks.
     pub places: Places,
-    /// For each [`FACING_TOGETHER`] of these corners, a guess of the outward direction.
-    pub facing: Vec<Outward>,
 }
 
 /// Returns the first four of the shared ids, if their points do not lie in one plane.
@@ -89,9 +87,6 @@ fn without(alloc: Global, ids: &[Id], others: &[Id]) -> Result<Vec<Id>, AllocErr
     }
     Ok(left)
 }
-
-/// The number of consecutive own corners of a part that share a direction in which the surface faces.
-pub const FACING_TOGETHER: usize = 32;
 
 /// Of this many facets one contributes to the outward directions, which are needed for groups of corners alone.
 const FACING_SHARE: usize = 4;
@@ -233,14 +228,11 @@ impl Part {
         let own = marked(alloc, &unshared, &marks)?;
         let outward = outward_of(alloc, &surface, &own)?;
         let places = Places::in_order(alloc, pts, &own, &outward)?;
-        let together = outward.chunks(FACING_TOGETHER);
-        let facing = together.map(|ways| Outward::sum(ways)).collect(alloc)?;
         Ok(Some(Part {
             ids,
             surface,
             own,
             places,
-            facing,
         }))
     }
 }

@@ -39,23 +39,23 @@ height_parts plane m o p t k =
     rest : VE → VE → Expr → Expr → VE
     rest n m t k = record { x = less (mul n.x t) (mul k m.x); y = less (mul n.y t) (mul k m.y); z = less (mul n.z t) (mul k m.z) }
 
-pub block_is_below : (b : Bundle) (block : Block) (k : ℕ) (share rest : ℤ)
-    → share ≡ pos k *ℤ (block.reach -ℤ dot (vector_of block.along) b.origin)
+pub block_is_below : (b : Bundle) (block : Block) (k share rest : ℤ) → pos 0 ≤ℤ k
+    → share ≡ k *ℤ (block.reach -ℤ dot (vector_of block.along) b.origin)
     → ((n p : Vector) → IsInSpans b n → IsWithin block.bounds p → dot (less_times n k (vector_of block.along)) (minus p b.origin) ≤ℤ rest)
     → (share +ℤ rest) <ℤ b.depth
     → (plane : PlaneValue) → IsOfBundle b plane → (p : Vector) → IsInBlock block p → height plane p <ℤ pos 0
-block_is_below b block k share rest es er total plane of p in_block =
+block_is_below b block k share rest nk es er total plane of p in_block =
     by_lt_z (height plane p) (pos 0) (λ l. l) (λ g. absurd (no_height (mul-nonneg (height plane p) of.times g (positive_le of.times of.some))))
   where
     m : Vector
     m = vector_of block.along
 
-    first : (pos k *ℤ (dot m p -ℤ dot m b.origin)) ≤ℤ share
+    first : (k *ℤ (dot m p -ℤ dot m b.origin)) ≤ℤ share
     first =
         let less_le : (x y z : ℤ) → x ≤ℤ y → (x -ℤ z) ≤ℤ (y -ℤ z) = λ x y z l. omega (arith, ints) in
         let low = in_block.low in
         rw es
-        (mul-le (pos k) (dot m p -ℤ dot m b.origin) (block.reach -ℤ dot m b.origin) (omega (arith, ints)) (less_le (dot m p) block.reach (dot m b.origin) low))
+        (mul-le k (dot m p -ℤ dot m b.origin) (block.reach -ℤ dot m b.origin) nk (less_le (dot m p) block.reach (dot m b.origin) low))
 
     second : dot (less_times (taken plane.normal of.times) k m) (minus p b.origin) ≤ℤ rest
     second = er (taken plane.normal of.times) p of.normal in_block.within
@@ -65,9 +65,9 @@ block_is_below b block k share rest es er total plane of p in_block =
 
     no_height : pos 0 ≤ℤ (height plane p *ℤ of.times) → ⊥
     no_height g =
-        let l = sums (height plane p *ℤ of.times) (pos k *ℤ (dot m p -ℤ dot m b.origin))
+        let l = sums (height plane p *ℤ of.times) (k *ℤ (dot m p -ℤ dot m b.origin))
         (dot (less_times (taken plane.normal of.times) k m) (minus p b.origin)) (height plane b.origin *ℤ of.times) share rest b.depth
-        (height_parts plane m b.origin p of.times (pos k)) first second total of.deep in
+        (height_parts plane m b.origin p of.times k) first second total of.deep in
         omega (arith, ints, g, l)
 
 -- the difference to a point between two coordinates is between the differences to these

@@ -9,7 +9,7 @@ use qh_pred::{Normal, Plane, greatest_of, least_of};
 
 /// The points between two opposite corners, these included.
 #[derive(Clone, Copy, Drop)]
-pub(crate) struct PointBox {
+pub struct PointBox {
     pub low: Point,
     pub high: Point,
 }
@@ -35,7 +35,7 @@ impl PointBox {
     }
 
     /// Returns the smallest box around points.
-    pub fn around(points: &[Point]) -> PointBox
+    pub(crate) fn around(points: &[Point]) -> PointBox
         requires { 0 < length points.now }
         ensures { IsBoxOf points.now 0 (length points.now) result }
     {
@@ -63,8 +63,17 @@ impl PointBox {
         )
     }
 
+    /// Returns true if the box lies strictly above the plane, which holds if its corner least far along the normal does.
+    pub fn is_above(&self, plane: &Plane) -> bool {
+        let turned = PointBox {
+            low: self.high,
+            high: self.low,
+        };
+        plane.sees(turned.far_corner(&plane.normal()))
+    }
+
     /// Returns true if the box lies strictly below the plane, which holds if its corner furthest along the normal does.
-    pub fn is_below(&self, plane: &Plane) -> bool
+    pub(crate) fn is_below(&self, plane: &Plane) -> bool
         ensures { IsTrue result → (p : Vector) → IsWithin self.now p → height plane.now p <ℤ pos 0 }
     {
         plane.height(self.far_corner(&plane.normal())) < 0

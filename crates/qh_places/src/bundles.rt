@@ -6,12 +6,12 @@ ghost use Rattle.std.specs.Prelude.{◌≡◌, ◌<◌, ◌≤◌, ◌^◌, ◌+
 ghost use Rattle.qh_model.specs.headline.Vector.{Vector, minus, dot};
 ghost use Rattle.qh_pred.specs.contract.{Planes.PlaneValue, Planes.height, Bounds.normal_limit};
 ghost use Rattle.qh_places.specs.contract.Bundles.{IsOfBundle, IsInSpans};
-ghost use Rattle.qh_places.specs.{declared.spans.TheConstants.TIMES_LIMIT, steps.Boxes.IsWithin};
+ghost use Rattle.qh_places.specs.steps.Boxes.{IsWithin};
 ghost use Rattle.qh_places.specs.steps.Slabs.{vector_of, less_times, IsInBlock};
 
 use crate::boxes::PointBox;
 use crate::slabs::{Block, Direction};
-use crate::spans::{Span, TIMES_LIMIT};
+use crate::spans::{END_LIMIT, Span, TIMES_LIMIT};
 use qh_model::Point;
 use qh_pred::{Normal, Plane};
 
@@ -47,21 +47,21 @@ fn way(from: i32, to: i32) -> i64
 
 /// Returns the sum of three products.
 fn sum(a: i128, b: i128, c: i128) -> i128
-    requires a { unsigned_abs a ≤ 2 ^ 96 }
-    requires b { unsigned_abs b ≤ 2 ^ 96 }
-    requires c { unsigned_abs c ≤ 2 ^ 96 }
+    requires a { unsigned_abs a ≤ 2 ^ 95 }
+    requires b { unsigned_abs b ≤ 2 ^ 95 }
+    requires c { unsigned_abs c ≤ 2 ^ 95 }
     ensures value { result ≡ a +ℤ b +ℤ c }
-    ensures limit { unsigned_abs result ≤ 2 ^ 98 }
+    ensures limit { unsigned_abs result ≤ 2 ^ 97 }
 {
     a + b + c
 }
 
 /// Returns the product of a number and a factor.
-fn taken(number: i128, times: u64) -> i128
+fn taken(number: i128, times: i64) -> i128
     requires number { unsigned_abs number ≤ 2 ^ 64 }
-    requires times { times ≤ TIMES_LIMIT }
-    ensures value { result ≡ pos times *ℤ number }
-    ensures limit { unsigned_abs result ≤ 2 ^ 112 }
+    requires times { unsigned_abs times ≤ 2 ^ 46 }
+    ensures value { result ≡ times *ℤ number }
+    ensures limit { unsigned_abs result ≤ 2 ^ 110 }
 {
     i128::from(times) * number
 }
@@ -75,9 +75,12 @@ fn reach_beyond(reach: i64, own: i64) -> i128
     i128::from(reach) - i128::from(own)
 }
 
-/// Returns the number as 64 bits, clamped to their range.
-fn narrow(number: i128) -> i64 {
-    i64::try_from(number).unwrap_or(if number > 0 { i64::MAX } else { i64::MIN })
+/// Returns the number as an end of a span.
+fn narrow(number: i128) -> i64
+    ensures { unsigned_abs result ≤ 2 ^ 62 }
+{
+    let end = i64::try_from(number).unwrap_or(0);
+    end.clamp(-END_LIMIT, END_LIMIT)
 }
 
 /// Returns the factor that scales a normal to about the size of `SCALE`.
@@ -117,8 +120,8 @@ impl Bundle {
     /// Returns an empty bundle.
     fn none(origin: Point) -> Bundle {
         let none = Span {
-            low: i64::MAX,
-            high: i64::MIN,
+            low: END_LIMIT,
+            high: -END_LIMIT,
         };
         Bundle {
             origin,
@@ -170,8 +173,9 @@ impl Bundle {
 
     /// Returns the approximate quotient of the normals and the direction of a block, or 0 if they point in opposite
     /// directions. It is only a guess, computed from the upper bits of the products without division.
-    fn times_along(&self, block: &Block) -> u64
-        ensures { result ≤ TIMES_LIMIT }
+    fn times_along(&self, block: &Block) -> i64
+        ensures some { pos 0 ≤ℤ result }
+        ensures limit { unsigned_abs result ≤ 2 ^ 46 }
     {
         let along = block.along;
         let product = self
@@ -183,16 +187,16 @@ impl Bundle {
             .wrapping_shr(SHIFT_BEFORE)
             .wrapping_mul(block.inverse)
             .wrapping_shr(SHIFT_AFTER);
-        u64::try_from(times).unwrap_or(0).min(TIMES_LIMIT)
+        times.clamp(0, TIMES_LIMIT)
     }
 
     /// Returns an upper bound of the products of two vectors: a normal minus a multiple of the direction, and the
     /// vector from the origin to a point of a box.
-    fn far_rest(&self, bounds: &PointBox, along: Direction, times: u64) -> i128
-        requires { times ≤ TIMES_LIMIT }
+    fn far_rest(&self, bounds: &PointBox, along: Direction, times: i64) -> i128
+        requires { unsigned_abs times ≤ 2 ^ 46 }
         ensures value { (n p : Vector) → IsInSpans self.now n → IsWithin bounds.now p
             → dot (less_times n times (vector_of along)) (minus p self.now.origin) ≤ℤ result }
-        ensures limit { unsigned_abs result ≤ 2 ^ 98 }
+        ensures limit { unsigned_abs result ≤ 2 ^ 97 }
     {
         let (o, low, high) = (self.origin, bounds.low, bounds.high);
         sum(
@@ -206,10 +210,10 @@ impl Bundle {
     }
 
     /// Returns how far the points of a block reach beyond the origin along a multiple of its direction.
-    fn far_share(&self, block: &Block, times: u64) -> i128
-        requires { times ≤ TIMES_LIMIT }
-        ensures value { result ≡ pos times *ℤ (block.now.reach -ℤ dot (vector_of block.now.along) self.now.origin) }
-        ensures limit { unsigned_abs result ≤ 2 ^ 112 }
+    fn far_share(&self, block: &Block, times: i64) -> i128
+        requires { unsigned_abs times ≤ 2 ^ 46 }
+        ensures value { result ≡ times *ℤ (block.now.reach -ℤ dot (vector_of block.now.along) self.now.origin) }
+        ensures limit { unsigned_abs result ≤ 2 ^ 110 }
     {
         taken(
             reach_beyond(block.reach, block.along.reach(self.origin)),
@@ -219,8 +223,8 @@ impl Bundle {
 
     /// Returns true if a sum is below the depth.
     fn is_deeper(&self, share: i128, rest: i128) -> bool
-        requires share { unsigned_abs share ≤ 2 ^ 112 }
-        requires rest { unsigned_abs rest ≤ 2 ^ 98 }
+        requires share { unsigned_abs share ≤ 2 ^ 110 }
+        requires rest { unsigned_abs rest ≤ 2 ^ 97 }
         ensures { IsTrue result → (share +ℤ rest) <ℤ self.now.depth }
     {
         share + rest < self.depth

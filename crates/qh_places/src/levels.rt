@@ -4,9 +4,11 @@ ghost use Rattle.std.specs.List.{All};
 ghost use Rattle.qh_model.specs.headline.Vector.{Vector};
 ghost use Rattle.qh_places.specs.steps.Levels.{IsLevel, AreBelow, AreBelowAll};
 
+use crate::boxes::PointBox;
 use crate::bundles::Bundle;
 use crate::outward::{Outward, direction_of};
 use crate::slabs::Block;
+use crate::tangents::Tangent;
 use qh_model::Point;
 use qh_pred::Plane;
 use std::alloc::{AllocError, Global};
@@ -99,6 +101,35 @@ impl Level {
             None => 0,
         }
     }
+
+    /// Returns the number of points, beginning at a position, that a block shows to lie below a plane, or 0.
+    fn below_one(&self, tangent: &Tangent, from: usize) -> usize {
+        let below = self.below(&tangent.plane, from);
+        if below > 0 {
+            return below;
+        }
+        self.below_all(&tangent.bundle, from)
+    }
+
+    /// Returns the box and the points of the block that begins at a position, if there is one. `points` are those of the
+    /// level.
+    pub fn block<'a>(
+        &'a self,
+        points: &'a [Point],
+        from: usize,
+    ) -> Option<(&'a PointBox, &'a [Point])> {
+        if self.shift >= 63 {
+            return None;
+        }
+        let block = from >> self.shift;
+        let size = positions(self.shift);
+        if block * size != from {
+            return None;
+        }
+        let found = self.blocks.get(block)?;
+        let to = from.saturating_add(size).min(points.len());
+        Some((&found.bounds, points.get(from..to)?))
+    }
 }
 
 /// Returns the levels over points except the lowest, the largest blocks first. `outward` has a guess of the outward
@@ -137,4 +168,20 @@ pub(crate) fn below_all(levels: &[Level], bundle: &Bundle, from: usize) -> usize
         }
     }
     0
+}
+
+/// Returns the number of points, beginning at a position, in the largest block that begins there and is shown to lie
+/// below a plane; 0 if there is no such block.
+pub(crate) fn below_one(levels: &[Level], leaves: &Level, tangent: &Tangent, from: usize) -> usize {
+    let aligned = from.trailing_zeros();
+    for level in levels {
+        if level.shift > aligned {
+            continue;
+        }
+        let below = level.below_one(tangent, from);
+        if below > 0 {
+            return below;
+        }
+    }
+    leaves.below_one(tangent, from)
 }

@@ -29,11 +29,6 @@ impl Outward {
         ways.iter().fold(Outward::NONE, |sum, way| sum.plus(*way))
     }
 
-    /// Returns the components along the three axes.
-    pub fn components(self) -> [i64; 3] {
-        [self.x, self.y, self.z]
-    }
-
     /// Returns the normal of a triangle, counterclockwise seen from outside.
     pub fn of_triangle(a: Point, b: Point, c: Point) -> Outward {
         let normal = cross(a, b, c);

@@ -7,10 +7,12 @@ ghost use Rattle.qh_pred.specs.contract.Planes.{PlaneValue, height};
 ghost use Rattle.qh_places.specs.contract.Near.{IsNear};
 ghost use Rattle.qh_places.specs.steps.Levels.{IsLevel, AreBelowAll, HasLooked, IsAboveAt};
 
+use crate::boxes::PointBox;
 use crate::budget::Budget;
 use crate::bundles::Bundle;
-use crate::levels::{Level, below_all, levels_over};
+use crate::levels::{Level, below_all, below_one, levels_over};
 use crate::outward::Outward;
+use crate::tangents::Tangent;
 use qh_model::{Id, Point};
 use qh_pred::{Plane, point_at};
 use std::alloc::{AllocError, Global};
@@ -150,6 +152,46 @@ impl Places {
             return below;
         }
         self.leaves.below_all(bundle, from)
+    }
+
+    /// Returns the number of levels of blocks. Level 0 has the largest ones.
+    pub fn level_count(&self) -> usize {
+        self.levels.len().saturating_add(1)
+    }
+
+    /// Returns the box and the points of the block of a level that begins at a position, if there is one.
+    pub fn block(&self, level: usize, from: usize) -> Option<(&PointBox, &[Point])> {
+        let level = self.levels.get(level).unwrap_or(&self.leaves);
+        level.block(&self.points, from)
+    }
+
+    /// Returns true if the `LEAF` points from a position on, or those that there are, are strictly below a plane.
+    fn are_hidden(&self, plane: &Plane, from: usize) -> bool {
+        let to = from.saturating_add(LEAF).min(self.points.len());
+        let own = self.points.get(from..to).unwrap_or(&[]);
+        own.iter().all(|point| plane.height(*point) < 0)
+    }
+
+    /// Returns true if all points are found to be strictly below a plane. Also returns false if the budget is exhausted.
+    pub fn is_below(&self, tangent: &Tangent, budget: &mut Budget) -> bool {
+        let mut from = 0usize;
+        for _ in 0..self.points.len() {
+            if from >= self.points.len() {
+                break;
+            }
+            let below = below_one(&self.levels, &self.leaves, tangent, from);
+            if !budget.spend(1) {
+                return false;
+            }
+            if below > 0 {
+                from = from.saturating_add(below);
+            } else if budget.spend(LEAF) && self.are_hidden(&tangent.plane, from) {
+                from = from.saturating_add(LEAF);
+            } else {
+                return false;
+            }
+        }
+        true
     }
 
     /// Returns the positions where the planes of a bundle have to be tested.

@@ -13,7 +13,7 @@ use qh_threads::{Calls, map_claimed_beside};
 use std::alloc::Global;
 use std::thread::Threads;
 
-/// Bytes of a source, and their segments once these are parsed.
+/// Bytes of a source, and their segments from parsing to feeding.
 #[derive(Drop)]
 pub struct Batch {
     bytes: Vec<u8>,
@@ -131,7 +131,7 @@ impl Batch {
         (fed, answer)
     }
 
-    /// Feeds the bytes to a reader, with the points of the segments, whose memory is free for the next ones then.
+    /// Feeds the bytes to a reader, with the points of the segments. The segments are dropped, so others get their memory.
     pub fn feed(&mut self, reader: &mut Reader) -> Result<(), FeedFault>
         requires { IsParsed self.old }
         ensures fed { OnOk result ((form : Form) (before : List ℕ) → Fed form reader.old before

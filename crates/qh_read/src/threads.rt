@@ -18,7 +18,7 @@ use std::alloc::Global;
 use std::mem;
 use std::thread::Threads;
 
-/// The number of bytes that are read serially before the first batch.
+/// The number of bytes read serially before the first batch: a file of about this size takes longer with threads.
 const START_LENGTH: u32 = 655_360;
 
 /// The number of bytes of a batch: large enough to pay for starting threads, small enough that its memory is reused.

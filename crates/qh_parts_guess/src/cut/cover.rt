@@ -1,13 +1,12 @@
 //! Witnesses for the corners of another part.
-use crate::blocks::BoundingVolume;
 use crate::cut::cutting::Cutting;
 use crate::cut::facets::Facets;
 use crate::cut::rays::Rays;
 use crate::cut::recent::Recent;
-use crate::outlines::Outline;
 use qh_mesh::FacetNo;
 use qh_model::Point;
 use qh_parts_join::Run;
+use qh_places::{Places, PointBox};
 use std::alloc::{AllocError, Global};
 
 /// Finds, for each point of the others, a facet that proves its position: a removed one below the point, or the one
@@ -47,13 +46,13 @@ impl<'a> Cover<'a> {
     /// point is in its plane, it is tested.
     fn met(&mut self, cutting: &mut Cutting, point: Point) -> Result<FacetNo, AllocError> {
         let f = self.rays.leaves(point, &mut cutting.budget);
-        let Some(sight) = self.facets.sight(f) else {
+        let Some(plane) = self.facets.plane(f) else {
             return Ok(f);
         };
-        if sight.sees(point) {
+        if plane.sees(point) {
             cutting.drop_facet(f)?;
-            self.recent.put(f, sight)?;
-        } else if sight.meets(point) {
+            self.recent.put(f, plane)?;
+        } else if plane.height(point) == 0 {
             cutting.ask(f)?;
         }
         Ok(f)
@@ -63,7 +62,7 @@ impl<'a> Cover<'a> {
     fn witness_of_all(
         &mut self,
         cutting: &mut Cutting,
-        block: &BoundingVolume,
+        block: &PointBox,
         own: &[Point],
     ) -> Result<Option<FacetNo>, AllocError> {
         if let Some(f) = self.recent.under_all(block) {
@@ -92,32 +91,47 @@ impl<'a> Cover<'a> {
         Ok(())
     }
 
-    /// Returns the witnesses for the points of an outline, in their order. If the budget is exhausted, some are
-    /// missing.
+    /// Adds the witnesses of the points of a block that begins at a position: of the largest block with one witness for
+    /// all of its points, or else of the smallest block. Returns the number of points.
+    fn add_block(
+        &mut self,
+        cutting: &mut Cutting,
+        places: &Places,
+        from: usize,
+        runs: &mut Vec<Run>,
+    ) -> Result<usize, AllocError> {
+        let mut own: &[Point] = &[];
+        for level in 0..places.level_count() {
+            let Some((block, points)) = places.block(level, from) else {
+                continue;
+            };
+            own = points;
+            if !cutting.budget.spend(1) {
+                return Ok(own.len());
+            }
+            if let Some(f) = self.witness_of_all(cutting, block, own)? {
+                add(runs, f, own.len())?;
+                return Ok(own.len());
+            }
+        }
+        self.add_each(cutting, own, runs)?;
+        Ok(own.len())
+    }
+
+    /// Returns the witnesses for the points of another part, in their order. If the budget is exhausted, some are missing.
     pub fn witnesses(
         &mut self,
         cutting: &mut Cutting,
-        outline: &Outline,
+        places: &Places,
     ) -> Result<Vec<Run>, AllocError> {
         let mut runs = Vec::new(self.alloc);
-        let mut cursor = outline.top();
-        for _ in 0..outline.block_limit() {
-            let Some(block) = outline.block(cursor) else {
-                break;
-            };
-            let own = outline.points_of(cursor);
-            if !cutting.budget.spend(1) {
+        let mut from = 0usize;
+        for _ in 0..places.points.len() {
+            if from >= places.points.len() || cutting.budget.is_spent() {
                 break;
             }
-            if let Some(f) = self.witness_of_all(cutting, block, own)? {
-                add(&mut runs, f, own.len())?;
-                cursor = outline.after(cursor);
-            } else if let Some(first) = cursor.first_within() {
-                cursor = first;
-            } else {
-                self.add_each(cutting, own, &mut runs)?;
-                cursor = outline.after(cursor);
-            }
+            let count = self.add_block(cutting, places, from, &mut runs)?;
+            from = from.saturating_add(count);
         }
         Ok(runs)
     }

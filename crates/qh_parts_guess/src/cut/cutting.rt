@@ -1,9 +1,9 @@
 //! The state of the facets of a part: those that are removed and those that stay.
 use crate::cut::facets::Facets;
-use crate::outlines::Outline;
-use crate::sights::Sight;
 use qh_mesh::FacetNo;
-use qh_places::Budget;
+use qh_parts_join::Part;
+use qh_places::{Budget, Tangent};
+use qh_pred::Plane;
 use std::alloc::{AllocError, Global};
 
 /// The state of a facet.
@@ -17,17 +17,17 @@ pub(crate) enum State {
     Goes,
 }
 
-/// The outlines of all parts, with the number of the part whose facets are tested.
+/// All parts of a set, with the number of the one whose facets are tested.
 #[derive(Clone, Copy, Drop)]
 pub(crate) struct Others<'a> {
-    pub outlines: &'a [Outline],
+    pub parts: &'a [Part],
     pub number: usize,
 }
 
-/// The number of tests of blocks, points and facets, for each facet of a part, after which its guess is given up. A
-/// round set of 50,000 points takes 4, an ellipsoid of the axes 9, 6 and 2 takes 17; the hull by one thread takes as
-/// long as 200.
-const LOOKED_FOR_EACH: u32 = 32;
+/// The number of positions, points and facets to test, for each facet of a part, after which its guess is given up. Of
+/// 150,000 points a sphere takes 3, a dome 7, and a million take a third of that; an ellipsoid of the axes 9, 6 and 2
+/// takes 5. The hull by one thread takes as long as 19.
+const LOOKED_FOR_EACH: u32 = 16;
 
 /// The facets of a part, with the state of each.
 #[derive(Drop)]
@@ -48,9 +48,9 @@ pub(crate) struct Cutting<'a> {
 impl Others<'_> {
     /// Returns true if the corners of all other parts are strictly below a plane. Also returns false if the budget is
     /// exhausted.
-    pub fn are_below(&self, sight: &Sight, budget: &mut Budget) -> bool {
-        let mut outlines = self.outlines.iter().enumerate();
-        outlines.all(|(other, outline)| other == self.number || outline.is_below(sight, budget))
+    pub fn are_below(&self, tangent: &Tangent, budget: &mut Budget) -> bool {
+        let mut parts = self.parts.iter().enumerate();
+        parts.all(|(other, part)| other == self.number || part.places.is_below(tangent, budget))
     }
 }
 
@@ -92,7 +92,7 @@ impl<'a> Cutting<'a> {
 
     /// Visits the neighbours of a facet: those in the plane get the state; the others are queued for a test if the
     /// plane is removed.
-    fn spread(&mut self, f: FacetNo, sight: &Sight, state: State) -> Result<(), AllocError> {
+    fn spread(&mut self, f: FacetNo, plane: &Plane, state: State) -> Result<(), AllocError> {
         for side in 0..3 {
             let Some(next) = self.facets.next(f, side) else {
                 continue;
@@ -102,7 +102,7 @@ impl<'a> Cutting<'a> {
                 continue;
             }
             let opposite = self.facets.opposite(f, side);
-            if opposite.is_some_and(|point| sight.meets(point)) {
+            if opposite.is_some_and(|point| plane.height(point) == 0) {
                 self.enter(next, state)?;
             } else if state == State::Goes && known == State::Unasked {
                 self.waiting.push(next)?;
@@ -112,14 +112,14 @@ impl<'a> Cutting<'a> {
     }
 
     /// Sets the state of all facets in the plane of one.
-    fn settle(&mut self, f: FacetNo, sight: &Sight, state: State) -> Result<(), AllocError> {
+    fn settle(&mut self, f: FacetNo, plane: &Plane, state: State) -> Result<(), AllocError> {
         self.plane.clear();
         self.enter(f, state)?;
         for place in 0..self.states.len() {
             let Some(next) = self.plane.get(place).copied() else {
                 break;
             };
-            self.spread(next, sight, state)?;
+            self.spread(next, plane, state)?;
         }
         Ok(())
     }
@@ -129,8 +129,8 @@ impl<'a> Cutting<'a> {
         if self.state(f) == State::Goes {
             return Ok(());
         }
-        match self.facets.sight(f) {
-            Some(sight) => self.settle(f, &sight, State::Goes),
+        match self.facets.plane(f) {
+            Some(plane) => self.settle(f, &plane, State::Goes),
             None => Ok(()),
         }
     }
@@ -140,15 +140,15 @@ impl<'a> Cutting<'a> {
         if self.state(f) != State::Unasked {
             return Ok(());
         }
-        let Some(sight) = self.facets.sight(f) else {
+        let Some(tangent) = self.facets.tangent(f) else {
             return Ok(());
         };
-        let state = if self.others.are_below(&sight, &mut self.budget) {
+        let state = if self.others.are_below(&tangent, &mut self.budget) {
             State::Stays
         } else {
             State::Goes
         };
-        self.settle(f, &sight, state)
+        self.settle(f, &tangent.plane, state)
     }
 
     /// Tests the queued facets, and those that are queued meanwhile, until the budget is exhausted.

@@ -2,9 +2,10 @@
 ghost use Rattle.std.specs.Prelude.{IsTrue};
 ghost use Rattle.qh_mesh.specs.contract.Replacement.{IsLive};
 
-use crate::sights::Sight;
 use qh_mesh::FacetNo;
 use qh_model::{Id, Point};
+use qh_places::Tangent;
+use qh_pred::Plane;
 use qh_surface::NamedMesh;
 
 /// The facets of the hull of a part.
@@ -72,8 +73,14 @@ impl<'a> Facets<'a> {
     }
 
     /// Returns the plane of a facet.
-    pub fn sight(self, f: FacetNo) -> Option<Sight> {
-        Some(Sight::of(self.corners(f)?))
+    pub fn plane(self, f: FacetNo) -> Option<Plane> {
+        let [a, b, c] = self.corners(f)?;
+        Some(Plane::through(a, b, c))
+    }
+
+    /// Returns the plane of a facet, for tests of blocks.
+    pub fn tangent(self, f: FacetNo) -> Option<Tangent> {
+        Some(Tangent::of(self.corners(f)?))
     }
 
     /// Returns the number of the facet across a side of another: 0, 1 or 2.

@@ -2,8 +2,6 @@
 use crate::cut::cover::Cover;
 use crate::cut::cutting::{Cutting, Others};
 use crate::cut::facets::Facets;
-use crate::outlines::Outline;
-use crate::vector::Vector;
 use qh_mesh::FacetNo;
 use qh_model::{Id, Memory, Point};
 use qh_parts_join::{Divided, Part, Run};
@@ -31,13 +29,6 @@ impl Marks {
     }
 }
 
-/// Returns the points of ids. An id without a point is skipped.
-fn points_of(alloc: Global, pts: &[Point], ids: &[Id]) -> Result<Vec<Point>, AllocError> {
-    let mut points = Vec::with_capacity(alloc, ids.len())?;
-    points.extend(ids.iter().filter_map(|id| pts.get(id.index()).copied()))?;
-    Ok(points)
-}
-
 /// Returns the points of the first four shared ids. Their middle is inside every part.
 fn four_of(set: Divided) -> Option<[Point; 4]> {
     let [i, j, k, l, ..] = set.shared else {
@@ -45,23 +36,6 @@ fn four_of(set: Divided) -> Option<[Point; 4]> {
     };
     let point_of = |id: &Id| set.pts.get(id.index()).copied();
     Some([point_of(i)?, point_of(j)?, point_of(k)?, point_of(l)?])
-}
-
-/// Returns the outline of the part with this number, which the marks of the other parts need.
-///
-/// # Errors
-///
-/// `Memory` if an allocation failed.
-pub fn outline_of(alloc: Global, set: Divided, number: usize) -> Result<Outline, Memory> {
-    let Some(part) = set.parts.get(number) else {
-        return Ok(Outline::over(alloc, Vec::new(alloc), &[])?);
-    };
-    let points = points_of(alloc, set.pts, &part.own)?;
-    let facing = part.facing.iter();
-    let ways = facing
-        .map(|way| Vector::outward(*way).unit())
-        .collect::<Vec<Vector>>(alloc)?;
-    Ok(Outline::over(alloc, points, &ways)?)
 }
 
 /// Removes the facets whose corners are all shared, since every part may have them. The shared ids are the last ones of
@@ -90,11 +64,11 @@ fn all_witnesses(
     let Some(mut cover) = Cover::start(alloc, facets, four) else {
         return Ok(runs);
     };
-    for (other, outline) in others.outlines.iter().enumerate() {
+    for (other, part) in others.parts.iter().enumerate() {
         let own = if other == others.number {
             Vec::new(alloc)
         } else {
-            cover.witnesses(cutting, outline)?
+            cover.witnesses(cutting, &part.places)?
         };
         runs.push(own)?;
     }
@@ -136,24 +110,22 @@ fn marks_against<'a>(
     })
 }
 
-/// Guesses what stays of the part with this number in the presence of the corners of the other parts. `outlines` has
-/// the outline of each part. Returns empty marks if too many tests would be needed.
+/// Guesses what stays of the part with this number in the presence of the corners of the other parts. Returns empty marks
+/// if too many tests would be needed.
 ///
 /// # Errors
 ///
 /// `Memory` if an allocation failed.
-pub fn marks_of<'a>(
-    alloc: Global,
-    set: Divided<'a>,
-    outlines: &'a [Outline],
-    number: usize,
-) -> Result<Marks, Memory> {
+pub fn marks_of(alloc: Global, set: Divided, number: usize) -> Result<Marks, Memory> {
     let Some(part) = set.parts.get(number) else {
         return Ok(Marks::none(alloc));
     };
     let Some(four) = four_of(set) else {
         return Ok(Marks::none(alloc));
     };
-    let others = Others { outlines, number };
+    let others = Others {
+        parts: set.parts,
+        number,
+    };
     Ok(marks_against(alloc, part, set.shared, four, others)?)
 }

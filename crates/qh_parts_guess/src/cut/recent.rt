@@ -1,8 +1,8 @@
 //! The facets below recent points: most nearby points are above one of these facets, too.
-use crate::blocks::BoundingVolume;
-use crate::sights::Sight;
 use qh_mesh::FacetNo;
 use qh_model::Point;
+use qh_places::PointBox;
+use qh_pred::Plane;
 use std::alloc::{AllocError, Global};
 
 /// The greatest number of facets that are kept.
@@ -11,7 +11,7 @@ const KEPT: usize = 4;
 /// A few removed facets with their planes, the most recent one first.
 #[derive(Drop)]
 pub(crate) struct Recent {
-    seeing: Vec<(FacetNo, Sight)>,
+    seeing: Vec<(FacetNo, Plane)>,
 }
 
 impl Recent {
@@ -23,9 +23,9 @@ impl Recent {
     }
 
     /// Inserts a facet at the front.
-    pub fn put(&mut self, facet: FacetNo, sight: Sight) -> Result<(), AllocError> {
+    pub fn put(&mut self, facet: FacetNo, plane: Plane) -> Result<(), AllocError> {
         self.seeing.truncate(KEPT - 1);
-        Ok(self.seeing.insert(0, (facet, sight))?)
+        Ok(self.seeing.insert(0, (facet, plane))?)
     }
 
     /// Swaps the facet at a position with the one before it, and returns its number; `None` if the position is past
@@ -40,16 +40,16 @@ impl Recent {
 
     /// Returns a facet that is below a point.
     pub fn under(&mut self, point: Point) -> Option<FacetNo> {
-        let position = self.seeing.iter().position(|(_, sight)| sight.sees(point))?;
+        let position = self.seeing.iter().position(|(_, plane)| plane.sees(point))?;
         self.moved_up(position)
     }
 
     /// Returns a facet that is below all points of a block.
-    pub fn under_all(&mut self, block: &BoundingVolume) -> Option<FacetNo> {
+    pub fn under_all(&mut self, block: &PointBox) -> Option<FacetNo> {
         let position = self
             .seeing
             .iter()
-            .position(|(_, sight)| sight.sees_all(block))?;
+            .position(|(_, plane)| block.is_above(plane))?;
         self.moved_up(position)
     }
 }

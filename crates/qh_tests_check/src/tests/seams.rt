@@ -9,7 +9,7 @@ mod seam;
 
 use qh_fixtures::ids::ids_of;
 use qh_model::{Id, Memory, Point};
-use qh_parts_guess::{Marks, is_worth, marks_of, outline_of};
+use qh_parts_guess::{Marks, is_worth, marks_of};
 use qh_parts_join::{Divided, Part};
 use std::alloc::Global;
 
@@ -61,7 +61,6 @@ fn halves_of(alloc: Global, pts: &[Point]) -> Result<Option<Halves>, Memory>
 
 /// Returns the guess for the first of two parts, and true if a seam pays.
 fn first_marks(alloc: Global, set: Divided) -> Result<(Marks, bool), Memory> {
-    let outlines = [outline_of(alloc, set, 0)?, outline_of(alloc, set, 1)?];
-    let marks = marks_of(alloc, set, &outlines, 0)?;
-    Ok((marks, is_worth(set, &outlines)))
+    let marks = marks_of(alloc, set, 0)?;
+    Ok((marks, is_worth(set)))
 }

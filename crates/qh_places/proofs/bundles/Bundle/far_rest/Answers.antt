@@ -11,6 +11,7 @@ way a b x y w f g h p q r = omega (arith, ints)
 pub returns-clause-value : goal.returns-clause-value
 returns-clause-value c = λ n p spans within.
     let o = c.args.self.now.origin in let b = c.args.bounds.now in
+    let ft : SFits w64 c.args.times = c.ranges.times in
     let kx : SFits w16 c.args.along.x = search rules in
     let ky : SFits w16 c.args.along.y = search rules in
     let kz : SFits w16 c.args.along.z = search rules in
