@@ -11,6 +11,7 @@ pub mod ListLaws
 pub mod NumberLaws
 pub mod OffLexingLaws
 pub mod ProgressLaws
+pub mod SegmentLists
 pub mod SourceLemmas
 pub mod TokenLaws
 pub mod WordLaws

@@ -131,7 +131,7 @@ impl Batch {
         (fed, answer)
     }
 
-    /// Feeds the bytes to a reader, with the points of the segments. The segments are dropped, so others get their memory.
+    /// Feeds the bytes to a reader, with the points of the segments. Each segment is freed as soon as it is fed.
     pub fn feed(&mut self, reader: &mut Reader) -> Result<(), FeedFault>
         requires { IsParsed self.old }
         ensures fed { OnOk result ((form : Form) (before : List ℕ) → Fed form reader.old before
@@ -140,8 +140,8 @@ impl Batch {
         ensures big { result ≡ Err FeedFault.Big
             → BYTE_LIMIT < reader.old.count + length (batch_text self.old) }
     {
-        let fed = feed_all(reader, self.segments.as_slice(), self.text());
-        self.segments.clear();
-        fed
+        let alloc = *self.bytes.allocator();
+        let text = &self.bytes[..self.count];
+        feed_all(alloc, reader, self.segments.as_mut_slice(), text)
     }
 }

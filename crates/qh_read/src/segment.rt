@@ -1,5 +1,5 @@
 //! Segments of a file, parsed before the content in front of them is known.
-ghost use Rattle.std.specs.Prelude.{◌≤◌, ◌<◌, ◌^◌, length};
+ghost use Rattle.std.specs.Prelude.{◌≤◌, ◌<◌, ◌^◌, ℕ, List, length};
 ghost use Rattle.qh_read.specs.steps.Segments.{IsSegment};
 
 use crate::cursor::Cursor;
@@ -35,6 +35,18 @@ fn after_line(bytes: &[u8]) -> usize
 }
 
 impl Segment {
+    /// Returns a segment without points, which is one of any text.
+    pub fn none(alloc: Global) -> Segment
+        ensures { (text : List ℕ) → IsSegment result text }
+    {
+        Segment {
+            points: Vec::new(alloc),
+            head: 0,
+            lines: 0,
+            taken: 0,
+        }
+    }
+
     /// Parses the points of this text after its first line, all of them, or none if the allocation fails.
     pub fn of(alloc: Global, text: &[u8]) -> Segment
         requires { length text.now < 2 ^ 31 }

@@ -7,6 +7,7 @@ use crate::fault::FeedFault;
 use crate::reader::Reader;
 use crate::segment::Segment;
 use qh_model::BYTE_LIMIT;
+use std::alloc::Global;
 
 /// Returns segment `i` of a text that is cut into segments of this size.
 pub fn segment_at(text: &[u8], size: usize, i: usize) -> &[u8]
@@ -17,9 +18,15 @@ pub fn segment_at(text: &[u8], size: usize, i: usize) -> &[u8]
     &rest[..size.min(rest.len())]
 }
 
-/// Feeds a text to the reader, by its segments in order. A text without segments is fed as it is.
-pub fn feed_all(reader: &mut Reader, segments: &[Segment], text: &[u8]) -> Result<(), FeedFault>
-    requires { AreSegments segments.now text.now }
+/// Feeds a text to the reader, by its segments in order, and frees each as soon as it is fed. A text without segments is
+/// fed as it is.
+pub fn feed_all(
+    alloc: Global,
+    reader: &mut Reader,
+    segments: &mut [Segment],
+    text: &[u8],
+) -> Result<(), FeedFault>
+    requires { AreSegments segments.old text.now }
     ensures fed { OnOk result ((form : Form) (before : List ℕ) → Fed form reader.old before
         → Fed form reader.new (before ++ text.now)) }
     ensures count { OnOk result (reader.new.count ≡ reader.old.count + length text.now) }
@@ -30,9 +37,8 @@ pub fn feed_all(reader: &mut Reader, segments: &[Segment], text: &[u8]) -> Resul
     }
     let size = text.len() / segments.len() + 1;
     for i in 0..segments.len() {
-        if let Err(fault) = reader.feed_segment(&segments[i], segment_at(text, size, i)) {
-            return Err(fault);
-        }
+        reader.feed_segment(&segments[i], segment_at(text, size, i))?;
+        segments[i] = Segment::none(alloc);
     }
     Ok(())
 }
