@@ -245,14 +245,21 @@ def test_a_file_that_lacks_a_part_is_refused_with_its_line(name, tmp_path):
     assert reason in done.stderr.decode(), done.stderr
 
 
-def test_facets_of_text_are_read_at_once_if_nothing_else_is_there():
-    from qconvex.commands.stl_files import corners_of, corners_of_text, plain_lines
+def test_facets_with_one_layout_are_read_at_once():
+    stl_arrays = pytest.importorskip("qconvex.commands.stl_arrays")
+    from qconvex.commands.mesh_faces import faces_of_stl
+    from qconvex.commands.stl_files import of_stl
 
     text = stl_text()
-    assert corners_of(text) == [words for _, words in corners_of_text(text)] and len(plain_lines(text)) == 36
+    for layout in text, text.replace(b"vertex", b"\t vertex "), text.replace(b" -", b"  -"), text.replace(b"facet n", b" facet n"), text.strip():
+        vertices, triangles = stl_arrays.of_text(layout)
+        assert vertices == of_stl(layout) and triangles.tolist() == faces_of_stl(layout)
+    vertices, triangles = stl_arrays.of_records(stl_binary()[84:])
+    assert vertices.listed() == of_stl(stl_binary()) and triangles.tolist() == faces_of_stl(stl_binary())
     others = [LACKING[name][0].encode() for name in ("cut.stl", "two.stl")]
     others += [text + text, text.replace(b"endloop", b"end loop"), text.replace(b"outer", b"inner", 1), text.replace(b"\n", b"\r"), b"solid\nendsolid\n"]
-    assert not any(map(plain_lines, others))
+    others += [text.replace(b"vertex 0 0 0", b"vertex 0  0 0", 1), text.replace(b"endsolid", b"end"), text.replace(b"vertex 0", b"vertex 0 0")]
+    assert not any(map(stl_arrays.of_text, others))
 
 
 def test_an_obj_text_of_vertices_alone_is_read_at_once():
@@ -302,8 +309,10 @@ def test_decimals_that_floats_do_not_tell_are_left_to_lists():
 @pytest.mark.parametrize("count", [1, 2, 7, 500, 5000])
 def test_the_first_of_equal_rows_stays(count):
     numpy = pytest.importorskip("numpy")
-    from qconvex.commands.vertex_arrays import firsts_of
+    from qconvex.commands.stl_arrays import distinct
 
     for reach in (1, 2, 9, 1 << 32):
-        rows = numpy.random.default_rng(count).integers(0, reach, (count, 3)).astype("<u4")
-        assert list(map(tuple, rows[firsts_of(rows)].tolist())) == list(dict.fromkeys(map(tuple, rows.tolist())))
+        rows = numpy.random.default_rng(count).integers(0, reach, (count, 3)).astype("<u8")
+        firsts, numbers = distinct(rows)
+        assert list(map(tuple, rows[firsts].tolist())) == list(dict.fromkeys(map(tuple, rows.tolist())))
+        assert (rows[firsts][numbers] == rows).all()

@@ -46,10 +46,10 @@ def along_axes(numbers: List[int]) -> List[List[int]]:
     return [numbers[axis::3] for axis in range(3)]
 
 
-def arrays_for(rows: int) -> Any:
+def arrays_for(rows: int, name: str = "vertex_arrays") -> Any:
     """The module for many vertices, where there are so many and numpy is installed; else None."""
     try:
-        return import_module("..vertex_arrays", __name__) if rows >= MANY else None
+        return import_module(f"..{name}", __name__) if rows >= MANY else None
     except ImportError:
         return None
 

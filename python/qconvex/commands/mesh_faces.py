@@ -7,7 +7,7 @@ from typing import Any, Iterator, List, Optional, Sequence, Tuple, Union
 
 from .off_files import Malformed, face_of, lines_at, lines_of, parts_of, plain_parts, rows_of, text_of_numbers
 from .ply_files import TYPES, Element, header_of, ply_rows
-from .stl_files import corners_of
+from .stl_files import corners_of, many_triangles
 
 Face = List[int]
 Faces = Union[List[Face], Any]  # lists, or an array (n, corners)
@@ -95,8 +95,11 @@ def checked(line: int, face: Face, vertices: int) -> Face:
     return face
 
 
-def faces_of_stl(data: bytes) -> List[Face]:
+def faces_of_stl(data: bytes) -> Faces:
     """The triangles of an stl file."""
+    many = many_triangles(data)
+    if many:
+        return many[1]
     corners: Sequence[object] = corners_of(data)
     places = {corner: place for place, corner in enumerate(dict.fromkeys(corners))}
     found = [places[corner] for corner in corners]

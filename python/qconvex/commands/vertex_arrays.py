@@ -13,8 +13,6 @@ from .off_files import Malformed
 BELOW_ONE = re.compile(rb"[eE]-([0-9]+)")
 EXACT_POWER = 22  # the greatest power of ten that is a float
 ROOM = 1 << 61  # what is less is added and doubled in 64 bits
-TRIANGLES = np.dtype([("normal", "V12"), ("corners", "<u4", (3, 3)), ("attribute", "V2")])
-MIX = np.array([0x9E3779B97F4A7C15, 0xC2B2AE3D27D4EB4F, 0x165667B19E3779F9], np.uint64)  # odd numbers without a pattern
 
 
 def of_decimals(text: bytes, behind: int) -> Optional[Vertices]:
@@ -40,26 +38,6 @@ def of_records(data: bytes, types: str, chosen: List[int]) -> Vertices:
     """The vertices of records of bytes, whose types are those of struct, by three of their places."""
     records = np.frombuffer(data, np.dtype([(str(place), types[0] + letter) for place, letter in enumerate(types[1:])]))
     return of_floats(np.stack([records[str(place)].astype(np.float64) for place in chosen]))
-
-
-def of_triangles(data: bytes) -> Vertices:
-    """The corners of an stl file's triangles, each once."""
-    corners = np.frombuffer(data, TRIANGLES)["corners"].reshape(-1, 3)
-    return of_floats(corners.take(firsts_of(corners), 0).view("<f4").T)
-
-
-def firsts_of(rows: Any) -> Any:
-    """The places of the rows (n, 3) of 32 bits that none before equals: a table has the first row of each slot, and few slots have others."""
-    bits, places = len(rows).bit_length() + 1, np.arange(len(rows))
-    slots = (rows.astype(np.uint64) @ MIX >> np.uint64(64 - bits)).astype(np.intp)
-    table = np.zeros(1 << bits, np.intp)
-    table[slots[::-1]] = places[::-1]
-    found = table.take(slots)
-    first = rows.take(found, 0)
-    others = ((first[:, 0] != rows[:, 0]) | (first[:, 1] != rows[:, 1]) | (first[:, 2] != rows[:, 2])).nonzero()[0][::-1]
-    is_first = found == places
-    is_first[list(dict(zip(map(tuple, rows[others].tolist()), others.tolist())).values())] = True
-    return is_first.nonzero()[0]
 
 
 def common_of(axes: Any) -> Tuple[int, int]:
