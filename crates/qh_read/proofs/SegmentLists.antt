@@ -2,7 +2,7 @@
 use Rattle.std.proofs.Common.{◌≡◌, ◌<◌, ℕ, List, length, set, get_or, sym, subst}
 use Rattle.std.proofs.lemmas.List.{get_or-set_same, get_or-set_other, length-set}
 use native.Mathlib.Decide.{ℕ_discrete}
-use Rattle.qh_read.specs.declared.segment.Segment.Segment
+use Rattle.qh_read.specs.declared.segment.Segment.{Segment}
 use Rattle.qh_read.specs.steps.Segments.{IsSegment, AreSegments, segment_text, segment_size}
 
 pub segments_set : (segments : List Segment) (text : List ℕ) (k : ℕ) (s : Segment) → AreSegments segments text
