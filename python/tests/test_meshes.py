@@ -258,7 +258,7 @@ def test_facets_with_one_layout_are_read_at_once():
     assert vertices.listed() == of_stl(stl_binary()) and triangles.tolist() == faces_of_stl(stl_binary())
     others = [LACKING[name][0].encode() for name in ("cut.stl", "two.stl")]
     others += [text + text, text.replace(b"endloop", b"end loop"), text.replace(b"outer", b"inner", 1), text.replace(b"\n", b"\r"), b"solid\nendsolid\n"]
-    others += [text.replace(b"vertex 0 0 0", b"vertex 0  0 0", 1), text.replace(b"endsolid", b"end"), text.replace(b"vertex 0", b"vertex 0 0")]
+    others += [text.replace(b"vertex 0 0 0", b"vertex 0  0 0", 1), text.replace(b"endsolid", b"end"), b"a " + text, text.replace(b"vertex 0", b"vertex 0 0")]
     assert not any(map(stl_arrays.of_text, others))
 
 

@@ -36,7 +36,9 @@ def of_text(data: bytes) -> Optional[Corners]:
     """The corners of a text whose facets have one layout and stand between its first line and its last; None of others."""
     begin, end = data.find(b"\n") + 1, data.rfind(b"\n", 0, data.rfind(b"endsolid")) + 1
     layout, last_line = FACET.match(data, begin), data[end:].strip()
-    if not layout or last_line.split()[:1] != [b"endsolid"] or b"\n" in last_line or b"\0" in data or b"\r" in data:
+    if not layout or not data.startswith(b"solid") or last_line.split()[:1] != [b"endsolid"]:
+        return None
+    if b"\n" in last_line or b"\0" in data or b"\r" in data:
         return None
     ends = np.flatnonzero(np.frombuffer(data, np.uint8, end - begin, begin) == NEWLINE) + begin
     if len(ends) % LINES:
