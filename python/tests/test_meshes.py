@@ -251,7 +251,8 @@ def test_facets_with_one_layout_are_read_at_once():
     from qconvex.commands.stl_files import of_stl
 
     text = stl_text()
-    for layout in text, text.replace(b"vertex", b"\t vertex "), text.replace(b" -", b"  -"), text.replace(b"facet n", b" facet n"), text.strip():
+    long = text.replace(b"vertex 0 0 0", b"vertex 0 0 0." + b"0" * 50, 1).replace(b" cube", b"").strip()
+    for layout in text, text.replace(b"vertex", b"\t vertex "), text.replace(b" -", b"  -"), text.replace(b"facet n", b" facet n"), text.strip(), long:
         vertices, triangles = stl_arrays.of_text(layout)
         assert vertices == of_stl(layout) and triangles.tolist() == faces_of_stl(layout)
     vertices, triangles = stl_arrays.of_records(stl_binary()[84:])

@@ -47,7 +47,7 @@ def of_text(data: bytes) -> Optional[Corners]:
     first, loop, vertex, *last = layout.groups()
     heads = [first, loop, vertex, vertex, vertex, *last]
     if len(data) - starts[-1, -1] < max(map(len, heads)):
-        return None
+        return None  # a window would end behind the text
     if any((windows(data, f"S{len(head)}")[starts[:, place]] != head).any() for place, head in enumerate(heads)):
         return None
     corners = starts[:, CORNERS].ravel() + len(vertex)
@@ -74,10 +74,10 @@ def windows(data: bytes, kind: str) -> Any:
 
 
 def columns_of(data: bytes, starts: Any, sizes: Any) -> List[Any]:
-    """The bytes of texts in words of memory, with 0 behind their ends."""
+    """The bytes of texts in words of memory, with 0 behind their ends. A word of more bytes follows the last text."""
     words, whole = windows(data, "<u8"), int(sizes.min()) - WORD
     return [
-        words[starts + place] & (KEPT[-1] if place <= whole else KEPT.take((sizes - place).clip(0, WORD)))
+        words[(starts + place).clip(max=len(words) - 1)] & (KEPT[-1] if place <= whole else KEPT.take((sizes - place).clip(0, WORD)))
         for place in range(0, int(sizes.max()), WORD)
     ]
 
